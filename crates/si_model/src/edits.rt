@@ -1,0 +1,27 @@
+ghost use Rattle.std.specs.Prelude.{◌≡◌, IfOk};
+
+use crate::{OutOfMemory, Outcome, Txn, TxnId};
+
+/// A change of what is present.
+#[derive(Debug, PartialEq, Drop)]
+pub enum Edit {
+    /// The transaction was logged.
+    Arrive(Txn),
+    /// The transaction was in doubt, and this became of it.
+    Resolve(TxnId, Outcome),
+    /// The record of the transaction was false.
+    Withdraw(TxnId),
+}
+
+impl Edit {
+    /// The same edit, which shares its transaction's operations.
+    pub fn try_clone(&self) -> Result<Self, OutOfMemory>
+        ensures { IfOk result (λ edit. edit ≡ self.now) }
+    {
+        Ok(match self {
+            Edit::Arrive(txn) => Edit::Arrive(txn.try_clone()?),
+            Edit::Resolve(id, outcome) => Edit::Resolve(*id, *outcome),
+            Edit::Withdraw(id) => Edit::Withdraw(*id),
+        })
+    }
+}

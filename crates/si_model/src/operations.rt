@@ -1,0 +1,86 @@
+ghost use Rattle.std.specs.Prelude.{◌≡◌, ◌≤◌, ◌<◌, ℕ, List, IfOk, length, OnOk};
+
+use crate::{Key, OutOfMemory, Value};
+use std::alloc::Global;
+use std::fmt;
+use std::marker::Model;
+use std::sync::ArcSlice;
+
+/// The most operations that a transaction may have.
+pub const MOST_OPS: usize = 4096;
+
+/// What a transaction does at one place.
+#[derive(Debug, PartialEq, Eq, Drop)]
+pub enum Op {
+    /// A read of a key, and what it returned: `None` for the initial version.
+    Read(Key, Option<Value>),
+    /// A write of a value to a key.
+    Write(Key, Value),
+}
+
+/// The operations of a transaction in their order, at most 4,096. Contracts see the list.
+///
+/// Copies share the list, so that a copy costs a few words.
+#[derive(Drop)]
+pub struct Ops {
+    items: ArcSlice<Op>,
+}
+
+impl Model for Ops {
+    ghost use Rattle.std.specs.Prelude.{List, length, ◌≤◌};
+    ghost use Rattle.std.specs.Arc.{arc_slice_items};
+    ghost use Rattle.si_model.specs.declared.operations.Op.{Op};
+
+    ghost Value = { List Op };
+
+    ghost view = { λ o. arc_slice_items o.items };
+
+    ghost invariant = { λ o. length (arc_slice_items o.items) ≤ 4096 };
+}
+
+impl Ops {
+    /// These operations, which aren't copied.
+    pub fn from_vec(items: Vec<Op>) -> Result<Self, OutOfMemory>
+        requires { length items.items ≤ 4096 }
+        ensures { IfOk result (λ ops. ops ≡ items.items) }
+    {
+        Ok(Ops {
+            items: ArcSlice::from_vec(items)?,
+        })
+    }
+
+    /// Another owner of the same list.
+    pub fn try_clone(&self) -> Result<Self, OutOfMemory>
+        ensures { IfOk result (λ ops. ops ≡ self.now) }
+    {
+        Ok(Ops {
+            items: self.items.clone()?,
+        })
+    }
+
+    pub fn as_slice(&self) -> &[Op]
+        ensures items { result.now ≡ self.now }
+        ensures within { length result.now ≤ 4096 }
+    {
+        self.items.as_slice()
+    }
+}
+
+impl PartialEq for Ops {
+    ghost use Rattle.std.specs.Cmp.Lexicographic.{pointwise, lists_per};
+    ghost use Rattle.si_model.specs.contracts.operations.OpPartialEq.TheImpl.Laws as of_op;
+
+    ghost eq = { pointwise (⟦<Op as PartialEq>⟧.eq) };
+
+    ghost laws = { lists_per of_op.laws-law };
+
+    fn eq(&self, other: &Self) -> bool {
+        self.items == other.items
+    }
+}
+
+impl fmt::Debug for Ops {
+    fn fmt<W: fmt::Write>(&self, f: &mut fmt::Formatter<W>) -> fmt::Result {
+        fmt::Debug::fmt(&self.items, f)
+    }
+}
