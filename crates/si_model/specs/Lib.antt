@@ -1,1 +1,11 @@
 pub mod KeyTexts
+pub mod Parts
+pub mod Versions
+pub mod Reads
+pub mod Order
+pub mod Findings
+pub mod History
+pub mod Form
+pub mod Edits
+pub mod Journals
+pub mod Laws

@@ -1,66 +1,195 @@
-use crate::{Key, OutOfMemory, TxnId, Value};
+//! The findings of a list of transactions: the plain slow program.
 
-/// What is wrong with a read, or with two versions. The variants are in the order of their numbers, from 1.
-#[derive(Clone, Copy, Debug, PartialEq, Eq)]
-pub enum Kind {
-    /// No present transaction writes the value read.
-    Unknown {
-        txn: TxnId,
-        op: usize,
-        read: Option<Value>,
-    },
-    /// The writer of the value read is in doubt.
-    Doubt {
-        txn: TxnId,
-        op: usize,
-        read: Option<Value>,
-        writer: TxnId,
-    },
-    /// The read doesn't return the reader's own last write before it, or (`own` is `None`) returns a later one.
-    Own {
-        txn: TxnId,
-        op: usize,
-        read: Option<Value>,
-        own: Option<Value>,
-    },
-    /// The writer of the value read aborted.
-    Aborted {
-        txn: TxnId,
-        op: usize,
-        read: Option<Value>,
-        writer: TxnId,
-    },
-    /// The value read isn't its writer's last write of the key.
-    Intermediate {
-        txn: TxnId,
-        op: usize,
-        read: Option<Value>,
-        writer: TxnId,
-    },
-    /// The version read was installed after the reader's start.
-    Future {
-        txn: TxnId,
-        op: usize,
-        read: Option<Value>,
-        writer: TxnId,
-    },
-    /// A version next after the one read was installed before the reader's start.
-    Stale {
-        txn: TxnId,
-        op: usize,
-        read: Option<Value>,
-        missed: TxnId,
-    },
-    /// The second installs the version next after the first's, and started before the first committed.
-    Overlap {
-        first: TxnId,
-        second: TxnId,
-    },
-}
+ghost use Rattle.std.specs.Prelude.{◌≡◌, ◌++◌, ℕ, List, IfOk, OnOk, map, nat_eq};
+ghost use Rattle.std.proofs.Common.{rules};
+ghost use Rattle.std.specs.List.{flat_map, filter_map};
+ghost use Rattle.std.specs.Ordering.{nat_cmp};
+ghost use Rattle.std.specs.Cmp.Lexicographic.{slice_cmp};
+ghost use Rattle.si_model.specs.Findings.{cases, access_finding, kinds_of, overlap_with, keys_in, keys, found_at, findings};
+ghost use Rattle.si_model.specs.Versions.{next_after};
+ghost use Rattle.si_model.specs.History.{IsHistory};
+
+use crate::cases::{kind_of, overlaps};
+use crate::parts::parts_of;
+use crate::reads::sight_of;
+use crate::sorting::put_in_order;
+use crate::versions::next_after;
+use crate::{Access, Key, Kind, OutOfMemory, Part, Placed, Stamp, Txn};
+use std::alloc::Global;
+use std::cmp::Ordering;
 
 /// A finding on a key.
-#[derive(Debug, PartialEq, Eq, Drop)]
+#[derive(Debug, Drop)]
 pub struct Finding {
     pub key: Key,
     pub kind: Kind,
+}
+
+impl PartialEq for Finding {
+    ghost use Rattle.std.specs.Cmp.{IsEquivalence};
+    ghost use Rattle.std.specs.Cmp.Rules.{comparing};
+    ghost use Rattle.std.specs.Cmp;
+    ghost use Rattle.std.specs.Cmp.Lexicographic.{nat_list_eq_equiv};
+    ghost use Rattle.std.specs.Prelude.{nat_eq};
+    ghost use Rattle.std.proofs.Common.{rules};
+    ghost use Rattle.si_model.specs.Order.{finding_eq};
+
+    ghost eq = { finding_eq };
+
+    ghost laws = { Prim.search (comparing, rules) };
+
+    fn eq(&self, other: &Self) -> bool {
+        self.key == other.key && self.kind == other.kind
+    }
+}
+
+impl Eq for Finding {
+    ghost use Rattle.std.specs.Cmp.Rules.{comparing};
+    ghost use Rattle.std.proofs.Common.{rules};
+
+    ghost laws = { Prim.search (comparing, rules) };
+}
+
+/// Findings are in the order of their keys' bytes, then their kinds' numbers, then the first transaction, then the
+/// operation or the second transaction.
+impl Ord for Finding {
+    ghost use Rattle.std.specs.Cmp.Rules.{comparing};
+    ghost use Rattle.std.proofs.Common.{rules};
+    ghost use Rattle.si_model.specs.Order.{finding_cmp};
+
+    ghost cmp = { finding_cmp };
+
+    ghost total = { Prim.search (comparing, rules) };
+
+    ghost matches_partial_cmp = { Prim.search (comparing, rules) };
+
+    ghost matches_eq = { Prim.search (comparing, rules) };
+
+    fn cmp(&self, other: &Self) -> Ordering {
+        match self.key.cmp(&other.key) {
+            Ordering::Equal => self.kind.fields().cmp(&other.kind.fields()),
+            order => order,
+        }
+    }
+}
+
+impl PartialOrd for Finding {
+    ghost use Rattle.std.specs.Cmp.Rules.{comparing};
+    ghost use Rattle.std.specs.Cmp.{partial_order_from_own_ties};
+    ghost use Rattle.std.specs.Ordering.{as_partial_cmp};
+    ghost use Rattle.std.proofs.Common.{rules};
+    ghost use Rattle.si_model.specs.Order.{finding_cmp};
+
+    ghost partial_cmp = { as_partial_cmp finding_cmp };
+
+    ghost laws = { partial_order_from_own_ties (Prim.search (comparing, rules)) (Prim.search (comparing, rules)) };
+
+    fn partial_cmp(&self, other: &Self) -> Option<Ordering> {
+        Some(self.cmp(other))
+    }
+}
+
+/// The findings of these transactions, in order, as the definitions say. It walks all transactions for each key and
+/// all parts of a key for each of its operations.
+#[tactic(auto, unfolding(crate::specs::Findings::findings))]
+pub fn findings_of(alloc: Global, txns: &[Txn]) -> Result<Vec<Finding>, OutOfMemory>
+    requires { IsHistory txns.now }
+    ensures { IfOk result (λ found. found.items ≡ findings txns.now) }
+{
+    let keys = keys_of(alloc, txns)?;
+    let mut found = Vec::new(alloc);
+    for key in &keys {
+        add_found_at(alloc, &mut found, txns, key)?;
+    }
+    put_in_order(&mut found);
+    Ok(found)
+}
+
+#[tactic(auto, unfolding(crate::specs::Findings::keys))]
+fn keys_of(alloc: Global, txns: &[Txn]) -> Result<Vec<Key>, OutOfMemory>
+    ensures { IfOk result (λ found. found.items ≡ keys txns.now) }
+{
+    let mut found = Vec::new(alloc);
+    for txn in txns {
+        add_keys(&mut found, txn)?;
+    }
+    put_in_order(&mut found);
+    Ok(found)
+}
+
+fn add_keys(keys: &mut Vec<Key>, txn: &Txn) -> Result<(), OutOfMemory>
+    ensures { OnOk result (keys.new.items ≡ keys.old.items ++ keys_in txn.now) }
+{
+    for op in txn.ops.as_slice() {
+        keys.push(op.key().try_clone()?)?;
+    }
+    Ok(())
+}
+
+#[tactic(auto, unfolding(crate::specs::Findings::found_at))]
+fn add_found_at(
+    alloc: Global,
+    found: &mut Vec<Finding>,
+    txns: &[Txn],
+    key: &Key,
+) -> Result<(), OutOfMemory>
+    ensures { OnOk result (found.new.items ≡ found.old.items ++ found_at txns.now key.now) }
+{
+    let parts = parts_of(alloc, txns, key)?;
+    let kinds = kinds_on(alloc, &parts)?;
+    for kind in &kinds {
+        found.push(Finding {
+            key: key.try_clone()?,
+            kind: *kind,
+        })?;
+    }
+    Ok(())
+}
+
+fn kinds_on(alloc: Global, parts: &[Part]) -> Result<Vec<Kind>, OutOfMemory>
+    ensures { IfOk result (λ kinds. kinds.items ≡ flat_map (kinds_of cases parts.now) parts.now) }
+{
+    let mut kinds = Vec::new(alloc);
+    for part in parts {
+        add_kinds_of(&mut kinds, parts, part)?;
+    }
+    Ok(kinds)
+}
+
+#[tactic(auto, unfolding(crate::specs::Findings::kinds_of))]
+fn add_kinds_of(kinds: &mut Vec<Kind>, parts: &[Part], part: &Part) -> Result<(), OutOfMemory>
+    ensures { OnOk result (kinds.new.items ≡ kinds.old.items ++ kinds_of cases parts.now part.now) }
+{
+    let Some(commit) = part.status.commit() else {
+        return Ok(());
+    };
+    for placed in part.accesses.as_slice() {
+        if let Some(kind) = kind_at(parts, part, commit, *placed) {
+            kinds.push(kind)?;
+        }
+    }
+    Ok(())
+}
+
+fn kind_at(parts: &[Part], part: &Part, commit: Stamp, placed: Placed) -> Option<Kind>
+    ensures { result ≡ access_finding cases parts.now part.now commit placed.place placed.access }
+{
+    match placed.access {
+        Access::Read(read) => kind_of(&sight_of(parts, part, placed.place, read)),
+        Access::Write(_) => overlap_with_next(parts, part, commit),
+    }
+}
+
+fn overlap_with_next(parts: &[Part], part: &Part, commit: Stamp) -> Option<Kind>
+    ensures { result ≡ overlap_with cases part.now commit (next_after parts.now (Some commit)) }
+{
+    let next = next_after(parts, Some(commit))?;
+    if overlaps(commit, next.start) {
+        Some(Kind::Overlap {
+            first: part.id,
+            second: next.txn,
+        })
+    } else {
+        None
+    }
 }

@@ -4,23 +4,32 @@
 //! what they say. It stands on std alone.
 #![tactic(auto)]
 
+use std::alloc::AllocError;
+
+pub mod cases;
 pub mod edits;
 pub mod findings;
 pub mod keys;
+pub mod kinds;
 pub mod numbers;
 pub mod operations;
 pub mod parts;
+mod reads;
 pub mod refusals;
 pub mod sights;
+mod sorting;
 pub mod transactions;
+pub mod versions;
 
 pub use edits::Edit;
-pub use findings::{Finding, Kind};
-pub use keys::Key;
+pub use findings::{Finding, findings_of};
+pub use keys::{Key, shard_of};
+pub use kinds::Kind;
 pub use numbers::{Number, Stamp, TxnId, Value};
 pub use operations::{Op, Ops};
+pub use parts::{Access, Accesses, Part, Placed};
 pub use refusals::Refusal;
-use std::alloc::AllocError;
+pub use sights::{Installer, Sight, Source};
 pub use transactions::{Outcome, Status, Txn};
 
 /// The growth of some memory was refused.

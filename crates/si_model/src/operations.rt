@@ -1,7 +1,7 @@
-ghost use Rattle.std.specs.Prelude.{◌≡◌, ◌≤◌, ◌<◌, ℕ, List, IfOk, length, OnOk};
+ghost use Rattle.std.specs.Prelude.{◌≡◌, ◌≤◌, IfOk, length};
+ghost use Rattle.si_model.specs.Parts.{key_of, access_of};
 
-use crate::{Key, OutOfMemory, Value};
-use std::alloc::Global;
+use crate::{Access, Key, OutOfMemory, Value};
 use std::fmt;
 use std::marker::Model;
 use std::sync::ArcSlice;
@@ -16,6 +16,26 @@ pub enum Op {
     Read(Key, Option<Value>),
     /// A write of a value to a key.
     Write(Key, Value),
+}
+
+impl Op {
+    pub fn key(&self) -> &Key
+        ensures { result.now ≡ key_of self.now }
+    {
+        match self {
+            Op::Read(key, _) | Op::Write(key, _) => key,
+        }
+    }
+
+    /// What it does to its key.
+    pub fn access(&self) -> Access
+        ensures { result ≡ access_of self.now }
+    {
+        match self {
+            Op::Read(_, read) => Access::Read(*read),
+            Op::Write(_, value) => Access::Write(*value),
+        }
+    }
 }
 
 /// The operations of a transaction in their order, at most 4,096. Contracts see the list.

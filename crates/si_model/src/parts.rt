@@ -1,4 +1,10 @@
-use crate::{Stamp, Status, TxnId, Value};
+ghost use Rattle.std.specs.Prelude.{◌≡◌, List, IfOk, OnOk};
+ghost use Rattle.si_model.specs.Parts.{accesses, part, parts};
+ghost use Rattle.si_model.specs.Versions.{written, is_write_of};
+
+use crate::{Key, Op, OutOfMemory, Stamp, Status, Txn, TxnId, Value};
+use std::alloc::Global;
+use std::marker::Model;
 
 /// What a transaction does to one key at one place.
 #[derive(Clone, Copy, Debug, PartialEq, Eq)]
@@ -8,11 +14,62 @@ pub enum Access {
     Write(Value),
 }
 
+impl Access {
+    /// The value that is written, if it is a write.
+    pub fn written(self) -> Option<Value>
+        ensures { result ≡ written self }
+    {
+        match self {
+            Access::Read(_) => None,
+            Access::Write(value) => Some(value),
+        }
+    }
+
+    /// Whether it writes that value.
+    pub fn is_write_of(self, value: Value) -> bool
+        ensures { result ≡ is_write_of value self }
+    {
+        match self {
+            Access::Read(_) => false,
+            Access::Write(other) => other == value,
+        }
+    }
+}
+
 /// An access with the place of its operation in the transaction, counted from 0.
 #[derive(Clone, Copy, Debug, PartialEq, Eq)]
 pub struct Placed {
     pub place: usize,
     pub access: Access,
+}
+
+/// The accesses of one key by one transaction. Contracts see the list.
+#[derive(Debug, Drop)]
+pub struct Accesses {
+    items: Vec<Placed>,
+}
+
+impl Model for Accesses {
+    ghost use Rattle.std.specs.Prelude.{List};
+    ghost use Rattle.si_model.specs.declared.parts.Placed.{Placed};
+
+    ghost Value = { List Placed };
+
+    ghost view = { λ a. a.items.items };
+}
+
+impl Accesses {
+    pub fn from_vec(items: Vec<Placed>) -> Self
+        ensures { result ≡ items.items }
+    {
+        Accesses { items }
+    }
+
+    pub fn as_slice(&self) -> &[Placed]
+        ensures { result.now ≡ self.now }
+    {
+        self.items.as_slice()
+    }
 }
 
 /// What one transaction does on one key: its accesses of that key, in their order.
@@ -21,5 +78,50 @@ pub struct Part {
     pub id: TxnId,
     pub start: Stamp,
     pub status: Status,
-    pub accesses: Vec<Placed>,
+    pub accesses: Accesses,
+}
+
+/// What the transaction does on the key, if it does anything there.
+#[tactic(auto, unfolding(crate::specs::Parts::part))]
+pub fn part_of(alloc: Global, txn: &Txn, key: &Key) -> Result<Option<Part>, OutOfMemory>
+    ensures { IfOk result (λ found. found ≡ part key.now txn.now) }
+{
+    let accesses = accesses_of(alloc, txn.ops.as_slice(), key)?;
+    if accesses.as_slice().is_empty() {
+        return Ok(None);
+    }
+    Ok(Some(Part {
+        id: txn.id,
+        start: txn.start,
+        status: txn.status,
+        accesses,
+    }))
+}
+
+/// What the transactions do on the key, in their order.
+pub fn parts_of(alloc: Global, txns: &[Txn], key: &Key) -> Result<Vec<Part>, OutOfMemory>
+    ensures { IfOk result (λ found. found.items ≡ parts key.now txns.now) }
+{
+    let mut found = Vec::new(alloc);
+    for txn in txns {
+        if let Some(part) = part_of(alloc, txn, key)? {
+            found.push(part)?;
+        }
+    }
+    Ok(found)
+}
+
+fn accesses_of(alloc: Global, ops: &[Op], key: &Key) -> Result<Accesses, OutOfMemory>
+    ensures { IfOk result (λ found. found ≡ accesses key.now ops.now) }
+{
+    let mut items = Vec::new(alloc);
+    for (place, op) in ops.iter().enumerate() {
+        if op.key() == key {
+            items.push(Placed {
+                place,
+                access: op.access(),
+            })?;
+        }
+    }
+    Ok(Accesses::from_vec(items))
 }

@@ -1,4 +1,6 @@
 ghost use Rattle.std.specs.Prelude.{◌≡◌, IfOk};
+ghost use Rattle.si_model.specs.Versions.{commit_of};
+ghost use Rattle.si_model.specs.Edits.{status_of};
 
 use crate::{Ops, OutOfMemory, Stamp, TxnId};
 
@@ -12,12 +14,36 @@ pub enum Status {
     InDoubt,
 }
 
+impl Status {
+    /// The commit stamp, where the transaction committed.
+    pub fn commit(self) -> Option<Stamp>
+        ensures { result ≡ commit_of self }
+    {
+        match self {
+            Status::Committed(commit) => Some(commit),
+            Status::Aborted | Status::InDoubt => None,
+        }
+    }
+}
+
 /// What a transaction in doubt is resolved to.
 #[derive(Clone, Copy, Debug, PartialEq, Eq)]
 pub enum Outcome {
     /// It committed at this stamp.
     Committed(Stamp),
     Aborted,
+}
+
+impl Outcome {
+    /// The status of the transaction once it is resolved.
+    pub fn status(self) -> Status
+        ensures { result ≡ status_of self }
+    {
+        match self {
+            Outcome::Committed(commit) => Status::Committed(commit),
+            Outcome::Aborted => Status::Aborted,
+        }
+    }
 }
 
 /// One transaction as a tester logged it.

@@ -1,0 +1,23 @@
+-- When a history is well formed: two conditions of Adya's thesis, section 4.2, on histories, which are no phenomena.
+use Rattle.std.specs.Prelude.{◌≡◌, ◌≢◌, ℕ, List, Some, None, Option}
+use Rattle.std.specs.List.{Contains}
+use Rattle.si_model.specs.declared.numbers.Value.{Value}
+use Rattle.si_model.specs.declared.transactions.Txn.{Txn}
+use Rattle.si_model.specs.declared.transactions.Status.TheVariants as status
+use Rattle.si_model.specs.declared.parts.Part.{Part}
+use Rattle.si_model.specs.Parts.{parts}
+use Rattle.si_model.specs.Versions.{Writes}
+use Rattle.si_model.specs.Reads.{IsRead, own_value}
+
+-- the reads on the key with these parts are well formed
+pub record IsWellFormedOn (Q : List Part) : Type 0 where
+  -- a read after own writes of the key returns the last of them
+  pub own : (T : Part) (i : ℕ) (v : Option Value) (w : Value) → IsRead Q T i v → own_value T i ≡ Some w → v ≡ Some w
+  -- a read before own writes of the key returns none of them
+  pub later : (T : Part) (i : ℕ) (v : Value) → IsRead Q T i (Some v) → own_value T i ≡ None → Writes T v → ⊥
+  -- a value is written by a present transaction that isn't in doubt
+  pub written : (T : Part) (i : ℕ) (v : Value) → IsRead Q T i (Some v) → (W : Part) × Contains Q W × Writes W v × (W.status ≢ status.InDoubt)
+
+-- the reads of each key are well formed
+abbrev pub IsWellFormed : List Txn → Type 0
+IsWellFormed P = (x : List ℕ) → IsWellFormedOn (parts x P)

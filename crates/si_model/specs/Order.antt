@@ -1,0 +1,62 @@
+-- The order of findings, and the one list in order that has given things.
+use Rattle.std.specs.Prelude.{◌≡◌, ℕ, Bool, ◌&&◌, nat_eq, List, [], ◌∷◌, Some, None, Option}
+use Rattle.std.specs.List.{Contains}
+use Rattle.std.specs.List.Sorted.{IsStrictlySortedBy}
+use Rattle.std.specs.declared.cmp.Ordering.{Ordering}
+use Rattle.std.specs.declared.cmp.Ordering.TheVariants.{Less, Equal, Greater}
+use Rattle.std.specs.Ordering.{nat_cmp, on, then_cmp}
+use Rattle.std.specs.Cmp.Lexicographic.{slice_cmp, pointwise}
+use Rattle.si_model.specs.declared.numbers.Value.{Value}
+use Rattle.si_model.specs.declared.kinds.Kind.{Kind}
+use Rattle.si_model.specs.declared.kinds.Kind.TheVariants as kind
+use Rattle.si_model.specs.declared.findings.Finding.{Finding}
+
+-- 1 where there is a value, and else 0
+abbrev pub presence : Option Value → ℕ
+presence None = 0
+presence (Some v) = 1
+
+-- the value, and 0 where there is none
+abbrev pub number_of : Option Value → ℕ
+number_of None = 0
+number_of (Some v) = v.0
+
+-- all that a kind says, in the order that findings on one key are in: its number, the first transaction, the place or the second transaction
+abbrev pub fields : Kind → List ℕ
+fields (kind.Unknown t i v) = 1 ∷ t.0 ∷ i ∷ presence v ∷ number_of v ∷ 0 ∷ 0 ∷ []
+fields (kind.Doubt t i v u) = 2 ∷ t.0 ∷ i ∷ presence v ∷ number_of v ∷ u.0 ∷ 0 ∷ []
+fields (kind.Own t i v w) = 3 ∷ t.0 ∷ i ∷ presence v ∷ number_of v ∷ presence w ∷ number_of w ∷ []
+fields (kind.Aborted t i v u) = 4 ∷ t.0 ∷ i ∷ presence v ∷ number_of v ∷ u.0 ∷ 0 ∷ []
+fields (kind.Intermediate t i v u) = 5 ∷ t.0 ∷ i ∷ presence v ∷ number_of v ∷ u.0 ∷ 0 ∷ []
+fields (kind.Future t i v u) = 6 ∷ t.0 ∷ i ∷ presence v ∷ number_of v ∷ u.0 ∷ 0 ∷ []
+fields (kind.Stale t i v n) = 7 ∷ t.0 ∷ i ∷ presence v ∷ number_of v ∷ n.0 ∷ 0 ∷ []
+fields (kind.Overlap a b) = 8 ∷ a.0 ∷ b.0 ∷ 0 ∷ 0 ∷ 0 ∷ 0 ∷ []
+
+-- by the bytes of the key, then by what the kind says
+abbrev pub finding_cmp : Finding → Finding → Ordering
+finding_cmp = then_cmp (on (λ f. f.key) (slice_cmp nat_cmp)) (on (λ f. fields f.kind) (slice_cmp nat_cmp))
+
+-- whether two findings are one
+abbrev pub finding_eq : Finding → Finding → Bool
+finding_eq f g = pointwise nat_eq f.key g.key && pointwise nat_eq (fields f.kind) (fields g.kind)
+
+-- a list in strict order that has what P holds of, and nothing else
+pub record IsListOf {K : Type 0} (R : K → K → Ordering) (P : K → Type 0) (ks : List K) : Type 0 where
+  pub ascends : IsStrictlySortedBy R ks
+  pub sound : (k : K) → Contains ks k → P k
+  pub complete : (k : K) → P k → Contains ks k
+
+abbrev pub by_order : {A : Type 0} → Ordering → A → A → A → A
+by_order Less a b c = a
+by_order Equal a b c = b
+by_order Greater a b c = c
+
+-- the list with one more in its place, where it isn't there yet
+abbrev pub placed : {K : Type 0} → (K → K → Ordering) → K → List K → List K
+placed R k [] = k ∷ []
+placed R k (x ∷ xs) = by_order (R k x) (k ∷ x ∷ xs) (x ∷ xs) (x ∷ placed R k xs)
+
+-- the elements of a list in strict order, each once
+unfoldable pub in_order : {K : Type 0} → (K → K → Ordering) → List K → List K
+in_order R [] = []
+in_order R (x ∷ xs) = placed R x (in_order R xs)
