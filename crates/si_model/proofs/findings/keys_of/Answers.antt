@@ -1,0 +1,5 @@
+use Rattle.si_model.proofs.FindingOrder.{exact_bytes}
+use Rattle.si_model.proofs.findings.keys_of.Goals as goal
+
+pub put_in_order-requires : goal.put_in_order-requires
+put_in_order-requires c = record { exact = exact_bytes }
