@@ -1,3 +1,5 @@
 pub mod Members
 pub mod InOrder
 pub mod FindingOrder
+pub mod Histories
+pub mod Nearest

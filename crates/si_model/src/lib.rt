@@ -11,6 +11,7 @@ pub mod edits;
 pub mod findings;
 pub mod keys;
 pub mod kinds;
+pub mod laws;
 pub mod numbers;
 pub mod operations;
 pub mod parts;
