@@ -152,7 +152,7 @@ pair_complete J Q h k p =
     let last = last_written T is.3.0 is.3.1 in
     let next = same_next Q h (Some p.first.commit) (next_after Q (Some p.first.commit)) (Some p.second) (next_is Q (Some p.first.commit)) p.next in
     let found : overlap_with J T p.first.commit (next_after Q (Some p.first.commit)) ≡ Some (kind.Overlap T.id p.second.txn) =
-        ap (overlap_with J T p.first.commit) next ∙ ap (λ b. cond b (Some (kind.Overlap T.id p.second.txn)) None) p.judged in
+    ap (overlap_with J T p.first.commit) next ∙ ap (λ b. cond b (Some (kind.Overlap T.id p.second.txn)) None) p.judged in
     walked J Q T p.first.commit last.0 (access.Write is.3.0) k p.installs.1 is.2 last.1
     (found ∙ ap Some (ap (λ u. kind.Overlap u p.second.txn) (sym is.0) ∙ sym p.is))
 
@@ -262,6 +262,6 @@ keys_apart P x =
     (IsStrictlySortedBy-filter finding_cmp on (findings P) (ascending P))
     (sorted-in_order findings_total (found_at P x))
     (λ f c. let m = Contains-from_filter on (findings P) f c in
-        Contains-in_order findings_total exact_findings (found_at P x) f (on_key P x f m.0 (key_is f.key x m.1)))
+    Contains-in_order findings_total exact_findings (found_at P x) f (on_key P x f m.0 (key_is f.key x m.1)))
     (λ f c. let d = Contains-from_in_order findings_total (found_at P x) f c in
-        Contains-filter on (findings P) f (among_all P x f d) (rw (found_at_sound P x f d).0 (key_itself x)))
+    Contains-filter on (findings P) f (among_all P x f d) (rw (found_at_sound P x f d).0 (key_itself x)))

@@ -76,3 +76,6 @@ exact_findings f g e =
 
 pub findings_total : IsTotalOrder finding_cmp
 findings_total = search (comparing, rules)
+
+pub findings_order : IsTotalOrder finding_cmp × ((f g : Finding) → finding_cmp f g ≡ Equal → f ≡ g)
+findings_order = (findings_total, exact_findings)

@@ -55,7 +55,7 @@ pairs_filter_map name named h same [] p = λ i j d a l. absurd (omega arith)
 pairs_filter_map {Y = Y} name named h same (x ∷ xs) p =
     let rest : AllPairs (Differ named) (filter_map h xs) = pairs_filter_map name named h same xs (pairs_tail (Differ name) x xs p) in
     let first : (y : Y) → h x ≡ Some y → (z : Y) → Contains (filter_map h xs) z → named y ≢ named z =
-        λ y e z c s. let w = Contains-from_filter_map h xs z c in pairs_head (Differ name) x xs p w.0 w.1 (sym (same x y e) ∙ s ∙ same w.0 z w.2) in
+    λ y e z c s. let w = Contains-from_filter_map h xs z c in pairs_head (Differ name) x xs p w.0 w.1 (sym (same x y e) ∙ s ∙ same w.0 z w.2) in
     one_more h x (filter_map h xs) named rest first
   where
     one_more : {X Y : Type 0} (h : X → Option Y) (x : X) (ys : List Y) (named : Y → TxnId) → AllPairs (Differ named) ys → ((y : Y) → h x ≡ Some y → (z : Y) → Contains ys z → named y ≢ named z) → AllPairs (Differ named) (cons_option (h x) ys)

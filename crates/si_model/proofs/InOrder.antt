@@ -146,8 +146,8 @@ module _ {K : Type 0} {R : K → K → Ordering} (o : IsTotalOrder R) where
       let bx = below_rest R x xs s in
       let by : AllByRecursion (λ w. R x w ≡ Less) ys = subst (λ v. AllByRecursion (λ w. R v w ≡ Less) ys) (sym e) (below_rest R y ys t) in
       let rest = same_sorted xs ys (rest_sorted R x xs s) (rest_sorted R y ys t)
-          (λ z c. rest_has x z xs ys bx c (subst (λ v. Contains (v ∷ ys) z) (sym e) (f z (there x xs z c))))
-          (λ z c. rest_has x z ys xs by c (g z (there y ys z c))) in
+      (λ z c. rest_has x z xs ys bx c (subst (λ v. Contains (v ∷ ys) z) (sym e) (f z (there x xs z c))))
+      (λ z c. rest_has x z ys xs by c (g z (there y ys z c))) in
       λ i. e i ∷ rest i
 
 -- what a sort and then `dedup` leave is the list in order

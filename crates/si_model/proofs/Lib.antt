@@ -5,3 +5,6 @@ pub mod Histories
 pub mod Nearest
 pub mod Sources
 pub mod Exact
+pub mod Orderless
+pub mod LastWrites
+pub mod Acceptance

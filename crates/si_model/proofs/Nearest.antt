@@ -49,22 +49,33 @@ last_installs done T n e = (T, push_last done T, e)
 
 -- a later version is compared with the best one
 next_with : (done : List Part) (T : Part) (after : Option Stamp) (best : Option Installer) (n : Installer) → install T ≡ Some n → is_after after n.commit ≡ true → IsNext done after best → IsNext (done ++ T ∷ []) after (earlier best n)
-next_with done T after None n e a h =
-    (last_installs done T n e, a, λ m i b. elim (installer_cases done T m i) [
-      | inl j ↦ cc (h m j)
-      | inr f ↦ (let s : n ≡ m = same_some (sym e ∙ f) in let t = ap (λ k. k.commit.0) s in omega arith)
-    ])
+next_with done T after None n e a h = (
+  last_installs done T n e,
+  a,
+  λ m i b. elim (installer_cases done T m i) [
+    | inl j ↦ cc (h m j)
+    | inr f ↦ (let s : n ≡ m = same_some (sym e ∙ f) in let t = ap (λ k. k.commit.0) s in omega arith)
+  ],
+)
 next_with done T after (Some b) n e a h = by (nat_lt n.commit.0 b.commit.0) refl
   where
     by : (t : Bool) → nat_lt n.commit.0 b.commit.0 ≡ t → IsNext (done ++ T ∷ []) after (cond t (Some n) (Some b))
-    by true l = (last_installs done T n e, a, λ m i c. elim (installer_cases done T m i) [
-      | inl j ↦ (let u = h.2 m j c in let v : n.commit.0 < b.commit.0 = grind (arith, nat_tests) in omega arith)
-      | inr f ↦ (let s : n ≡ m = same_some (sym e ∙ f) in let t = ap (λ k. k.commit.0) s in omega arith)
-    ])
-    by false l = (before done T b h.0, h.1, λ m i c. elim (installer_cases done T m i) [
-      | inl j ↦ h.2 m j c
-      | inr f ↦ (let s : n ≡ m = same_some (sym e ∙ f) in let t = ap (λ k. k.commit.0) s in let v : b.commit.0 ≤ n.commit.0 = grind (arith, nat_tests) in omega arith)
-    ])
+    by true l = (
+      last_installs done T n e,
+      a,
+      λ m i c. elim (installer_cases done T m i) [
+        | inl j ↦ (let u = h.2 m j c in let v : n.commit.0 < b.commit.0 = grind (arith, nat_tests) in omega arith)
+        | inr f ↦ (let s : n ≡ m = same_some (sym e ∙ f) in let t = ap (λ k. k.commit.0) s in omega arith)
+      ],
+    )
+    by false l = (
+      before done T b h.0,
+      h.1,
+      λ m i c. elim (installer_cases done T m i) [
+        | inl j ↦ h.2 m j c
+        | inr f ↦ (let s : n ≡ m = same_some (sym e ∙ f) in let t = ap (λ k. k.commit.0) s in let v : b.commit.0 ≤ n.commit.0 = grind (arith, nat_tests) in omega arith)
+      ],
+    )
 
 next_step : (after : Option Stamp) (done : List Part) (T : Part) (best : Option Installer) → IsNext done after best → IsNext (done ++ T ∷ []) after (nearer after best (install T))
 next_step after done T best h = by (install T) refl

@@ -114,6 +114,7 @@ source_is Q (Some v) = by (find (part_writes v) Q) refl
         tested false t = (T, c, w, e, λ l. cc (last_itself (last_write T.accesses) v l))
     by_status T w status.Aborted e = (T, w, e)
     by_status T w status.InDoubt e = (T, w, e)
+
     by : (o : Option Part) → find (part_writes v) Q ≡ o → IsSource Q (Some v) (source_from v o)
     by None e = λ T c w. cc (find-None (part_writes v) Q e T c, test_from_writes v T w)
     by (Some T) e = let f = find-Some (part_writes v) Q T e in by_status T (record { part = f.0; id = refl; writes = writes_from_test v T f.1 }) T.status refl

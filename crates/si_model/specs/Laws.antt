@@ -28,8 +28,8 @@ abbrev pub FindingsAreExact : Type 0
 FindingsAreExact = (P : List Txn) → IsHistory P → IsListOf finding_cmp (IsFinding P) (findings P)
 
 -- the same for one key, over the parts on it, whatever the rules
-abbrev pub KeyFindingsAreExact : Rules → Type 0
-KeyFindingsAreExact J = (x : List ℕ) (Q : List Part) → ArePartsOfHistory Q → IsListOf finding_cmp (IsFindingOn J x Q) (findings_on J x Q)
+abbrev pub KeyFindingsAreExact : Type 0
+KeyFindingsAreExact = (J : Rules) (x : List ℕ) (Q : List Part) → ArePartsOfHistory Q → IsListOf finding_cmp (IsFindingOn J x Q) (findings_on J x Q)
 
 -- the order of findings is total, and only equal findings tie
 abbrev pub OrderIsStrict : Type 0

@@ -51,10 +51,8 @@ fn writes_later(part: &Part, op: usize, read: Option<Value>) -> bool
 fn writes_after(part: &Part, op: usize, value: Value) -> bool
     ensures { result ≡ list_any (is_later_write op value) part.now.accesses }
 {
-    part.accesses
-        .as_slice()
-        .iter()
-        .any(|placed| op < placed.place && placed.access.is_write_of(value))
+    part.accesses.as_slice().iter().any(|placed| op < placed.place
+        && placed.access.is_write_of(value))
 }
 
 #[tactic(auto, unfolding(crate::specs::Reads::source_of))]
