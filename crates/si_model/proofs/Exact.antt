@@ -26,7 +26,7 @@ use Rattle.si_model.specs.Reads.{IsRead, sight_of}
 use Rattle.si_model.specs.Order.{finding_cmp, in_order, IsListOf}
 use Rattle.si_model.specs.Findings.{Rules, cases, IsOfRead, IsOfPair, IsFoundOn, IsFindingOn, IsFinding, overlap_with, access_finding, placed_finding, kinds_by, kinds_of, finding_at, found_on, findings_on, keys_in, keys, found_at, findings}
 use Rattle.si_model.specs.History.{IsHistory, ArePartsOfHistory}
-use Rattle.si_model.proofs.Members.{Contains-nil, here, there, Contains-cons_cases, Contains-flat_map, Contains-from_flat_map, Contains-filter_map, Contains-from_filter_map, Contains-map, Contains-from_map, Contains-filter, Contains-from_filter}
+use Rattle.si_model.proofs.Members.{Contains-nil, here, there, Contains-cons_cases, Contains-flat_map, Contains-from_flat_map, Contains-filter_map, Contains-from_filter_map, Contains-map, Contains-from_map, Contains-filter, Contains-from_filter, get_contains}
 use Rattle.si_model.proofs.InOrder.{sorted-in_order, Contains-in_order, Contains-from_in_order, same_sorted}
 use Rattle.si_model.proofs.FindingOrder.{exact_bytes, exact_findings, findings_total}
 use Rattle.si_model.proofs.Histories.{same_some, key_is, key_itself, part_from, IsPartOf, Contains-from_accesses, parts_of_history}
@@ -190,11 +190,6 @@ part_some T (a ∷ ys) Q e = (a, here a ys)
 part_access : (x : List ℕ) (T : Txn) (Q : Part) → part x T ≡ Some Q → (a : Placed) × Contains (accesses x T.ops) a
 unfolding part
 part_access x T Q e = part_some T (accesses x T.ops) Q e
-
-get_contains : {X : Type 0} (xs : List X) (i : ℕ) (x : X) → slice_get xs i ≡ Some x → Contains xs x
-get_contains [] i x e = cc
-get_contains (y ∷ xs) zero x e = subst (λ w. Contains (y ∷ xs) w) (same_some e) (here y xs)
-get_contains (y ∷ xs) (suc i) x e = there y xs x (get_contains xs i x e)
 
 -- a key that has a part is the key of an operation
 key_of_part : (P : List Txn) (x : List ℕ) (Q : Part) → Contains (parts x P) Q → Contains (keys P) x

@@ -8,3 +8,5 @@ pub mod Exact
 pub mod Orderless
 pub mod LastWrites
 pub mod Acceptance
+pub mod Present
+pub mod Deciding

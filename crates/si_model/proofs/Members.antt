@@ -1,5 +1,5 @@
 -- What lists contain that are made from other lists.
-use Rattle.std.proofs.Common.{◌≡◌, ◌⊎◌, inl, inr, ℕ, ◌<◌, Bool, true, false, List, [], ◌∷◌, ◌++◌, length, map, get_or, Option, Some, None, zero, suc, refl, sym, ap, subst, ◌∙◌, arith, cond}
+use Rattle.std.proofs.Common.{◌≡◌, ◌⊎◌, inl, inr, ℕ, ◌<◌, Bool, true, false, List, [], ◌∷◌, ◌++◌, length, map, get_or, Option, Some, None, zero, suc, refl, sym, ap, subst, ◌∙◌, arith, cond, slice_get}
 use Rattle.std.specs.List.{Contains, flat_map, filter_map, cons_option, filter}
 use Rattle.std.proofs.lemmas.List.Elements.{Contains-append_left, Contains-append_right, Contains-append_cases}
 
@@ -96,4 +96,20 @@ Contains-from_filter p [] x c = absurd (Contains-nil x c)
 Contains-from_filter p (z ∷ xs) x c = elim (kept_cases (p z) z (filter p xs) x c) [
   | inl e ↦ (subst (λ w. Contains (z ∷ xs) w) e.1 (here z xs), ap p (sym e.1) ∙ e.0)
   | inr d ↦ let r = Contains-from_filter p xs x d in (there z xs x r.0, r.1)
+]
+
+some_is : {X : Type 0} {x y : X} → Some x ≡ Some y → x ≡ y
+some_is e = cc
+
+-- an element at a place
+pub get_contains : {X : Type 0} (xs : List X) (i : ℕ) (x : X) → slice_get xs i ≡ Some x → Contains xs x
+get_contains [] i x e = cc
+get_contains (y ∷ xs) zero x e = subst (λ w. Contains (y ∷ xs) w) (some_is e) (here y xs)
+get_contains (y ∷ xs) (suc i) x e = there y xs x (get_contains xs i x e)
+
+pub contains_get : {X : Type 0} (xs : List X) (x : X) → Contains xs x → (i : ℕ) × (slice_get xs i ≡ Some x)
+contains_get [] x c = absurd (Contains-nil x c)
+contains_get (y ∷ xs) x c = elim (Contains-cons_cases y xs x c) [
+  | inl e ↦ (0, ap Some e)
+  | inr d ↦ (let r = contains_get xs x d in (suc r.0, r.1))
 ]

@@ -9,3 +9,4 @@ pub mod Form
 pub mod Edits
 pub mod Journals
 pub mod Laws
+pub mod HistoryTests

@@ -1,6 +1,6 @@
 //! The laws of the definitions. Each is the contract of a function with an empty body: to call one is to have its fact.
 
-ghost use Rattle.si_model.specs.Laws.{FindingsAreExact, KeyFindingsAreExact, OrderIsStrict, ListIsUnique, OrderIsFree, KeysAreApart, PartsAreOfHistory, LastWriteIsFinal, LeastIsLeast, FirstIsFirst, PresentGrows, AcceptedGrows, AcceptedBegins};
+ghost use Rattle.si_model.specs.Laws.{FindingsAreExact, KeyFindingsAreExact, OrderIsStrict, ListIsUnique, OrderIsFree, KeysAreApart, PartsAreOfHistory, LastWriteIsFinal, LeastIsLeast, FirstIsFirst, PresentGrows, AcceptedGrows, AcceptedBegins, PresentIsHistory};
 
 /// Of a history, the list of the findings is in strict order and has exactly what the relation says.
 pub fn findings_are_exact()
@@ -66,3 +66,9 @@ pub fn accepted_grows()
 pub fn accepted_begins()
     ensures { AcceptedBegins }
 {}
+
+/// What is present after an accepted journal is a history.
+pub fn present_is_history()
+    ensures { PresentIsHistory }
+{
+}

@@ -9,6 +9,7 @@ use std::alloc::AllocError;
 pub mod cases;
 pub mod edits;
 pub mod findings;
+pub mod history;
 pub mod keys;
 pub mod kinds;
 pub mod laws;
@@ -24,6 +25,7 @@ pub mod versions;
 
 pub use edits::Edit;
 pub use findings::{Finding, findings_of};
+pub use history::is_history;
 pub use keys::{Key, shard_of};
 pub use kinds::Kind;
 pub use numbers::{Number, Stamp, TxnId, Value};

@@ -1,5 +1,6 @@
 ghost use Rattle.std.specs.Prelude.{◌≡◌, ◌≤◌, IfOk, length};
 ghost use Rattle.si_model.specs.Parts.{key_of, access_of};
+ghost use Rattle.si_model.specs.Edits.{same_write};
 
 use crate::{Access, Key, OutOfMemory, Value};
 use std::fmt;
@@ -24,6 +25,18 @@ impl Op {
     {
         match self {
             Op::Read(key, _) | Op::Write(key, _) => key,
+        }
+    }
+
+    /// Whether both write the same value to the same key.
+    pub fn writes_same(&self, other: &Op) -> bool
+        ensures { result ≡ same_write self.now other.now }
+    {
+        match (self, other) {
+            (Op::Write(key, value), Op::Write(other_key, other_value)) => {
+                value == other_value && key == other_key
+            }
+            _ => false,
         }
     }
 

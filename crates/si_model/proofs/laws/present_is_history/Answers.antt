@@ -1,0 +1,5 @@
+use Rattle.si_model.proofs.Present.{present_history}
+use Rattle.si_model.proofs.laws.present_is_history.Goals as goal
+
+pub returns : goal.returns
+returns c = present_history
