@@ -138,10 +138,10 @@ apart_by A B k =
     (both_true (commit_apart (commit_of A.status) B) _ (commit_apart_from (commit_of A.status) B k.first)
     (both_true (commit_apart (commit_of B.status) A) _ (commit_apart_from (commit_of B.status) A k.second)
     (all_from (apart_from_all B.ops) A.ops (λ p c. all_from (ops_apart p) B.ops (λ q d. is_not (same_write p q) (λ e.
-        let s = same_write_is p q e in
-        let i = contains_get A.ops p c in
-        let j = contains_get B.ops q d in
-        k.writes i.0 j.0 s.0 s.1 (i.1 ∙ ap Some s.2) (j.1 ∙ ap Some s.3)))))))
+    let s = same_write_is p q e in
+    let i = contains_get A.ops p c in
+    let j = contains_get B.ops q d in
+    k.writes i.0 j.0 s.0 s.1 (i.1 ∙ ap Some s.2) (j.1 ∙ ap Some s.3)))))))
 
 -- ---- all transactions
 
@@ -194,12 +194,12 @@ pairs_pass (T ∷ P) Q f in_all p = both_true (list_all (txns_apart T) P) (pairw
 passed : (P : List Txn) → IsHistory P → passes P ≡ true
 passed P h = both_true (list_all is_sound P) (pairwise txns_apart P)
     (all_from is_sound P (λ T c. both_true (is_forward T.start (commit_of T.status)) (pairwise ops_apart T.ops)
-        (forward_from T.start (commit_of T.status) (λ d e. h.forward T d c e))
-        (apart_from T.ops (λ i j p q l a b. is_not (same_write p q) (λ e.
-            let s = same_write_is p q e in
-            let w = h.writes T T i j s.0 s.1 c c (a ∙ ap Some s.2) (b ∙ ap Some s.3) in
-            let place = w.1 in
-            omega arith)))))
+    (forward_from T.start (commit_of T.status) (λ d e. h.forward T d c e))
+    (apart_from T.ops (λ i j p q l a b. is_not (same_write p q) (λ e.
+    let s = same_write_is p q e in
+    let w = h.writes T T i j s.0 s.1 c c (a ∙ ap Some s.2) (b ∙ ap Some s.3) in
+    let place = w.1 in
+    omega arith)))))
     (pairs_pass P P (λ A B a b differ. record {
       differ = differ;
       first = λ c e. h.stamps A B c a b differ e;

@@ -274,8 +274,8 @@ module _ (P : List Txn) (u : TxnId) (o : Outcome) (T : Txn) (h : IsHistory P) (f
     names = pairs_map (λ U. U.id) (λ U. U.id) (resolved u o) (λ U. status_id (same_id U.id u) U (status_of o)) P h.names;
     stamps = λ A B c a b differ e. (let f = Contains-from_map (resolved u o) P A a in let g = Contains-from_map (resolved u o) P B b in
         let apart = resolved_stamps f.0 g.0 c f.1 g.1
-            (λ s. differ (ap (λ U. U.id) (sym f.2) ∙ status_id (same_id f.0.id u) f.0 (status_of o) ∙ s ∙ sym (status_id (same_id g.0.id u) g.0 (status_of o)) ∙ ap (λ U. U.id) g.2))
-            (ap (λ U. commit_of U.status) f.2 ∙ e) in
+        (λ s. differ (ap (λ U. U.id) (sym f.2) ∙ status_id (same_id f.0.id u) f.0 (status_of o) ∙ s ∙ sym (status_id (same_id g.0.id u) g.0 (status_of o)) ∙ ap (λ U. U.id) g.2))
+        (ap (λ U. commit_of U.status) f.2 ∙ e) in
         (λ s. apart.0 (s ∙ ap (λ U. U.start) (sym g.2) ∙ status_start (same_id g.0.id u) g.0 (status_of o)), λ s. apart.1 (ap (λ U. commit_of U.status) g.2 ∙ s)));
     writes = λ A B i j x v a b y z. (let f = Contains-from_map (resolved u o) P A a in let g = Contains-from_map (resolved u o) P B b in
         let opsA = sym (status_ops (same_id f.0.id u) f.0 (status_of o)) ∙ ap (λ U. U.ops) f.2 in

@@ -1,4 +1,4 @@
--- When a history is well formed: two conditions of Adya's thesis, section 4.2, on histories, which are no phenomena.
+-- When a history is well formed: two conditions of Adya's thesis, chapter 4, on histories, which are no phenomena.
 use Rattle.std.specs.Prelude.{◌≡◌, ◌≢◌, ℕ, List, Some, None, Option}
 use Rattle.std.specs.List.{Contains}
 use Rattle.si_model.specs.declared.numbers.Value.{Value}

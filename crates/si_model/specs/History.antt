@@ -1,4 +1,4 @@
--- What a history is. Adya's thesis, section 4.2, has histories of transactions; ids, stamps and unique pairs are this project's choice.
+-- What a history is. Adya's thesis, chapter 4, has histories of transactions; ids, stamps and unique pairs are this project's choice.
 use Rattle.std.specs.Prelude.{◌≡◌, ◌≢◌, ℕ, ◌<◌, List, Some, None, Option, slice_get}
 use Rattle.std.specs.List.{Contains, AllPairs}
 use Rattle.si_model.specs.declared.numbers.Stamp.{Stamp}

@@ -25,6 +25,18 @@ pub struct Finding {
     pub kind: Kind,
 }
 
+impl Finding {
+    /// The same finding, which shares its key's text.
+    pub fn try_clone(&self) -> Result<Self, OutOfMemory>
+        ensures { IfOk result (λ finding. finding ≡ self.now) }
+    {
+        Ok(Finding {
+            key: self.key.try_clone()?,
+            kind: self.kind,
+        })
+    }
+}
+
 impl PartialEq for Finding {
     ghost use Rattle.std.specs.Cmp.{IsEquivalence};
     ghost use Rattle.std.specs.Cmp.Rules.{comparing};
@@ -109,12 +121,12 @@ pub fn findings_of(alloc: Global, txns: &[Txn]) -> Result<Vec<Finding>, OutOfMem
 fn keys_of(alloc: Global, txns: &[Txn]) -> Result<Vec<Key>, OutOfMemory>
     ensures { IfOk result (λ found. found.items ≡ keys txns.now) }
 {
-    let mut found = Vec::new(alloc);
+    let mut keys = Vec::new(alloc);
     for txn in txns {
-        add_keys(&mut found, txn)?;
+        add_keys(&mut keys, txn)?;
     }
-    put_in_order(&mut found);
-    Ok(found)
+    put_in_order(&mut keys);
+    Ok(keys)
 }
 
 fn add_keys(keys: &mut Vec<Key>, txn: &Txn) -> Result<(), OutOfMemory>

@@ -70,5 +70,4 @@ pub fn accepted_begins()
 /// What is present after an accepted journal is a history.
 pub fn present_is_history()
     ensures { PresentIsHistory }
-{
-}
+{}

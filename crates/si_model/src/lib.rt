@@ -21,7 +21,7 @@ pub mod refusals;
 pub mod sights;
 mod sorting;
 pub mod transactions;
-pub mod versions;
+mod versions;
 
 pub use edits::Edit;
 pub use findings::{Finding, findings_of};
@@ -34,6 +34,9 @@ pub use parts::{Access, Accesses, Part, Placed};
 pub use refusals::Refusal;
 pub use sights::{Installer, Sight, Source};
 pub use transactions::{Outcome, Status, Txn};
+
+#[cfg(test)]
+mod tests;
 
 /// The growth of some memory was refused.
 pub type OutOfMemory = AllocError;

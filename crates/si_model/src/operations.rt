@@ -40,6 +40,16 @@ impl Op {
         }
     }
 
+    /// The same operation, which shares its key's text.
+    pub fn try_clone(&self) -> Result<Self, OutOfMemory>
+        ensures { IfOk result (λ op. op ≡ self.now) }
+    {
+        Ok(match self {
+            Op::Read(key, read) => Op::Read(key.try_clone()?, *read),
+            Op::Write(key, value) => Op::Write(key.try_clone()?, *value),
+        })
+    }
+
     /// What it does to its key.
     pub fn access(&self) -> Access
         ensures { result ≡ access_of self.now }

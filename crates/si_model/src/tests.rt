@@ -1,0 +1,514 @@
+//! Small histories with their findings, and values that no clause fixes.
+
+use super::*;
+use crate::Kind::*;
+use std::alloc::{AllocGlobal, Global};
+use std::process::Abort;
+use std::test::Fail;
+
+/// An operation, as a history is written down here.
+#[derive(Clone, Copy)]
+enum Do {
+    R(&'static str, Option<u64>),
+    W(&'static str, u64),
+}
+
+use Do::{R, W};
+
+/// A transaction, as a history is written down here: its id, start, status and operations.
+type Row<'a> = (u64, u64, Status, &'a [Do]);
+
+const ABORTED: Status = Status::Aborted;
+
+const IN_DOUBT: Status = Status::InDoubt;
+
+fn committed(stamp: u64) -> Status {
+    Status::Committed(Stamp(stamp))
+}
+
+fn key(rt: &impl Abort, alloc: Global, text: &str) -> Result<Key, OutOfMemory> {
+    assert!(rt; Key::fits(text));
+    Key::new(alloc, text)
+}
+
+fn op(rt: &impl Abort, alloc: Global, step: Do) -> Result<Op, OutOfMemory> {
+    Ok(match step {
+        R(text, read) => Op::Read(key(rt, alloc, text)?, read.map(|value| Value(value))),
+        W(text, value) => Op::Write(key(rt, alloc, text)?, Value(value)),
+    })
+}
+
+fn txn(rt: &impl Abort, alloc: Global, row: &Row) -> Result<Txn, OutOfMemory> {
+    let (id, start, status, steps) = *row;
+    let mut ops = Vec::new(alloc);
+    for step in steps {
+        ops.push(op(rt, alloc, *step)?)?;
+    }
+    assert!(rt; ops.len() <= operations::MOST_OPS);
+    Ok(Txn {
+        id: TxnId(id),
+        start: Stamp(start),
+        status,
+        ops: Ops::from_vec(ops)?,
+    })
+}
+
+fn txns(rt: &impl Abort, alloc: Global, rows: &[Row]) -> Result<Vec<Txn>, OutOfMemory> {
+    let mut txns = Vec::new(alloc);
+    for row in rows {
+        txns.push(txn(rt, alloc, row)?)?;
+    }
+    Ok(txns)
+}
+
+/// The transactions are a history, and these are its findings, in whatever order the transactions come.
+fn finds(
+    rt: &impl Abort,
+    alloc: Global,
+    rows: &[Row],
+    want: &[(&str, Kind)],
+) -> Result<(), OutOfMemory> {
+    let mut txns = txns(rt, alloc, rows)?;
+    for _ in 0..2 {
+        assert!(rt; is_history(&txns));
+        let found = findings_of(alloc, &txns)?;
+        assert_eq!(rt; found.len(), want.len(), "{found:?}");
+        for (finding, (text, kind)) in found.iter().zip(want) {
+            assert_eq!(rt; finding.key.as_str(), *text);
+            assert_eq!(rt; finding.kind, *kind);
+        }
+        txns.reverse();
+    }
+    Ok(())
+}
+
+#[test]
+fn clean_histories(rt: HostRuntime) -> Result<(), Fail> {
+    let alloc = rt.alloc();
+    finds(&rt, alloc, &[], &[])?;
+    finds(
+        &rt,
+        alloc,
+        &[
+            (1, 1, committed(5), &[R("x", None), R("y", None), W("x", 1)]),
+            (2, 1, committed(6), &[R("x", None), R("y", None), W("y", 2)]),
+        ],
+        &[],
+    )?;
+    Ok(())
+}
+
+#[test]
+fn lost_update_is_an_overlap(rt: HostRuntime) -> Result<(), Fail> {
+    let alloc = rt.alloc();
+    finds(
+        &rt,
+        alloc,
+        &[
+            (1, 1, committed(5), &[R("x", None), W("x", 1)]),
+            (2, 2, committed(6), &[R("x", None), W("x", 2)]),
+        ],
+        &[(
+            "x",
+            Overlap {
+                first: TxnId(1),
+                second: TxnId(2),
+            },
+        )],
+    )?;
+    Ok(())
+}
+
+#[test]
+fn missed_versions_are_stale(rt: HostRuntime) -> Result<(), Fail> {
+    let alloc = rt.alloc();
+    finds(
+        &rt,
+        alloc,
+        &[
+            (1, 1, committed(2), &[W("x", 1)]),
+            (2, 3, committed(4), &[R("x", None)]),
+        ],
+        &[(
+            "x",
+            Stale {
+                txn: TxnId(2),
+                op: 0,
+                read: None,
+                missed: TxnId(1),
+            },
+        )],
+    )?;
+    finds(
+        &rt,
+        alloc,
+        &[
+            (1, 1, committed(2), &[W("x", 1)]),
+            (3, 7, committed(8), &[R("x", Some(1))]),
+            (2, 3, committed(4), &[W("x", 2)]),
+        ],
+        &[(
+            "x",
+            Stale {
+                txn: TxnId(3),
+                op: 0,
+                read: Some(Value(1)),
+                missed: TxnId(2),
+            },
+        )],
+    )?;
+    finds(
+        &rt,
+        alloc,
+        &[
+            (1, 1, committed(2), &[W("x", 1)]),
+            (2, 3, committed(4), &[W("x", 2), W("y", 1)]),
+            (3, 5, committed(6), &[R("y", Some(1)), R("x", None)]),
+        ],
+        &[(
+            "x",
+            Stale {
+                txn: TxnId(3),
+                op: 1,
+                read: None,
+                missed: TxnId(1),
+            },
+        )],
+    )?;
+    Ok(())
+}
+
+#[test]
+fn versions_of_the_future(rt: HostRuntime) -> Result<(), Fail> {
+    let alloc = rt.alloc();
+    finds(
+        &rt,
+        alloc,
+        &[
+            (1, 1, committed(10), &[W("x", 1)]),
+            (2, 2, committed(3), &[R("x", Some(1))]),
+        ],
+        &[(
+            "x",
+            Future {
+                txn: TxnId(2),
+                op: 0,
+                read: Some(Value(1)),
+                writer: TxnId(1),
+            },
+        )],
+    )?;
+    Ok(())
+}
+
+#[test]
+fn values_that_were_never_installed(rt: HostRuntime) -> Result<(), Fail> {
+    let alloc = rt.alloc();
+    finds(
+        &rt,
+        alloc,
+        &[
+            (1, 1, ABORTED, &[W("x", 1), W("x", 2)]),
+            (2, 3, committed(4), &[R("x", Some(1))]),
+        ],
+        &[(
+            "x",
+            Kind::Aborted {
+                txn: TxnId(2),
+                op: 0,
+                read: Some(Value(1)),
+                writer: TxnId(1),
+            },
+        )],
+    )?;
+    finds(
+        &rt,
+        alloc,
+        &[
+            (1, 1, committed(2), &[W("x", 1), W("x", 2)]),
+            (2, 3, committed(4), &[R("x", Some(1))]),
+        ],
+        &[(
+            "x",
+            Intermediate {
+                txn: TxnId(2),
+                op: 0,
+                read: Some(Value(1)),
+                writer: TxnId(1),
+            },
+        )],
+    )?;
+    Ok(())
+}
+
+#[test]
+fn own_writes(rt: HostRuntime) -> Result<(), Fail> {
+    let alloc = rt.alloc();
+    finds(
+        &rt,
+        alloc,
+        &[
+            (1, 1, committed(2), &[W("x", 1), R("x", None)]),
+            (2, 3, committed(4), &[R("y", Some(9)), W("y", 9)]),
+        ],
+        &[
+            (
+                "x",
+                Own {
+                    txn: TxnId(1),
+                    op: 1,
+                    read: None,
+                    own: Some(Value(1)),
+                },
+            ),
+            (
+                "y",
+                Own {
+                    txn: TxnId(2),
+                    op: 0,
+                    read: Some(Value(9)),
+                    own: None,
+                },
+            ),
+        ],
+    )?;
+    Ok(())
+}
+
+#[test]
+fn values_that_nobody_wrote(rt: HostRuntime) -> Result<(), Fail> {
+    let alloc = rt.alloc();
+    finds(
+        &rt,
+        alloc,
+        &[(2, 5, committed(6), &[R("x", Some(1))])],
+        &[(
+            "x",
+            Unknown {
+                txn: TxnId(2),
+                op: 0,
+                read: Some(Value(1)),
+            },
+        )],
+    )?;
+    finds(
+        &rt,
+        alloc,
+        &[
+            (2, 5, committed(6), &[R("x", Some(1))]),
+            (1, 1, committed(2), &[W("x", 1)]),
+        ],
+        &[],
+    )?;
+    Ok(())
+}
+
+#[test]
+fn doubt_ends_with_its_resolution(rt: HostRuntime) -> Result<(), Fail> {
+    let alloc = rt.alloc();
+    finds(
+        &rt,
+        alloc,
+        &[
+            (1, 1, IN_DOUBT, &[W("x", 1), R("y", Some(7))]),
+            (2, 5, committed(6), &[R("x", Some(1))]),
+        ],
+        &[(
+            "x",
+            Doubt {
+                txn: TxnId(2),
+                op: 0,
+                read: Some(Value(1)),
+                writer: TxnId(1),
+            },
+        )],
+    )?;
+    finds(
+        &rt,
+        alloc,
+        &[
+            (1, 1, committed(3), &[W("x", 1), R("y", Some(7))]),
+            (2, 5, committed(6), &[R("x", Some(1))]),
+        ],
+        &[(
+            "y",
+            Unknown {
+                txn: TxnId(1),
+                op: 1,
+                read: Some(Value(7)),
+            },
+        )],
+    )?;
+    Ok(())
+}
+
+#[test]
+fn versions_stand_by_commit_stamps(rt: HostRuntime) -> Result<(), Fail> {
+    let alloc = rt.alloc();
+    finds(
+        &rt,
+        alloc,
+        &[
+            (1, 1, committed(10), &[W("x", 1)]),
+            (2, 11, committed(20), &[W("x", 2)]),
+            (3, 9, committed(30), &[W("x", 3)]),
+        ],
+        &[(
+            "x",
+            Overlap {
+                first: TxnId(2),
+                second: TxnId(3),
+            },
+        )],
+    )?;
+    finds(
+        &rt,
+        alloc,
+        &[
+            (1, 1, committed(10), &[W("x", 1)]),
+            (3, 9, committed(30), &[W("x", 3)]),
+        ],
+        &[(
+            "x",
+            Overlap {
+                first: TxnId(1),
+                second: TxnId(3),
+            },
+        )],
+    )?;
+    Ok(())
+}
+
+#[test]
+fn keys_stand_by_their_bytes(rt: HostRuntime) -> Result<(), Fail> {
+    let alloc = rt.alloc();
+    finds(
+        &rt,
+        alloc,
+        &[(1, 1, committed(2), &[R("é", Some(1)), R("b", Some(2))])],
+        &[
+            (
+                "b",
+                Unknown {
+                    txn: TxnId(1),
+                    op: 1,
+                    read: Some(Value(2)),
+                },
+            ),
+            (
+                "é",
+                Unknown {
+                    txn: TxnId(1),
+                    op: 0,
+                    read: Some(Value(1)),
+                },
+            ),
+        ],
+    )?;
+    Ok(())
+}
+
+/// Beside the first transaction the second one makes no history, in whatever order.
+fn is_refused(rt: &impl Abort, alloc: Global, what: &str, second: Txn) -> Result<(), OutOfMemory> {
+    let first = txn(rt, alloc, &(1, 1, committed(4), &[W("x", 1)]))?;
+    assert!(rt;
+        !is_history(&[first.try_clone()?, second.try_clone()?]),
+        "{what}"
+    );
+    assert!(rt; !is_history(&[second, first]), "{what}");
+    Ok(())
+}
+
+#[test]
+fn what_is_a_history(rt: HostRuntime) -> Result<(), Fail> {
+    let first: Row = (1, 1, committed(4), &[W("x", 1)]);
+    let equal_starts: Row = (2, 1, committed(5), &[W("y", 1), W("x", 2)]);
+    assert!(rt; is_history(&[]));
+    assert!(rt; is_history(&txns(&rt, rt.alloc(), &[first, equal_starts])?));
+    Ok(())
+}
+
+#[test]
+fn stamps_and_ids_that_make_no_history(rt: HostRuntime) -> Result<(), Fail> {
+    let alloc = rt.alloc();
+    for (what, id, start, status) in [
+        ("a commit at its start", 2, 5, committed(5)),
+        ("a commit before its start", 2, 6, committed(5)),
+        ("an id twice", 1, 2, committed(5)),
+        ("a commit at a commit", 2, 2, committed(4)),
+        ("a start at a commit", 2, 4, IN_DOUBT),
+        ("a commit at a start", 2, 0, committed(1)),
+    ] {
+        is_refused(
+            &rt,
+            alloc,
+            what,
+            txn(&rt, alloc, &(id, start, status, &[]))?,
+        )?;
+    }
+    Ok(())
+}
+
+#[test]
+fn pairs_that_make_no_history(rt: HostRuntime) -> Result<(), Fail> {
+    let alloc = rt.alloc();
+    let taken = txn(&rt, alloc, &(2, 2, ABORTED, &[W("y", 1), W("x", 1)]))?;
+    is_refused(&rt, alloc, "a pair of two writers", taken)?;
+    let twice = txn(
+        &rt,
+        alloc,
+        &(2, 2, ABORTED, &[W("y", 1), R("y", None), W("y", 1)]),
+    )?;
+    is_refused(&rt, alloc, "a pair twice", twice)?;
+    Ok(())
+}
+
+#[test]
+fn shards_of_keys(rt: HostRuntime) -> Result<(), Fail> {
+    for (text, hash, of_two, of_four, of_sixteen) in [
+        ("x", 120, 0, 0, 8),
+        ("y", 121, 1, 1, 9),
+        ("ab", 3105, 1, 1, 1),
+        ("k1", 3366, 0, 2, 6),
+    ] {
+        let key = key(&rt, rt.alloc(), text)?;
+        assert_eq!(rt; key.shard_hash(), hash);
+        assert_eq!(rt; shard_of(&key, 2), of_two);
+        assert_eq!(rt; shard_of(&key, 4), of_four);
+        assert_eq!(rt; shard_of(&key, 16), of_sixteen);
+    }
+    Ok(())
+}
+
+#[test]
+fn lengths_of_keys(rt: HostRuntime) -> Result<(), Fail> {
+    let mut text = String::new(rt.alloc());
+    for length in 0..130 {
+        assert_eq!(rt; Key::fits(text.as_str()), 1 <= length && length <= 128);
+        text.push('k')?;
+    }
+    Ok(())
+}
+
+#[test]
+fn copies_are_equal(rt: HostRuntime) -> Result<(), Fail> {
+    let arrival = Edit::Arrive(txn(
+        &rt,
+        rt.alloc(),
+        &(1, 2, committed(3), &[R("x", None), W("y", 4)]),
+    )?);
+    let resolution = Edit::Resolve(TxnId(1), Outcome::Committed(Stamp(2)));
+    for edit in [arrival, resolution, Edit::Withdraw(TxnId(1))] {
+        assert_eq!(rt; edit.try_clone()?, edit);
+    }
+    let finding = Finding {
+        key: key(&rt, rt.alloc(), "x")?,
+        kind: Overlap {
+            first: TxnId(1),
+            second: TxnId(2),
+        },
+    };
+    assert_eq!(rt; finding.try_clone()?, finding);
+    assert_eq!(rt; Outcome::Aborted.status(), ABORTED);
+    Ok(())
+}
