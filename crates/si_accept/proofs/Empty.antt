@@ -1,0 +1,13 @@
+-- The journal without edits.
+use Rattle.std.proofs.Common.{◌≡◌, [], ◌∷◌, ◌++◌, List, refl}
+use Rattle.si_model.specs.declared.edits.Edit.{Edit}
+use Rattle.si_model.specs.declared.transactions.Txn.{Txn}
+use Rattle.si_model.specs.Journals.{present, IsAccepted}
+
+pub present_empty : present [] ≡ []
+unfolding present
+present_empty = refl
+
+pub accepted_empty : IsAccepted []
+accepted_empty [] e rest s = cc
+accepted_empty (d ∷ before) e rest s = cc

@@ -1,0 +1,156 @@
+ghost use Rattle.std.specs.Prelude.{◌≡◌, ℕ, ◌≤◌, ◌<◌, [], ◌∷◌, ◌++◌, length, None, IfOk, OnOk, IfErr, OnErr, IfNone, IsTrue, ◌↔◌};
+ghost use Rattle.std.specs.Option.{option_copied};
+ghost use Rattle.si_model.specs.Edits.{IsAcceptable, with_id, after};
+ghost use Rattle.si_model.specs.Journals.{present, IsAccepted, refusal_after};
+ghost use Rattle.si_accept.specs.Faults.{IsFaultOf};
+
+use crate::AcceptFault;
+use crate::changes::change;
+use crate::holders::with_id;
+use crate::reasons::refusal_on;
+use si_model::laws::{accepted_grows, present_grows};
+use si_model::{Edit, Number, OutOfMemory, Refusal, Txn, TxnId};
+use std::alloc::Global;
+use std::marker::Model;
+
+/// The most edits that a journal may be limited to.
+pub const MOST_EDITS: usize = 16_777_216;
+
+/// The journal of accepted edits, and the transactions that are present after them.
+///
+/// Contracts see the limit and the journal. What is present follows from the journal.
+#[derive(Drop)]
+pub struct Book {
+    alloc: Global,
+    // How many edits the journal may have.
+    limit: usize,
+    journal: Vec<Edit>,
+    // What is present after the journal, in the order of arrival.
+    transactions: Vec<Txn>,
+}
+
+impl Model for Book {
+    ghost use Rattle.si_accept.specs.Books.{BookState, IsBook};
+
+    ghost Value = { BookState };
+
+    ghost view = { λ b. record { limit = b.limit; journal = b.journal.items } };
+
+    ghost invariant = { λ b. IsBook b.limit b.journal.items b.transactions.items };
+}
+
+impl Book {
+    /// A book with an empty journal, which may have so many edits. It takes no memory yet.
+    pub fn new(alloc: Global, limit: usize) -> Self
+        requires some { 1 ≤ limit }
+        requires most { limit ≤ MOST_EDITS }
+        ensures { result ≡ record { limit = limit; journal = [] } }
+    {
+        Book {
+            alloc,
+            limit,
+            journal: Vec::new(alloc),
+            transactions: Vec::new(alloc),
+        }
+    }
+
+    /// Accepts the edit, or tells the first reason against it. The answer is its number in the journal, from 1.
+    ///
+    /// After a fault the book is as before.
+    pub fn accept(&mut self, edit: Edit) -> Result<Number, AcceptFault>
+        ensures acceptable { OnOk result (refusal_after self.old.limit self.old.journal edit ≡ None) }
+        ensures fault { IfErr result (IsFaultOf (refusal_after self.old.limit self.old.journal edit)) }
+
+        ensures ok { OnOk result (self.new ≡ record self.old { journal = self.old.journal ++ edit ∷ [] }) }
+        ensures number { IfOk result (λ number. number.0 ≡ length self.new.journal) }
+        ensures room { OnOk result (length self.old.journal < self.old.limit) }
+        ensures accepted { OnOk result (IsAccepted self.new.journal) }
+        ensures present { OnOk result (present self.new.journal ≡ after edit (present self.old.journal)) }
+
+        ensures err { OnErr result (self.new ≡ self.old) }
+    {
+        if let Some(refusal) = self.refusal(&edit) {
+            return Err(AcceptFault::Refused(refusal));
+        }
+        // All that can fail comes before the journal changes.
+        let recorded = edit.try_clone()?;
+        self.journal.reserve(1)?;
+        change(&mut self.transactions, edit)?;
+        self.journal.push(recorded).unwrap();
+        present_grows();
+        accepted_grows();
+        Ok(Number(self.journal.len() as u64))
+    }
+
+    /// The first reason against the edit, if there is one.
+    #[tactic(auto, unfolding(si_model::specs::Journals::refusal_after))]
+    fn refusal(&self, edit: &Edit) -> Option<Refusal>
+        ensures first { result ≡ refusal_after self.now.limit self.now.journal edit.now }
+        ensures room { IfNone result (length self.now.journal < self.now.limit) }
+        ensures acceptable { IfNone result (IsAcceptable (present self.now.journal) edit.now) }
+    {
+        if self.limit <= self.journal.len() {
+            return Some(Refusal::Full);
+        }
+        refusal_on(&self.transactions, edit)
+    }
+
+    /// Copies of the present transactions, in the order of arrival, which share the operations.
+    pub fn present(&self) -> Result<Vec<Txn>, OutOfMemory>
+        ensures { IfOk result (λ txns. txns.items ≡ present self.now.journal) }
+    {
+        let mut copies = Vec::with_capacity(self.alloc, self.transactions.len())?;
+        for txn in &self.transactions {
+            copies.push(txn.try_clone()?)?;
+        }
+        Ok(copies)
+    }
+
+    /// The present transactions, in the order of arrival.
+    ///
+    /// A book that doesn't keep them in one list couldn't give them so: `present` and `get` say the same.
+    pub fn transactions(&self) -> &[Txn]
+        ensures { result.now ≡ present self.now.journal }
+    {
+        &self.transactions
+    }
+
+    /// The present transaction with that id.
+    pub fn get(&self, id: TxnId) -> Option<&Txn>
+        ensures { option_copied result ≡ with_id (present self.now.journal) id }
+    {
+        with_id(&self.transactions, id)
+    }
+
+    /// The accepted edits, in the order of their numbers.
+    pub fn journal(&self) -> &[Edit]
+        ensures journal { result.now ≡ self.now.journal }
+        ensures accepted { IsAccepted self.now.journal }
+        ensures within { length self.now.journal ≤ self.now.limit }
+    {
+        &self.journal
+    }
+
+    /// How many transactions are present.
+    pub fn len(&self) -> usize
+        ensures { result ≡ length (present self.now.journal) }
+    {
+        self.transactions.len()
+    }
+
+    /// Whether no transaction is present.
+    pub fn is_empty(&self) -> bool
+        ensures { IsTrue result ↔ (present self.now.journal ≡ []) }
+    {
+        self.transactions.is_empty()
+    }
+
+    /// How many edits the journal may have.
+    pub fn limit(&self) -> usize
+        ensures limit { result ≡ self.now.limit }
+        ensures some { 1 ≤ result }
+        ensures most { result ≤ MOST_EDITS }
+    {
+        self.limit
+    }
+}

@@ -1,0 +1,26 @@
+-- What a run does to its devices.
+use Rattle.std.specs.Prelude.{◌≡◌, ◌⊎◌, ℕ, ◌-◌, ◌^◌, ◌≤◌, Bool, true, List, length, Option, Some, None, ⊤}
+use Rattle.std.specs.Option.{IfSome}
+use Rattle.std.specs.Io.KnownBytes.{Appends}
+use Rattle.si_text.specs.Inputs.{items_of}
+use Rattle.si_cli.specs.declared.statuses.ExitStatus.{ExitStatus}
+use Rattle.si_cli.specs.declared.faults.RunFault.{RunFault}
+use Rattle.si_cli.specs.declared.faults.RunFault.TheVariants as fault
+use Rattle.si_cli.specs.Outputs.{Rules, from_source, output_of, status_of}
+
+-- where the input's bytes are known, what was written is the text of its items, as far as the writer tells, and so is the status
+abbrev pub WritesOutput : Rules → Option (List ℕ) → Option (List ℕ) → Option (List ℕ) → ExitStatus → Type 0
+WritesOutput rules None old new status = ⊤
+WritesOutput rules (Some bytes) old new status =
+    Appends old new (output_of rules (from_source 0 (items_of bytes))) × (status ≡ status_of rules (from_source 0 (items_of bytes)))
+
+-- an input that may take more reads than are made
+abbrev pub MayBeTooLong : Option (List ℕ) → Type 0
+MayBeTooLong None = ⊤
+MayBeTooLong (Some bytes) = 2 ^ 64 - 1 ≤ length bytes
+
+-- a fault of a device is told only where that device has failed, or the input is too long
+abbrev pub IsTrueFault : Option (List ℕ) → Bool → Bool → RunFault → Type 0
+IsTrueFault left source_failed writer_failed (fault.Input source) = (source ≡ 0) × ((source_failed ≡ true) ⊎ MayBeTooLong left)
+IsTrueFault left source_failed writer_failed fault.Output = writer_failed ≡ true
+IsTrueFault left source_failed writer_failed fault.Memory = ⊤

@@ -1,0 +1,17 @@
+//! The checker's engine and its command line.
+//!
+//! It carries the promise that what a run writes is the text that the definitions give for the items of its input. It
+//! stands on `si_model` for findings, on `si_text` for lines, texts and devices, and on `si_accept` for the book.
+#![tactic(auto)]
+
+mod engines;
+pub mod faults;
+pub mod options;
+pub mod runs;
+pub mod statuses;
+mod writing;
+
+pub use faults::RunFault;
+pub use options::Options;
+pub use runs::run;
+pub use statuses::ExitStatus;

@@ -1,0 +1,12 @@
+/// How a run reports.
+#[derive(Clone, Copy, Debug, PartialEq, Eq)]
+pub struct Options {
+    /// How many shards the findings are kept in, 1 to 16. It changes no text.
+    pub shards: usize,
+    /// After how many decided items each report on the way comes, at least 1; none comes where it isn't given.
+    pub every: Option<u64>,
+    /// Whether a finding is followed by its evidence.
+    pub explain: bool,
+    /// The most edits that are accepted, 1 to 16,777,216.
+    pub limit: usize,
+}

@@ -1,0 +1,80 @@
+-- Lemmas on the first line feed of a list of bytes, and on lists without one.
+use Rattle.std.proofs.Common.{◌≡◌, ℕ, zero, suc, ◌+◌, ◌<◌, ◌≤◌, List, [], ◌∷◌, ◌++◌, length, take, drop, Bool, true, false, not, ◌||◌, cond, Some, None, unwrap_or, ltb, refl, ap, ◌∙◌, arith}
+use Rattle.std.specs.List.{prefix_len, position}
+use Rattle.std.proofs.lemmas.Bool.{eqb-true, ltb-true, ltb-false}
+use Rattle.std.proofs.lemmas.List.{drop_all}
+use Rattle.std.specs.Bool.{MatchBool}
+use Rattle.std.proofs.lemmas.Bool.Decides.{nat_tests}
+use Rattle.std.proofs.lemmas.List.Sums.{prefix_len-le-length}
+use Rattle.si_text.specs.Inputs.{is_line_feed, has_line_feed}
+
+abbrev pub is_other : ℕ → Bool
+is_other byte = not (is_line_feed byte)
+
+-- how many bytes stand before the first line feed
+abbrev pub before_feed : List ℕ → ℕ
+before_feed bytes = prefix_len is_other bytes
+
+chosen : (n m : ℕ) → n ≤ m → unwrap_or (cond (ltb n m) (Some n) None) m ≡ n
+chosen n m within = grind (arith, nat_tests)
+
+pub position_or_all : (bytes : List ℕ) → unwrap_or (position is_line_feed bytes) (length bytes) ≡ before_feed bytes
+position_or_all bytes = chosen (before_feed bytes) (length bytes) (prefix_len-le-length is_other bytes)
+
+pub or_false : (a b : Bool) → (a || b) ≡ false → (a ≡ false) × (b ≡ false)
+or_false true b e = cc
+or_false false b e = (refl, e)
+
+before_feed-feed : (byte : ℕ) (bytes : List ℕ) → is_line_feed byte ≡ true → before_feed (byte ∷ bytes) ≡ zero
+before_feed-feed byte bytes e = ap (λ b. cond (not b) (1 + before_feed bytes) 0) e
+
+before_feed-other : (byte : ℕ) (bytes : List ℕ) → is_line_feed byte ≡ false → before_feed (byte ∷ bytes) ≡ suc (before_feed bytes)
+before_feed-other byte bytes e = ap (λ b. cond (not b) (1 + before_feed bytes) 0) e ∙ omega arith
+
+-- no line feed stands before the first
+front_at : (b : Bool) (byte : ℕ) (bytes : List ℕ) → is_line_feed byte ≡ b → has_line_feed (take (before_feed bytes) bytes) ≡ false
+    → has_line_feed (take (before_feed (byte ∷ bytes)) (byte ∷ bytes)) ≡ false
+front_at true byte bytes e h = ap (λ n. has_line_feed (take n (byte ∷ bytes))) (before_feed-feed byte bytes e)
+front_at false byte bytes e h = ap (λ n. has_line_feed (take n (byte ∷ bytes))) (before_feed-other byte bytes e) ∙ ap (λ b. b || has_line_feed (take (before_feed bytes) bytes)) e ∙ h
+
+pub front_without : (bytes : List ℕ) → has_line_feed (take (before_feed bytes) bytes) ≡ false
+front_without [] = refl
+front_without (byte ∷ bytes) = front_at (is_line_feed byte) byte bytes refl (front_without bytes)
+
+abbrev pub BeginsWithFeed : List ℕ → Type 0
+BeginsWithFeed bytes = (rest : List ℕ) × (bytes ≡ 10 ∷ rest)
+
+-- what stands behind the bytes before the first line feed
+next_at : (b : Bool) (byte : ℕ) (bytes : List ℕ) → is_line_feed byte ≡ b → (before_feed bytes < length bytes → BeginsWithFeed (drop (before_feed bytes) bytes))
+    → before_feed (byte ∷ bytes) < length (byte ∷ bytes) → BeginsWithFeed (drop (before_feed (byte ∷ bytes)) (byte ∷ bytes))
+next_at true byte bytes e h within = (bytes, ap (λ n. drop n (byte ∷ bytes)) (before_feed-feed byte bytes e) ∙ ap (λ x. x ∷ bytes) (eqb-true byte 10 e))
+next_at false byte bytes e h within =
+    let step = before_feed-other byte bytes e in
+    let later = h (omega (arith, step, within)) in
+    (later.0, ap (λ n. drop n (byte ∷ bytes)) step ∙ later.1)
+
+pub next_feed : (bytes : List ℕ) → before_feed bytes < length bytes → BeginsWithFeed (drop (before_feed bytes) bytes)
+next_feed [] within = absurd (omega arith)
+next_feed (byte ∷ bytes) within = next_at (is_line_feed byte) byte bytes refl (next_feed bytes) within
+
+pub has_line_feed-append : (xs ys : List ℕ) → has_line_feed xs ≡ false → has_line_feed ys ≡ false → has_line_feed (xs ++ ys) ≡ false
+has_line_feed-append [] ys p q = q
+has_line_feed-append (x ∷ xs) ys p q =
+    let parts = or_false (is_line_feed x) (has_line_feed xs) p in
+    ap (λ b. b || has_line_feed (xs ++ ys)) parts.0 ∙ has_line_feed-append xs ys parts.1 q
+
+pub has_line_feed-take : (n : ℕ) (xs : List ℕ) → has_line_feed xs ≡ false → has_line_feed (take n xs) ≡ false
+has_line_feed-take zero xs p = refl
+has_line_feed-take (suc n) [] p = refl
+has_line_feed-take (suc n) (x ∷ xs) p =
+    let parts = or_false (is_line_feed x) (has_line_feed xs) p in
+    ap (λ b. b || has_line_feed (take n xs)) parts.0 ∙ has_line_feed-take n xs parts.1
+
+behind_at : (b : Bool) (bytes : List ℕ) → ltb (before_feed bytes) (length bytes) ≡ b → MatchBool b (BeginsWithFeed (drop (before_feed bytes) bytes)) (drop (before_feed bytes) bytes ≡ [])
+behind_at true bytes e = next_feed bytes (ltb-true (before_feed bytes) (length bytes) e)
+behind_at false bytes e = drop_all (before_feed bytes) bytes (ltb-false (before_feed bytes) (length bytes) e)
+
+-- behind the bytes before the first line feed stands that line feed, or nothing
+pub behind : (piece one two rest : List ℕ) (count : ℕ) → one ≡ piece → count ≡ before_feed one → two ≡ piece → rest ≡ drop count piece
+    → MatchBool (ltb count (length two)) (BeginsWithFeed rest) (rest ≡ [])
+behind piece one two rest count one_is count_is two_is rest_is = rw (rest_is, two_is, count_is, one_is) (behind_at (ltb (before_feed piece) (length piece)) piece refl)

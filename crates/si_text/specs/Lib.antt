@@ -1,0 +1,5 @@
+pub mod Faults
+pub mod Lines
+pub mod Texts
+pub mod Inputs
+pub mod LineBuffers

@@ -1,0 +1,36 @@
+-- What a line buffer stands for.
+use Rattle.std.specs.Prelude.{⊤, ◌+◌, ◌≤◌, length, Some, None, ◌≡◌, ℕ, ◌-◌, ◌^◌, ◌⊎◌, List, [], ◌++◌, Option}
+use Rattle.std.specs.Io.KnownBytes.{prepend_known}
+use Rattle.si_text.specs.Inputs.{Item, items_after}
+use Rattle.si_text.specs.declared.line_buffers.LineBuffer.{LineBuffer}
+
+-- how many lines have ended
+abbrev pub lines_ended : LineBuffer → ℕ
+lines_ended buffer = buffer.lines
+
+-- the bytes that were read and stand behind these lines; of a line that is too long, so many that it still is
+abbrev pub bytes_held : LineBuffer → List ℕ
+bytes_held buffer = buffer.line.items ++ buffer.piece
+
+-- the bytes that are still to come in lines, where they are known: those held, and those that a source has left
+abbrev pub bytes_to_come : LineBuffer → Option (List ℕ) → Option (List ℕ)
+bytes_to_come buffer left = prepend_known (bytes_held buffer) left
+
+-- no line has begun, and no read was made
+abbrev pub IsFresh : LineBuffer → Type 0
+IsFresh buffer = (buffer.lines ≡ 0) × (bytes_held buffer ≡ []) × (buffer.reads ≡ 0)
+
+-- all reads are used up, or all numbers of lines
+abbrev pub IsSpent : LineBuffer → Type 0
+IsSpent buffer = (buffer.reads ≡ 2 ^ 64 - 1) ⊎ (buffer.lines ≡ 2 ^ 64 - 1)
+
+-- whatever bytes follow, the old buffer gives these items, and then what the new one gives
+pub record Passes (old new : LineBuffer) (items : List Item) : Type 0 where
+  pub same : (more : List ℕ) → items_after old.lines (bytes_held old ++ more) ≡ items ++ items_after new.lines (bytes_held new ++ more)
+
+-- reads are counted, and lines end, no more often than known bytes are taken: so an input of fewer than 2^64 - 1 bytes spends no buffer
+abbrev pub CountsBytes : LineBuffer → Option (List ℕ) → LineBuffer → Option (List ℕ) → Type 0
+CountsBytes old None new rest = ⊤
+CountsBytes old (Some left) new None = ⊥
+CountsBytes old (Some left) new (Some rest) =
+    (new.reads + length rest ≤ old.reads + length left) × (new.lines + length (bytes_held new ++ rest) ≤ old.lines + length (bytes_held old ++ left))

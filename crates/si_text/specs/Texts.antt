@@ -1,0 +1,149 @@
+-- The texts that are printed: findings, refused items, the summary and the whole report.
+use Rattle.std.specs.Prelude.{ℕ, List, [], ◌∷◌, ◌++◌, length, codes, decimal, Bool, true, false, if◌then◌else◌, Option, Some, None}
+use Rattle.std.specs.List.{flat_map, list_any}
+use Rattle.serde_json.specs.Data.{string}
+use Rattle.serde_json.specs.Written.{compact_text}
+use Rattle.si_model.specs.declared.findings.Finding.{Finding}
+use Rattle.si_model.specs.declared.kinds.Kind.{Kind}
+use Rattle.si_model.specs.declared.kinds.Kind.TheVariants.{Unknown, Doubt, Own, Aborted, Intermediate, Future, Stale, Overlap}
+use Rattle.si_model.specs.declared.numbers.TxnId.{TxnId}
+use Rattle.si_model.specs.declared.numbers.Value.{Value}
+use Rattle.si_model.specs.declared.refusals.Refusal.{Refusal}
+use Rattle.si_model.specs.declared.refusals.Refusal.TheVariants.{Full, IdPresent, NoSuch, NotInDoubt, StampOrder, StampTaken, ValueTwice, ValueTaken}
+use Rattle.si_model.specs.declared.transactions.Txn.{Txn}
+use Rattle.si_text.specs.Faults.{field_name, fault_code}
+use Rattle.si_text.specs.declared.faults.LineFault.{LineFault}
+use Rattle.si_text.specs.declared.faults.LineFault.TheVariants.{TooLong, NotJson, NotObject, BadKind, BadField, BadStatus, TooManyOps, BadOp, OutOfMemory}
+use Rattle.si_text.specs.declared.reasons.Reason.{Reason}
+use Rattle.si_text.specs.declared.reasons.Reason.TheVariants.{Malformed, Refused}
+use Rattle.si_text.specs.declared.verdicts.Verdict.{Verdict}
+use Rattle.si_text.specs.declared.verdicts.Verdict.TheVariants.{Clean, Open, Violation}
+
+-- every line ends with a line feed
+abbrev pub line_end : List ℕ
+line_end = 10 ∷ []
+
+-- ---- findings
+
+-- a key as compact JSON text
+abbrev pub key_text : List ℕ → List ℕ
+key_text key = compact_text (string key)
+
+-- what a read returned
+abbrev pub read_text : Option Value → List ℕ
+read_text None = codes "initial"
+read_text (Some value) = decimal value.0
+
+-- the value that a read should have returned; where the reader had written none, it writes the value read later
+abbrev pub own_text : Option Value → List ℕ
+own_text None = codes "later"
+own_text (Some value) = decimal value.0
+
+-- the kind of a finding on a read, the key's text, the reader, the place of its operation, and what that returned
+abbrev pub reading_text : List ℕ → List ℕ → TxnId → ℕ → Option Value → List ℕ
+reading_text kind key txn op read =
+    kind ++ codes " key=" ++ key ++ codes " txn=" ++ decimal txn.0 ++ codes " op=" ++ decimal op ++ codes " read=" ++ read_text read
+
+-- a finding on the key of that text
+abbrev pub kind_text : List ℕ → Kind → List ℕ
+kind_text key (Unknown txn op read) = reading_text (codes "unknown") key txn op read
+kind_text key (Doubt txn op read writer) = reading_text (codes "doubt") key txn op read ++ codes " writer=" ++ decimal writer.0
+kind_text key (Own txn op read own) = reading_text (codes "own") key txn op read ++ codes " own=" ++ own_text own
+kind_text key (Aborted txn op read writer) = reading_text (codes "aborted") key txn op read ++ codes " writer=" ++ decimal writer.0
+kind_text key (Intermediate txn op read writer) = reading_text (codes "intermediate") key txn op read ++ codes " writer=" ++ decimal writer.0
+kind_text key (Future txn op read writer) = reading_text (codes "future") key txn op read ++ codes " writer=" ++ decimal writer.0
+kind_text key (Stale txn op read missed) = reading_text (codes "stale") key txn op read ++ codes " missed=" ++ decimal missed.0
+kind_text key (Overlap first second) = codes "overlap" ++ codes " key=" ++ key ++ codes " first=" ++ decimal first.0 ++ codes " second=" ++ decimal second.0
+
+-- the line of a finding
+abbrev pub finding_text : Finding → List ℕ
+finding_text finding = kind_text (key_text finding.key) finding.kind ++ line_end
+
+-- ---- refused items
+
+-- the reason word of a faulty line, and its details
+abbrev pub fault_text : LineFault → List ℕ
+fault_text TooLong = codes "too-long"
+fault_text NotJson = codes "not-json"
+fault_text NotObject = codes "not-object"
+fault_text BadKind = codes "bad-kind"
+fault_text (BadField field) = codes "bad-field field=" ++ field_name field
+fault_text BadStatus = codes "bad-status"
+fault_text TooManyOps = codes "too-many-ops"
+fault_text (BadOp index) = codes "bad-op op=" ++ decimal index
+fault_text OutOfMemory = codes "out-of-memory"
+
+-- the number of a refusal
+abbrev pub refusal_code : Refusal → ℕ
+refusal_code Full = 11
+refusal_code IdPresent = 12
+refusal_code NoSuch = 13
+refusal_code NotInDoubt = 14
+refusal_code StampOrder = 15
+refusal_code (StampTaken stamp holder) = 16
+refusal_code (ValueTwice op) = 17
+refusal_code (ValueTaken op holder) = 18
+
+-- the reason word of a refusal, and its details
+abbrev pub refusal_text : Refusal → List ℕ
+refusal_text Full = codes "full"
+refusal_text IdPresent = codes "id-present"
+refusal_text NoSuch = codes "no-such"
+refusal_text NotInDoubt = codes "not-in-doubt"
+refusal_text StampOrder = codes "stamp-order"
+refusal_text (StampTaken stamp holder) = codes "stamp-taken stamp=" ++ decimal stamp.0 ++ codes " holder=" ++ decimal holder.0
+refusal_text (ValueTwice op) = codes "value-twice op=" ++ decimal op
+refusal_text (ValueTaken op holder) = codes "value-taken op=" ++ decimal op ++ codes " holder=" ++ decimal holder.0
+
+-- the number of a reason; want of memory has none
+abbrev pub reason_code : Reason → Option ℕ
+reason_code (Malformed fault) = fault_code fault
+reason_code (Refused refusal) = Some (refusal_code refusal)
+
+-- the reason word, and its details
+abbrev pub reason_text : Reason → List ℕ
+reason_text (Malformed fault) = fault_text fault
+reason_text (Refused refusal) = refusal_text refusal
+
+-- the number, where there is one
+abbrev pub code_text : Option ℕ → List ℕ
+code_text None = []
+code_text (Some code) = codes " code=" ++ decimal code
+
+-- the line of an item that is refused
+abbrev pub refused_text : ℕ → ℕ → Reason → List ℕ
+refused_text source line reason =
+    codes "refused source=" ++ decimal source ++ codes " line=" ++ decimal line ++ code_text (reason_code reason) ++ codes " reason=" ++ reason_text reason ++ line_end
+
+-- ---- reports
+
+-- a finding of this kind says that the history isn't a snapshot-isolated one, whatever else is still unknown
+abbrev pub is_violation : Kind → Bool
+is_violation (Unknown txn op read) = false
+is_violation (Doubt txn op read writer) = false
+is_violation (Own txn op read own) = true
+is_violation (Aborted txn op read writer) = true
+is_violation (Intermediate txn op read writer) = true
+is_violation (Future txn op read writer) = true
+is_violation (Stale txn op read missed) = true
+is_violation (Overlap first second) = true
+
+-- clean without findings, a violation where one of them is one, else open
+abbrev pub verdict_of : List Finding → Verdict
+verdict_of [] = Clean
+verdict_of (first ∷ others) = if list_any (λ finding. is_violation finding.kind) (first ∷ others) then Violation else Open
+
+-- the word of a verdict
+abbrev pub verdict_text : Verdict → List ℕ
+verdict_text Clean = codes "clean"
+verdict_text Open = codes "open"
+verdict_text Violation = codes "violation"
+
+-- the line of how many transactions are present, how many findings there are and how many items were refused
+abbrev pub summary_text : ℕ → ℕ → ℕ → Verdict → List ℕ
+summary_text transactions findings refused verdict =
+    codes "transactions=" ++ decimal transactions ++ codes " findings=" ++ decimal findings ++ codes " refused=" ++ decimal refused ++ codes " verdict=" ++ verdict_text verdict ++ line_end
+
+-- the findings, each in its line, and the summary
+abbrev pub report_text : List Txn → List Finding → ℕ → List ℕ
+report_text present findings refused = flat_map finding_text findings ++ summary_text (length present) (length findings) refused (verdict_of findings)

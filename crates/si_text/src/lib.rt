@@ -1,0 +1,33 @@
+//! The texts of the checker: lines in, report lines out, and the devices that carry their bytes.
+//!
+//! It carries the promise that an edit read from a line is what the line says by its definition, and that what is
+//! printed is exactly the text of its definition. It stands on `si_model` for the types, on `serde_json` for JSON and
+//! on `itoa` for numbers.
+#![tactic(auto)]
+
+pub mod devices;
+pub mod faults;
+pub mod line_buffers;
+pub mod line_items;
+mod members;
+pub mod memory;
+mod operations;
+mod pieces;
+pub mod printing;
+pub mod readings;
+pub mod reasons;
+pub mod streams;
+pub mod verdicts;
+
+pub use devices::{ByteSink, ByteSource, DeviceFailed};
+pub use faults::{Field, LineFault};
+pub use line_buffers::{InputFault, LineBuffer};
+pub use line_items::LineItem;
+pub use printing::{print_finding, print_refusal, print_report};
+pub use readings::read_edit;
+pub use reasons::Reason;
+pub use streams::{StdSink, StdSource};
+pub use verdicts::Verdict;
+
+#[cfg(test)]
+mod tests;

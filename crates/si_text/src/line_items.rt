@@ -1,0 +1,59 @@
+ghost use Rattle.std.specs.Prelude.{◌≡◌, ◌==◌, not, IfOk};
+ghost use Rattle.std.specs.List.{list_all, position, prefix_len};
+ghost use Rattle.std.specs.Option.{option_to_list};
+ghost use Rattle.si_text.specs.Inputs.{is_blank, is_line_feed, is_space, item_of};
+
+use crate::readings::MOST_LINE_BYTES;
+use crate::{LineFault, read_edit};
+use si_model::{Edit, OutOfMemory};
+use std::alloc::{AllocError, Global};
+
+/// A line that isn't blank: its number, counted from 1, and its edit or its fault, which isn't want of memory.
+pub type LineItem = (u64, Result<Edit, LineFault>);
+
+/// The item that a line is, without its line feed; a blank one is none.
+pub(crate) fn item_of(
+    alloc: Global,
+    number: u64,
+    line: &[u8],
+) -> Result<Option<LineItem>, OutOfMemory>
+    ensures { IfOk result (λ item. option_to_list item ≡ item_of number line.now) }
+{
+    if is_blank(line) {
+        return Ok(None);
+    }
+    match read_edit(alloc, line) {
+        Err(LineFault::OutOfMemory) => Err(AllocError),
+        answer => Ok(Some((number, answer))),
+    }
+}
+
+/// Whether a line has nothing but spaces, tabs and carriage returns, and not too many of them.
+#[tactic(auto, unfolding(crate::specs::Inputs::is_blank))]
+fn is_blank(line: &[u8]) -> bool
+    ensures { result ≡ is_blank line.now }
+{
+    line.len() <= MOST_LINE_BYTES && is_all_space(line)
+}
+
+fn is_all_space(bytes: &[u8]) -> bool
+    ensures { result ≡ list_all is_space bytes.now }
+{
+    bytes
+        .iter()
+        .all(|byte| matches!(*byte, b' ' | b'\t' | b'\r'))
+}
+
+/// How many bytes stand before the first line feed; all where there is none.
+#[tactic(auto, using(crate::proofs::FeedLemmas::position_or_all, crate::proofs::InputLemmas::last_items))]
+pub(crate) fn length_to_line_feed(bytes: &[u8]) -> usize
+    ensures { result ≡ prefix_len (λ byte. not (is_line_feed byte)) bytes.now }
+{
+    first_line_feed(bytes).unwrap_or(bytes.len())
+}
+
+fn first_line_feed(bytes: &[u8]) -> Option<usize>
+    ensures { result ≡ position is_line_feed bytes.now }
+{
+    bytes.iter().position(|byte| *byte == b'\n')
+}

@@ -1,0 +1,102 @@
+ghost use Rattle.std.specs.Prelude.{◌≡◌, false};
+
+use crate::devices::{ByteSink, ByteSource, DeviceFailed};
+use std::io;
+use std::io::{ErrorKind, Read, Write};
+
+/// A source over a reader of std.
+///
+/// A read that a signal interrupts is tried again.
+#[derive(Drop)]
+pub struct StdSource<R> {
+    reader: R,
+    has_failed: bool,
+}
+
+impl<R: Read> StdSource<R> {
+    /// A source of what the reader gives.
+    pub fn new(reader: R) -> Self
+        ensures left { ⟦<StdSource<R> as ByteSource>⟧.left result ≡ R.remaining reader }
+        ensures failed { ⟦<StdSource<R> as ByteSource>⟧.failed result ≡ false }
+    {
+        StdSource {
+            reader,
+            has_failed: false,
+        }
+    }
+}
+
+impl<R: Read> ByteSource for StdSource<R> {
+    ghost left = { λ source. R.remaining source.reader };
+
+    ghost failed = { λ source. source.has_failed };
+
+    fn read(&mut self, buffer: &mut [u8]) -> Result<usize, DeviceFailed> {
+        'tries: for _ in 0..u64::MAX {
+            match self.reader.read(buffer) {
+                Ok(count) => return Ok(count),
+                Err(error) => {
+                    if !is_interrupted(&error) {
+                        self.has_failed = true;
+                        return Err(DeviceFailed);
+                    }
+                }
+            }
+        }
+        self.has_failed = true;
+        Err(DeviceFailed)
+    }
+}
+
+/// A sink over a writer of std.
+///
+/// A write that a signal interrupts is tried again. A write that takes no byte has failed.
+#[derive(Drop)]
+pub struct StdSink<W> {
+    writer: W,
+    has_failed: bool,
+}
+
+impl<W: Write> StdSink<W> {
+    /// A sink to what the writer takes.
+    pub fn new(writer: W) -> Self
+        ensures written { ⟦<StdSink<W> as ByteSink>⟧.written result ≡ W.contents writer }
+        ensures failed { ⟦<StdSink<W> as ByteSink>⟧.failed result ≡ false }
+    {
+        StdSink {
+            writer,
+            has_failed: false,
+        }
+    }
+}
+
+impl<W: Write> ByteSink for StdSink<W> {
+    ghost written = { λ sink. W.contents sink.writer };
+
+    ghost failed = { λ sink. sink.has_failed };
+
+    fn write(&mut self, bytes: &[u8]) -> Result<usize, DeviceFailed> {
+        'tries: for _ in 0..u64::MAX {
+            match self.writer.write(bytes) {
+                Ok(0) => {
+                    self.has_failed = true;
+                    return Err(DeviceFailed);
+                }
+                Ok(count) => return Ok(count),
+                Err(error) => {
+                    if !is_interrupted(&error) {
+                        self.has_failed = true;
+                        return Err(DeviceFailed);
+                    }
+                }
+            }
+        }
+        self.has_failed = true;
+        Err(DeviceFailed)
+    }
+}
+
+/// Whether a signal came before anything was done.
+fn is_interrupted(error: &io::Error) -> bool {
+    error.kind() == ErrorKind::Interrupted
+}

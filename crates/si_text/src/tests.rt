@@ -1,0 +1,3 @@
+mod inputs;
+mod readings;
+mod texts;
