@@ -76,10 +76,10 @@ pub goes_on : (rules : Rules) (left written : Option (List ℕ)) (n m : ℕ) (a 
 goes_on rules left written n m a b w v p q item text way one adds text_is q_is =
     let push = map_push (sourced 0) way.done item in
     let through : progress_through rules start (from_source 0 (way.done ++ item ∷ [])) ≡ progress_after rules (progress_through rules start (from_source 0 way.done)) (sourced 0 item) =
-        ap (progress_through rules start) push ∙ progress_through-push rules start (from_source 0 way.done) (sourced 0 item) in
+    ap (progress_through rules start) push ∙ progress_through-push rules start (from_source 0 way.done) (sourced 0 item) in
     let texts : items_text rules start (from_source 0 (way.done ++ item ∷ [])) ≡ items_text rules start (from_source 0 way.done) ++ text =
-        ap (items_text rules start) push ∙ items_text-push rules start (from_source 0 way.done) (sourced 0 item)
-        ∙ ap (λ t. items_text rules start (from_source 0 way.done) ++ t) (ap (λ r. item_text rules r (sourced 0 item)) (sym way.progress) ∙ sym text_is) in
+    ap (items_text rules start) push ∙ items_text-push rules start (from_source 0 way.done) (sourced 0 item)
+    ∙ ap (λ t. items_text rules start (from_source 0 way.done) ++ t) (ap (λ r. item_text rules r (sourced 0 item)) (sym way.progress) ∙ sym text_is) in
     record {
       done = way.done ++ item ∷ [];
       read = Yields-then 0 n m left a b way.done (item ∷ []) way.read one;
@@ -99,10 +99,9 @@ told : (rules : Rules) (written w v : Option (List ℕ)) (items : List Item) (p 
     → Appends written v (output_of rules (from_source 0 items)) × (status ≡ status_of rules (from_source 0 items))
 unfolding output_of status_of
 told rules written w v items p status text wrote progress adds text_is status_is =
-    let before = items_text rules start (from_source 0 items) in
-    (
+    let before = items_text rules start (from_source 0 items) in (
       subst (λ t. Appends written v (before ++ t)) (text_is ∙ ap report_at progress) (Appends-trans written w v before text wrote adds),
-      status_is ∙ ap status_at progress
+      status_is ∙ ap status_at progress,
     )
 
 pub ends : (rules : Rules) (left written : Option (List ℕ)) (n m : ℕ) (a b w v : Option (List ℕ)) (p : Progress) (status : ExitStatus) (text : List ℕ)

@@ -7,11 +7,15 @@
 mod engines;
 pub mod faults;
 pub mod options;
+pub mod programs;
 pub mod runs;
+pub mod settings;
 pub mod statuses;
 mod writing;
 
 pub use faults::RunFault;
 pub use options::Options;
+pub use programs::main_with;
 pub use runs::run;
+pub use settings::{Settings, SettingsFault, settings_of};
 pub use statuses::ExitStatus;

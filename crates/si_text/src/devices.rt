@@ -4,7 +4,7 @@ ghost use Rattle.std.specs.Io.KnownBytes.{ReadConsumes, WriteAppends};
 
 use thiserror::Error;
 
-/// A device failed: a read gave no byte, or a write took none, and it isn't known what became of the rest.
+/// A device failed: the read gave no byte, or the write took none.
 #[derive(Clone, Copy, Debug, PartialEq, Eq, Error)]
 #[error("the device failed")]
 pub struct DeviceFailed;

@@ -33,8 +33,8 @@ items-preserved g c =
     let item = c.in-Some.item in
     let one = rw c.in-Some.is at c.in_ok-item.ensures.items in
     let text_is : c.deref-in-items.result.now ≡ item_text rules p (sourced 0 item) =
-        c.deref-in-items.ensures.value ∙ c.in_ok-decide.ensures.text ∙ ap (λ (l : List ℕ). l ++ item_text (rules_of c.items.engine) p (sourced 0 item)) c.clear.ensures.items
-        ∙ ap (λ (r : Rules). item_text r p (sourced 0 item)) at.rules in
+    c.deref-in-items.ensures.value ∙ c.in_ok-decide.ensures.text ∙ ap (λ (l : List ℕ). l ++ item_text (rules_of c.items.engine) p (sourced 0 item)) c.clear.ensures.items
+    ∙ ap (λ (r : Rules). item_text r p (sourced 0 item)) at.rules in
     let progress_is : q ≡ progress_after rules p (sourced 0 item) = c.in_ok-decide.ensures.progress ∙ ap (λ (r : Rules). progress_after r p (sourced 0 item)) at.rules in
     record {
       way = goes_on rules (left c.args.source.now) (written c.args.writer.now) c.items.lines.lines c.next_item.new.self.lines
@@ -70,9 +70,11 @@ returns-clause-fault g c =
     let left = g.S.ByteSource.left c.args.source.now in
     let at = c.items.invariant in
     let turned = at.turns in
-    let most : 2 ^ 64 - 1 ≤ (progress_of c.items.engine).decided = omega arith in
-    (refl, inr (many_items (record { limit = c.args.options.limit; every = c.args.options.every }) left (g.W.ByteSink.written c.args.writer.now) c.items.lines.lines
-    (bytes_to_come c.items.lines (g.S.ByteSource.left c.items.source)) (g.W.ByteSink.written c.items.writer) (progress_of c.items.engine) at.way most))
+    let most : 2 ^ 64 - 1 ≤ (progress_of c.items.engine).decided = omega arith in (
+      refl,
+      inr (many_items (record { limit = c.args.options.limit; every = c.args.options.every }) left (g.W.ByteSink.written c.args.writer.now) c.items.lines.lines
+          (bytes_to_come c.items.lines (g.S.ByteSource.left c.items.source)) (g.W.ByteSink.written c.items.writer) (progress_of c.items.engine) at.way most),
+    )
 
 pub returns-in_err-item-clause-fault : goal.returns-in_err-item-clause-fault
 returns-in_err-item-clause-fault g c =
@@ -81,9 +83,9 @@ returns-in_err-item-clause-fault g c =
     let counts = CountsBytes-then at.counts.0 c.items.lines c.next_item.new.self (left c.args.source.now) (left c.items.source) (left c.next_item.new.source) at.counts.2 c.next_item.ensures.counts in
     let failed = g.S.ByteSource.failed c.next_item.new.source in
     let device : c.in_err-item.field-0.0 ≡ input.DeviceFailed → (failed ≡ true) ⊎ MayBeTooLong (left c.args.source.now) =
-        λ is. elim (c.in_err-item.ensures.device is) [
-          | inl f ↦ inl f
-          | inr spent ↦ inr (spends at.counts.0 c.next_item.new.self (left c.args.source.now) (left c.next_item.new.source) at.counts.1 counts spent)
-        ] in
+    λ is. elim (c.in_err-item.ensures.device is) [
+      | inl f ↦ inl f
+      | inr spent ↦ inr (spends at.counts.0 c.next_item.new.self (left c.args.source.now) (left c.next_item.new.source) at.counts.1 counts spent)
+    ] in
     let p = err_from_is_err_and c.from_residual-in_err-item.result c.from_residual-in_err-item.ensures.1 in
     rw (p.1, p.2) (input_fault (left c.args.source.now) failed (g.W.ByteSink.failed c.items.writer) c.in_err-item.field-0.0 device)

@@ -1,0 +1,77 @@
+ghost use Rattle.std.specs.Prelude.{◌≡◌, false};
+ghost use Rattle.si_cli.specs.Programs.{IsProgramStatus};
+
+use crate::settings::{SettingsFault, settings_of};
+use crate::writing::write_all;
+use crate::{RunFault, run};
+use clap::error::ErrorKind;
+use si_text::{ByteSink, ByteSource};
+use std::alloc::{AllocError, Global};
+use std::convert::AsStr;
+
+/// The exit status of a run that couldn't be made.
+const FAULTY: u8 = 2;
+
+/// The whole program: it reads a command line, of which the first word is the program's name, checks the input, and
+/// answers the exit status. Help goes to `out`, and what went wrong to `err`, whose own failure changes nothing.
+pub fn main_with<S: AsStr, I: ByteSource, O: ByteSink, E: ByteSink>(
+    alloc: Global,
+    words: &[S],
+    input: &mut I,
+    out: &mut O,
+    err: &mut E,
+) -> u8
+    requires input { I.failed input.old ≡ false }
+    requires out { O.failed out.old ≡ false }
+    ensures { IsProgramStatus result }
+{
+    match settings_of(alloc, words) {
+        Ok(settings) => match run(alloc, input, out, settings.options) {
+            Ok(status) => status.code(),
+            Err(fault) => tell_fault(alloc, err, fault),
+        },
+        Err(SettingsFault::Line(error)) => tell_line(alloc, out, err, &error),
+    }
+}
+
+/// Tells why a run didn't come to its end.
+fn tell_fault<E: ByteSink>(alloc: Global, err: &mut E, fault: RunFault) -> u8
+    ensures { result ≡ 2 }
+{
+    match format!(in alloc; "sicheck: {fault}\n") {
+        Ok(text) => tell(err, text.as_bytes()),
+        Err(AllocError) => tell(err, b"sicheck: out of memory\n"),
+    }
+}
+
+/// Tells what `clap` says of a command line: help on `out`, and a mistake on `err`.
+fn tell_line<O: ByteSink, E: ByteSink>(
+    alloc: Global,
+    out: &mut O,
+    err: &mut E,
+    error: &clap::Error,
+) -> u8
+    ensures { IsProgramStatus result }
+{
+    if error.kind() == ErrorKind::OutOfMemory {
+        return tell(err, b"sicheck: out of memory\n");
+    }
+    let Ok(text) = format!(in alloc; "{error}") else {
+        return tell(err, b"sicheck: out of memory\n");
+    };
+    if error.use_stderr() {
+        return tell(err, text.as_bytes());
+    }
+    match write_all(out, text.as_bytes()) {
+        Ok(()) => 0,
+        Err(_) => tell(err, b"sicheck: cannot write\n"),
+    }
+}
+
+/// Writes a text to `err`, and answers the status of what went wrong.
+fn tell<E: ByteSink>(err: &mut E, text: &[u8]) -> u8
+    ensures { result ≡ 2 }
+{
+    let _ = write_all(err, text);
+    FAULTY
+}
