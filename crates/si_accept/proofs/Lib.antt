@@ -1,1 +1,12 @@
 pub mod Empty
+pub mod Pairs
+pub mod KeyPlaces
+pub mod WriterLemmas
+pub mod Exact
+pub mod Found
+pub mod SlotLemmas
+pub mod PlaceLemmas
+pub mod TwiceLemmas
+pub mod IndexLemmas
+pub mod IndexChanges
+pub mod ArrivalLemmas

@@ -5,9 +5,7 @@ ghost use Rattle.si_model.specs.Journals.{present, IsAccepted, refusal_after};
 ghost use Rattle.si_accept.specs.Faults.{IsFaultOf};
 
 use crate::AcceptFault;
-use crate::changes::change;
-use crate::holders::with_id;
-use crate::reasons::refusal_on;
+use crate::present::Present;
 use si_model::laws::{accepted_grows, present_grows};
 use si_model::{Edit, Number, OutOfMemory, Refusal, Txn, TxnId};
 use std::alloc::Global;
@@ -21,12 +19,11 @@ pub const MOST_EDITS: usize = 16_777_216;
 /// Contracts see the limit and the journal. What is present follows from the journal.
 #[derive(Drop)]
 pub struct Book {
-    alloc: Global,
     // How many edits the journal may have.
     limit: usize,
     journal: Vec<Edit>,
-    // What is present after the journal, in the order of arrival.
-    transactions: Vec<Txn>,
+    // What is present after the journal.
+    present: Present,
 }
 
 impl Model for Book {
@@ -36,7 +33,7 @@ impl Model for Book {
 
     ghost view = { λ b. record { limit = b.limit; journal = b.journal.items } };
 
-    ghost invariant = { λ b. IsBook b.limit b.journal.items b.transactions.items };
+    ghost invariant = { λ b. IsBook b.limit b.journal.items b.present };
 }
 
 impl Book {
@@ -47,10 +44,9 @@ impl Book {
         ensures { result ≡ record { limit = limit; journal = [] } }
     {
         Book {
-            alloc,
             limit,
             journal: Vec::new(alloc),
-            transactions: Vec::new(alloc),
+            present: Present::new(alloc),
         }
     }
 
@@ -75,7 +71,7 @@ impl Book {
         // All that can fail comes before the journal changes.
         let recorded = edit.try_clone()?;
         self.journal.reserve(1)?;
-        change(&mut self.transactions, edit)?;
+        self.present.apply(edit)?;
         self.journal.push(recorded).unwrap();
         present_grows();
         accepted_grows();
@@ -92,34 +88,21 @@ impl Book {
         if self.limit <= self.journal.len() {
             return Some(Refusal::Full);
         }
-        refusal_on(&self.transactions, edit)
+        self.present.refusal(edit)
     }
 
     /// Copies of the present transactions, in the order of arrival, which share the operations.
     pub fn present(&self) -> Result<Vec<Txn>, OutOfMemory>
         ensures { IfOk result (λ txns. txns.items ≡ present self.now.journal) }
     {
-        let mut copies = Vec::with_capacity(self.alloc, self.transactions.len())?;
-        for txn in &self.transactions {
-            copies.push(txn.try_clone()?)?;
-        }
-        Ok(copies)
-    }
-
-    /// The present transactions, in the order of arrival.
-    ///
-    /// A book that doesn't keep them in one list couldn't give them so: `present` and `get` say the same.
-    pub fn transactions(&self) -> &[Txn]
-        ensures { result.now ≡ present self.now.journal }
-    {
-        &self.transactions
+        self.present.to_vec()
     }
 
     /// The present transaction with that id.
     pub fn get(&self, id: TxnId) -> Option<&Txn>
         ensures { option_copied result ≡ with_id (present self.now.journal) id }
     {
-        with_id(&self.transactions, id)
+        self.present.get(id)
     }
 
     /// The accepted edits, in the order of their numbers.
@@ -135,14 +118,14 @@ impl Book {
     pub fn len(&self) -> usize
         ensures { result ≡ length (present self.now.journal) }
     {
-        self.transactions.len()
+        self.present.len()
     }
 
     /// Whether no transaction is present.
     pub fn is_empty(&self) -> bool
         ensures { IsTrue result ↔ (present self.now.journal ≡ []) }
     {
-        self.transactions.is_empty()
+        self.len() == 0
     }
 
     /// How many edits the journal may have.
@@ -154,3 +137,6 @@ impl Book {
         self.limit
     }
 }
+
+#[cfg(test)]
+mod tests;

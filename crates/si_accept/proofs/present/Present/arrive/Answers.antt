@@ -1,0 +1,25 @@
+use Rattle.std.proofs.Common.{◌∙◌, ◌≡◌, ◌++◌, ◌∷◌, [], ap, sym, subst, None}
+use Rattle.si_model.specs.Edits.{arrival_refusal, taken_at}
+use Rattle.si_accept.specs.Indexes.{LacksTxn}
+use Rattle.si_accept.proofs.ArrivalLemmas.{lacks_arrival, id_of_arrival}
+use Rattle.si_accept.proofs.IndexChanges.{indexed_arrived, indexed_undone}
+use Rattle.si_accept.proofs.present.Present.arrive.Goals as goal
+
+pub add-requires : goal.add-requires
+add-requires c =
+    let txns = c.self.inside.txns in
+    lacks_arrival txns c.self.inside.index c.args.txn c.self.invariant (ap (λ P. arrival_refusal P c.args.txn) c.self.view_is ∙ c.requires) (c.first_is_first.ensures (taken_at txns) c.args.txn.ops)
+
+pub invariant_of-self-in-Err : goal.invariant_of-self-in-Err
+invariant_of-self-in-Err c =
+    let txns = c.self.inside.txns in
+    let lacks = lacks_arrival txns c.self.inside.index c.args.txn c.self.invariant (ap (λ P. arrival_refusal P c.args.txn) c.self.view_is ∙ c.requires) (c.first_is_first.ensures (taken_at txns) c.args.txn.ops) in
+    rw c.in-Err.ensures.err (indexed_undone txns c.self.inside.index c.add.new.self c.remove.new.self c.args.txn c.self.invariant lacks c.in_ok-add.ensures.ok c.remove.ensures)
+
+pub invariant_of-self-in-Ok : goal.invariant_of-self-in-Ok
+invariant_of-self-in-Ok c =
+    let txns = c.self.inside.txns in
+    let free = ap (λ P. arrival_refusal P c.args.txn) c.self.view_is ∙ c.requires in
+    let lacks = lacks_arrival txns c.self.inside.index c.args.txn c.self.invariant free (c.first_is_first.ensures (taken_at txns) c.args.txn.ops) in
+    let now = c.in-Ok.ensures.ok ∙ ap (λ T. txns ++ T ∷ []) c.in_ok-arriving.ensures in
+    rw now (indexed_arrived txns c.self.inside.index c.add.new.self c.args.txn c.self.invariant (id_of_arrival txns c.args.txn free) lacks c.in_ok-add.ensures.ok)

@@ -1,0 +1,13 @@
+use Rattle.std.proofs.Common.{◌≡◌, drop, take, Some, None, cond}
+use Rattle.std.specs.List.{list_any}
+use Rattle.si_model.specs.declared.operations.Op.{Op}
+use Rattle.si_model.specs.Edits.{first_at, twice_at, same_write}
+use Rattle.si_accept.specs.Writers.{writer_of}
+use Rattle.si_accept.proofs.TwiceLemmas.{IsSeen}
+use Rattle.si_accept.proofs.twice.indexed_refusal.Given as goal
+
+abbrev pub invariant-loop-place : goal.invariant-loop-place
+invariant-loop-place l = record {
+  seen : IsSeen (take l.place l.ops) l.seen;
+  rest : first_at (twice_at l.ops) l.place (drop l.place l.ops) ≡ first_at (twice_at l.ops) 0 l.ops;
+}

@@ -1,0 +1,50 @@
+//! Numbers for keys, so that an index by keys needs no copy of a key for a look-up, and its entries are small.
+
+ghost use Rattle.std.specs.Prelude.{◌≡◌, [], Some, IfOk, OnOk, OnErr};
+ghost use Rattle.si_accept.specs.KeyNumbers.{number_of, with_key};
+
+use indexmap::IndexSet;
+use si_model::{Key, OutOfMemory};
+use std::alloc::Global;
+use std::marker::Model;
+
+/// Keys with numbers in the order in which they were first seen, from 0. A key keeps its number.
+#[derive(Drop)]
+pub struct KeyNumbers {
+    keys: IndexSet<Key>,
+}
+
+impl Model for KeyNumbers {
+    ghost use Rattle.std.specs.Prelude.{List, ℕ};
+
+    ghost Value = { List (List ℕ) };
+
+    ghost view = { λ k. k.keys.keys };
+}
+
+impl KeyNumbers {
+    pub fn new(alloc: Global) -> Self
+        ensures { result ≡ [] }
+    {
+        KeyNumbers {
+            keys: IndexSet::new(alloc),
+        }
+    }
+
+    /// The number of the key, if it has one.
+    pub fn number(&self, key: &Key) -> Option<usize>
+        ensures { result ≡ number_of self.now key.now }
+    {
+        self.keys.get_index_of(key)
+    }
+
+    /// The number of the key, which gets one if it has none.
+    pub fn add(&mut self, key: &Key) -> Result<usize, OutOfMemory>
+        ensures number { IfOk result (λ number. number_of self.new key.now ≡ Some number) }
+        ensures ok { OnOk result (self.new ≡ with_key self.old key.now) }
+        ensures err { OnErr result (self.new ≡ self.old) }
+    {
+        let (number, _is_new) = self.keys.insert_full(key.try_clone()?)?;
+        Ok(number)
+    }
+}

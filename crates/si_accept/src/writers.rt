@@ -1,0 +1,99 @@
+//! An index of written pairs: who writes which pair of key and value.
+
+ghost use Rattle.std.specs.Prelude.{◌≡◌, Some, None, OnOk, OnErr};
+ghost use Rattle.si_accept.specs.Writers.{writer_of, SetsWriter, SetsWriters, SameWriters, AreFree};
+
+use crate::key_numbers::KeyNumbers;
+use si_model::{Op, OutOfMemory, TxnId};
+use std::alloc::Global;
+use std::collections::HashMap;
+use std::marker::Model;
+
+/// Pairs of key and value with the transactions that write them. Contracts see who writes what an operation writes.
+#[derive(Drop)]
+pub struct Writers {
+    keys: KeyNumbers,
+    // From a key's number and a value to the writer.
+    ids: HashMap<(usize, u64), TxnId>,
+}
+
+impl Model for Writers {
+    ghost use Rattle.si_accept.specs.Writers.{Written, AreNumbered};
+
+    ghost Value = { Written };
+
+    ghost view = { λ w. record { keys = w.keys; ids = w.ids.entries } };
+
+    ghost invariant = { λ w. AreNumbered (record { keys = w.keys; ids = w.ids.entries }) };
+}
+
+impl Writers {
+    pub fn new(alloc: Global) -> Self
+        ensures { (op : Op) → writer_of result op ≡ None }
+    {
+        Writers {
+            keys: KeyNumbers::new(alloc),
+            ids: HashMap::new(alloc),
+        }
+    }
+
+    /// The writer of the pair that the operation writes.
+    pub fn writer(&self, op: &Op) -> Option<TxnId>
+        ensures { result ≡ writer_of self.now op.now }
+    {
+        match op {
+            Op::Read(_, _) => None,
+            Op::Write(key, value) => {
+                let number = self.keys.number(key)?;
+                self.ids.get(&(number, value.0)).copied()
+            }
+        }
+    }
+
+    /// The transaction writes the pair that the operation writes, from now on.
+    pub fn add(&mut self, op: &Op, id: TxnId) -> Result<(), OutOfMemory>
+        ensures ok { OnOk result (SetsWriter op.now (Some id) self.old self.new) }
+        ensures err { OnErr result (SameWriters self.old self.new) }
+    {
+        if let Op::Write(key, value) = op {
+            let number = self.keys.add(key)?;
+            self.ids.insert((number, value.0), id)?;
+        }
+        Ok(())
+    }
+
+    /// No transaction writes the pair that the operation writes, from now on.
+    pub fn remove(&mut self, op: &Op)
+        ensures { SetsWriter op.now None self.old self.new }
+    {
+        if let Op::Write(key, value) = op {
+            if let Some(number) = self.keys.number(key) {
+                let _former = self.ids.remove(&(number, value.0));
+            }
+        }
+    }
+
+    /// The transaction writes the pairs that the operations write, from now on. None of them may have a writer.
+    pub fn add_all(&mut self, ops: &[Op], id: TxnId) -> Result<(), OutOfMemory>
+        requires { AreFree ops.now self.old }
+        ensures ok { OnOk result (SetsWriters ops.now (Some id) self.old self.new) }
+        ensures err { OnErr result (SameWriters self.old self.new) }
+    {
+        for (place, op) in ops.iter().enumerate() {
+            if let Err(refused) = self.add(op, id) {
+                self.remove_all(&ops[..place]);
+                return Err(refused);
+            }
+        }
+        Ok(())
+    }
+
+    /// No transaction writes the pairs that the operations write, from now on.
+    pub fn remove_all(&mut self, ops: &[Op])
+        ensures { SetsWriters ops.now None self.old self.new }
+    {
+        for op in ops {
+            self.remove(op);
+        }
+    }
+}

@@ -1,0 +1,48 @@
+//! What runs and the whole program write, and how they end.
+
+mod programs;
+mod rows;
+
+use crate::{ExitStatus, Options, run};
+use si_text::memory::{MemorySink, MemorySource};
+use std::alloc::Global;
+use std::process::Abort;
+use std::test::Fail;
+
+/// A run over the input, which gives and takes so many bytes at once, writes the output and has that status.
+fn check_text(
+    rt: &impl Abort,
+    alloc: Global,
+    piece: usize,
+    every: Option<u64>,
+    input: &str,
+    output: &str,
+    status: ExitStatus,
+) -> Result<(), Fail> {
+    assert!(rt; 1 <= piece);
+    let mut source = MemorySource::new(Vec::from_slice(alloc, input.as_bytes())?, piece);
+    let mut sink = MemorySink::new(alloc, piece);
+    let options = Options {
+        shards: 4,
+        every,
+        explain: false,
+        limit: 16_777_216,
+    };
+    let ended = run(alloc, &mut source, &mut sink, options).ok();
+    assert_eq!(rt; ended, Some(status));
+    assert_eq!(rt; sink.as_slice(), output.as_bytes());
+    Ok(())
+}
+
+/// The same, by bytes one at a time and all at once.
+fn check(
+    rt: &impl Abort,
+    alloc: Global,
+    every: Option<u64>,
+    input: &str,
+    output: &str,
+    status: ExitStatus,
+) -> Result<(), Fail> {
+    check_text(rt, alloc, 1, every, input, output, status)?;
+    check_text(rt, alloc, 65536, every, input, output, status)
+}

@@ -1,0 +1,114 @@
+//! Command lines, and devices that fail.
+
+use crate::{ExitStatus, Options, RunFault, main_with, run, settings_of};
+use si_text::memory::{FailingSink, FailingSource, MemorySink, MemorySource};
+use std::alloc::Global;
+use std::process::Abort;
+use std::test::Fail;
+
+const LOST_UPDATE: &str =
+    "{\"do\":\"txn\",\"id\":1,\"start\":1,\"status\":\"committed\",\"commit\":5,\"ops\":[[\"r\",\"x\",null],[\"w\",\"x\",1]]}\n{\"do\":\"txn\",\"id\":2,\"start\":2,\"status\":\"committed\",\"commit\":6,\"ops\":[[\"r\",\"x\",null],[\"w\",\"x\",2]]}";
+
+const OPTIONS: Options = Options {
+    shards: 4,
+    every: None,
+    explain: false,
+    limit: 16_777_216,
+};
+
+fn source(alloc: Global) -> Result<MemorySource, Fail> {
+    Ok(MemorySource::new(Vec::from_slice(alloc, LOST_UPDATE.as_bytes())?, 4096))
+}
+
+/// The program on these words ends with the status, and writes to both devices only where that is said.
+fn ends(
+    rt: &impl Abort,
+    alloc: Global,
+    words: &[&str],
+    status: u8,
+    writes: bool,
+    complains: bool,
+) -> Result<(), Fail> {
+    let mut input = source(alloc)?;
+    let mut out = MemorySink::new(alloc, 4096);
+    let mut err = MemorySink::new(alloc, 4096);
+    assert_eq!(rt;
+        main_with(alloc, words, &mut input, &mut out, &mut err),
+        status
+    );
+    assert_eq!(rt; !out.as_slice().is_empty(), writes);
+    assert_eq!(rt; !err.as_slice().is_empty(), complains);
+    Ok(())
+}
+
+#[test]
+fn command_lines(rt: HostRuntime) -> Result<(), Fail> {
+    let alloc = rt.alloc();
+    ends(&rt, alloc, &["sicheck", "check"], 20, true, false)?;
+    ends(&rt, alloc, &["sicheck", "--help"], 0, true, false)?;
+    ends(&rt, alloc, &["sicheck"], 2, false, true)?;
+    ends(&rt, alloc, &["sicheck", "look"], 2, false, true)?;
+    ends(&rt, alloc, &["sicheck", "check", "FILE"], 2, false, true)?;
+    ends(
+        &rt,
+        alloc,
+        &["sicheck", "check", "--unknown"],
+        2,
+        false,
+        true,
+    )?;
+    assert!(rt; settings_of(alloc, ["sicheck", "check"].as_slice()).is_ok());
+    Ok(())
+}
+
+#[test]
+fn statuses(rt: HostRuntime) {
+    assert_eq!(rt; ExitStatus::Clean.code(), 0);
+    assert_eq!(rt; ExitStatus::Open.code(), 10);
+    assert_eq!(rt; ExitStatus::Violation.code(), 20);
+}
+
+#[test]
+fn failing_devices(rt: HostRuntime) -> Result<(), Fail> {
+    let alloc = rt.alloc();
+    let mut input = FailingSource::new(source(alloc)?, 0);
+    let mut out = MemorySink::new(alloc, 4096);
+    assert_eq!(rt;
+        run(alloc, &mut input, &mut out, OPTIONS).err(),
+        Some(RunFault::Input(0))
+    );
+    assert!(rt; out.as_slice().is_empty());
+    let mut input = source(alloc)?;
+    let mut out = FailingSink::new(MemorySink::new(alloc, 4096), 0);
+    assert_eq!(rt;
+        run(alloc, &mut input, &mut out, OPTIONS).err(),
+        Some(RunFault::Output)
+    );
+    Ok(())
+}
+
+#[test]
+fn faults_in_words(rt: HostRuntime) -> Result<(), Fail> {
+    let alloc = rt.alloc();
+    let mut input = FailingSource::new(source(alloc)?, 0);
+    let mut out = MemorySink::new(alloc, 4096);
+    let mut err = MemorySink::new(alloc, 4096);
+    let words = ["sicheck", "check"];
+    assert_eq!(rt;
+        main_with(alloc, words.as_slice(), &mut input, &mut out, &mut err),
+        2
+    );
+    assert_eq!(rt;
+        err.as_slice(),
+        b"sicheck: cannot read source 0\n".as_slice()
+    );
+    let mut input = source(alloc)?;
+    let mut out = FailingSink::new(MemorySink::new(alloc, 4096), 0);
+    let mut err = MemorySink::new(alloc, 4096);
+    assert_eq!(rt;
+        main_with(alloc, words.as_slice(), &mut input, &mut out, &mut err),
+        2
+    );
+    assert_eq!(rt; err.as_slice(), b"sicheck: cannot write\n".as_slice());
+    Ok(())
+}
