@@ -1,4 +1,6 @@
-ghost use Rattle.std.specs.Prelude.{◌≡◌, IfOk, None, false};
+ghost use Rattle.std.specs.Prelude.{◌≡◌, IfOk, map, false};
+ghost use Rattle.clap.specs.Words.{FailsBy, app_of, fault_of};
+ghost use Rattle.si_cli.specs.CommandLines.{IsToldBy, sicheck_app};
 ghost use Rattle.si_cli.specs.Settings.{plain_options};
 
 use crate::Options;
@@ -54,9 +56,11 @@ impl std::error::Error for SettingsFault {}
 
 /// What the words of a command line ask for, of which the first is the program's name.
 ///
-/// They are `sicheck check`, with no further word: options come later.
+/// They are `sicheck check`, with no further word: options come later. A fault is one that `clap` tells of the words,
+/// or want of memory.
 pub fn settings_of<'a, S: AsStr>(alloc: Global, words: &'a [S]) -> Result<Settings, SettingsFault>
     ensures options { IfOk result (λ settings. settings.options ≡ plain_options) }
+    ensures line { IsToldBy (fault_of sicheck_app (map S.text words.entry.now)) result }
 {
     match parse(alloc, words) {
         Ok(()) => Ok(Settings {
@@ -71,19 +75,25 @@ pub fn settings_of<'a, S: AsStr>(alloc: Global, words: &'a [S]) -> Result<Settin
     }
 }
 
-fn parse<'a, S: AsStr>(alloc: Global, words: &'a [S]) -> Result<(), clap::Error> {
-    let _matches = command(alloc)?.try_get_matches_from(words)?;
+/// Whether the words are a command line of the program: the fault is that of `clap`'s definition, or want of memory.
+fn parse<'a, S: AsStr>(alloc: Global, words: &'a [S]) -> Result<(), clap::Error>
+    ensures { FailsBy (fault_of sicheck_app (map S.text words.entry.now)) result }
+{
+    let command = command(alloc)?;
+    let _matches = command.try_get_matches_from(words)?;
     Ok(())
 }
 
-/// The program's command line.
-fn command<'a>(alloc: Global) -> Result<Command<'a>, AllocError> {
+/// The program's command line: its one subcommand has to be given, and takes no further word.
+fn command<'a>(alloc: Global) -> Result<Command<'a>, AllocError>
+    ensures { IfOk result (λ command. app_of command ≡ sicheck_app) }
+{
     let check = Command::new(alloc, "check")
         .about("Checks the history on standard input")
         .after_help(INPUT);
-    Command::new(alloc, "sicheck")
+    let top = Command::new(alloc, "sicheck")
         .about(ABOUT)
         .after_help(INPUT)
-        .subcommand_required(true)
-        .subcommand(check)
+        .subcommand_required(true);
+    top.subcommand(check)
 }

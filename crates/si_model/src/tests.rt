@@ -3,6 +3,7 @@
 use super::*;
 use crate::Kind::*;
 use std::alloc::{AllocGlobal, Global};
+use std::collections::{BTreeMap, HashMap};
 use std::process::Abort;
 use std::test::Fail;
 
@@ -510,5 +511,33 @@ fn copies_are_equal(rt: HostRuntime) -> Result<(), Fail> {
     };
     assert_eq!(rt; finding.try_clone()?, finding);
     assert_eq!(rt; Outcome::Aborted.status(), ABORTED);
+    Ok(())
+}
+
+/// Whether threads may share it is asked when this is compiled.
+fn is_shared<T: Send + Sync>(_value: &T) {}
+
+#[test]
+fn threads_may_share_what_they_will_hold(rt: HostRuntime) -> Result<(), Fail> {
+    let alloc = rt.alloc();
+    is_shared(&txn(&rt, alloc, &(1, 2, committed(3), &[W("y", 4)]))?);
+    is_shared(&Edit::Withdraw(TxnId(1)));
+    is_shared(&findings_of(alloc, &[])?);
+    Ok(())
+}
+
+#[test]
+fn keys_stand_in_maps(rt: HostRuntime) -> Result<(), Fail> {
+    let alloc = rt.alloc();
+    let mut by_hash = HashMap::new(alloc);
+    let mut by_order = BTreeMap::new(alloc);
+    for (text, place) in [("b", 1), ("a", 2), ("b", 3)] {
+        by_hash.insert(key(&rt, alloc, text)?, place)?;
+        by_order.insert(Key::from_string(String::from_str(alloc, text)?)?, place)?;
+    }
+    let b = key(&rt, alloc, "b")?;
+    assert_eq!(rt; by_hash.get(&b).copied(), Some(3));
+    assert_eq!(rt; by_order.get(&b).copied(), Some(3));
+    assert_eq!(rt; by_order.first_key_value().map(|entry| *entry.1), Some(2));
     Ok(())
 }
