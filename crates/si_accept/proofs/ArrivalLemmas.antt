@@ -1,6 +1,6 @@
 -- An arrival that nothing stands against is new to the indexes.
-use Rattle.std.proofs.Common.{◌≡◌, ℕ, Bool, true, false, ◌&&◌, ◌||◌, nat_eq, List, [], ◌∷◌, Option, Some, None, zero, suc, refl, sym, ap, subst, ◌∙◌, cond, eqb-true, slice_get}
-use Rattle.std.specs.List.{Contains, list_any}
+use Rattle.std.proofs.Common.{◌≡◌, ℕ, Bool, true, false, ◌&&◌, ◌||◌, List, [], ◌∷◌, Option, Some, None, suc, refl, sym, ap, subst, ◌∙◌, cond, eqb-true, slice_get}
+use Rattle.std.specs.List.{list_any}
 use Rattle.std.specs.Option.{option_or, option_map, is_some}
 use Rattle.si_model.specs.declared.numbers.Stamp.{Stamp}
 use Rattle.si_model.specs.declared.numbers.TxnId.{TxnId}
@@ -12,7 +12,7 @@ use Rattle.si_model.specs.declared.refusals.Refusal.TheVariants as refusal
 use Rattle.si_model.specs.Parts.{same_key}
 use Rattle.si_model.specs.Versions.{commit_of, same_value}
 use Rattle.si_model.specs.Edits.{same_write, with_id, order_refusal, start_refusal, commit_refusal, first_at, twice_at, taken_at, IsFirst, arrival_refusal}
-use Rattle.si_model.proofs.Histories.{key_is}
+use Rattle.si_accept.proofs.Elements.{key_is}
 use Rattle.si_accept.specs.Stamps.{has}
 use Rattle.si_accept.specs.Writers.{writer_of, AreFree}
 use Rattle.si_accept.specs.Indexes.{Indexes, AreIndexes, LacksCommit, LacksTxn}

@@ -1,7 +1,5 @@
 -- The journal without edits.
-use Rattle.std.proofs.Common.{◌≡◌, [], ◌∷◌, ◌++◌, List, refl}
-use Rattle.si_model.specs.declared.edits.Edit.{Edit}
-use Rattle.si_model.specs.declared.transactions.Txn.{Txn}
+use Rattle.std.proofs.Common.{◌≡◌, [], ◌∷◌, refl}
 use Rattle.si_model.specs.Journals.{present, IsAccepted}
 
 pub present_empty : present [] ≡ []

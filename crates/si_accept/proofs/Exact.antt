@@ -1,12 +1,10 @@
 -- What an index says stays exact when a transaction arrives, is withdrawn or changes.
-use Rattle.std.proofs.Common.{◌≡◌, ◌⊎◌, inl, inr, ◌↔◌, Bool, true, false, not, List, [], ◌∷◌, ◌++◌, map, refl, sym, ap, subst, ◌∙◌, eqb, eq-eqb, eqb-true}
+use Rattle.std.proofs.Common.{◌≡◌, ◌⊎◌, inl, inr, ◌↔◌, true, false, not, List, [], ◌∷◌, ◌++◌, map, refl, sym, ap, subst, ◌∙◌, eqb, eq-eqb, eqb-true}
 use Rattle.std.specs.List.{Contains, filter}
 use Rattle.std.proofs.lemmas.List.Elements.{Contains-append_left, Contains-append_right, Contains-append_cases}
-use Rattle.si_model.specs.declared.numbers.TxnId.{TxnId}
-use Rattle.si_model.specs.declared.transactions.Outcome.{Outcome}
 use Rattle.si_model.specs.declared.transactions.Txn.{Txn}
-use Rattle.si_model.specs.Edits.{same_id, resolved}
-use Rattle.si_model.proofs.Members.{Contains-nil, here, Contains-cons_cases, Contains-map, Contains-from_map, Contains-filter, Contains-from_filter}
+use Rattle.si_model.specs.Edits.{same_id}
+use Rattle.si_accept.proofs.Elements.{Contains-nil, here, Contains-cons_cases, Contains-map, Contains-from_map, Contains-filter, Contains-from_filter}
 use Rattle.si_accept.specs.Indexes.{IsExact}
 
 only : (T A : Txn) → Contains (T ∷ []) A → T ≡ A

@@ -1,7 +1,7 @@
 -- What a search finds.
-use Rattle.std.proofs.Common.{◌≡◌, inl, inr, Bool, true, false, List, [], ◌∷◌, Option, Some, None, refl, ap, subst, sym, ◌∙◌, cond}
+use Rattle.std.proofs.Common.{◌≡◌, inl, inr, Bool, true, false, List, [], ◌∷◌, Some, None, refl, ap, subst, cond}
 use Rattle.std.specs.List.{Contains, find}
-use Rattle.si_model.proofs.Members.{Contains-nil, here, there, Contains-cons_cases}
+use Rattle.si_accept.proofs.Elements.{Contains-nil, here, there, Contains-cons_cases}
 
 module _ {X : Type 0} (p : X → Bool) where
   pub found : (xs : List X) (x : X) → find p xs ≡ Some x → Contains xs x × (p x ≡ true)

@@ -1,12 +1,11 @@
 -- The indexes stay exact when a transaction arrives, is withdrawn or is resolved.
-use Rattle.std.proofs.Common.{◌≡◌, ◌⊎◌, inl, inr, ◌↔◌, ℕ, Bool, true, false, not, ◌&&◌, ◌||◌, nat_eq, List, [], ◌∷◌, ◌++◌, map, Option, Some, None, refl, sym, ap, subst, ◌∙◌, cond, eqb, eqb-true, eq-eqb, slice_get}
-use Rattle.std.specs.List.{Contains, filter, find, list_any}
-use Rattle.std.specs.Option.{option_or, is_some}
+use Rattle.std.proofs.Common.{◌≡◌, ◌⊎◌, inl, inr, ◌↔◌, ℕ, Bool, true, false, not, ◌&&◌, nat_eq, List, [], ◌∷◌, ◌++◌, map, Option, Some, None, refl, sym, ap, subst, ◌∙◌, cond, eqb-true, eq-eqb}
+use Rattle.std.specs.List.{Contains, filter, list_any}
+use Rattle.std.specs.Option.{option_or}
 use Rattle.std.proofs.lemmas.Bool.{eqb-false}
 use Rattle.si_model.specs.declared.numbers.Stamp.{Stamp}
 use Rattle.si_model.specs.declared.numbers.TxnId.{TxnId}
 use Rattle.si_model.specs.declared.operations.Op.{Op}
-use Rattle.si_model.specs.declared.operations.Op.TheVariants as op
 use Rattle.si_model.specs.declared.transactions.Status.{Status}
 use Rattle.si_model.specs.declared.transactions.Status.TheVariants as status
 use Rattle.si_model.specs.declared.transactions.Outcome.{Outcome}
@@ -15,11 +14,11 @@ use Rattle.si_model.specs.declared.transactions.Txn.{Txn}
 use Rattle.si_model.specs.declared.refusals.Refusal.{Refusal}
 use Rattle.si_model.specs.declared.refusals.Refusal.TheVariants as refusal
 use Rattle.si_model.specs.Versions.{commit_of}
-use Rattle.si_model.specs.Edits.{same_id, same_write, with_id, is_in_doubt, status_of, resolved, resolution_refusal, writes_pair_of}
-use Rattle.si_model.proofs.Members.{Contains-map, Contains-from_map, Contains-from_filter}
+use Rattle.si_model.specs.Edits.{same_id, same_write, with_id, is_in_doubt, status_of, resolved, resolution_refusal}
+use Rattle.si_accept.proofs.Elements.{Contains-map, Contains-from_map, Contains-from_filter}
 use Rattle.si_accept.specs.Stamps.{same_pair, has, Sets, SameHolders}
-use Rattle.si_accept.specs.Writers.{Written, writer_of, SetsWriters, SameWriters, AreFree}
-use Rattle.si_accept.specs.Indexes.{Indexes, AreIndexes, IsExact, StartsAt, CommitsAt, WritesPairOf, SetsCommit, SetsTxn, SameIndexes, LacksCommit, LacksTxn}
+use Rattle.si_accept.specs.Writers.{Written, writer_of, SetsWriters, AreFree}
+use Rattle.si_accept.specs.Indexes.{Indexes, AreIndexes, IsExact, StartsAt, CommitsAt, WritesPairOf, SetsCommit, SetsTxn, LacksCommit, LacksTxn}
 use Rattle.si_accept.proofs.Exact.{arrived, exact_arrived, exact_withdrawn, exact_changed}
 use Rattle.si_accept.proofs.Found.{found, not_found}
 use Rattle.si_accept.proofs.WriterLemmas.{undone}

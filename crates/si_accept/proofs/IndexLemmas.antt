@@ -1,19 +1,15 @@
 -- What exact indexes find.
-use Rattle.std.proofs.Common.{◌≡◌, ◌⊎◌, inl, inr, ◌↔◌, ℕ, ◌≤◌, Bool, true, false, ◌||◌, nat_eq, List, [], Option, Some, None, refl, sym, ap, subst, ◌∙◌, arith, cond, eq-eqb, eqb-true}
-use Rattle.std.specs.List.{Contains, find, list_any}
+use Rattle.std.proofs.Common.{◌≡◌, ◌⊎◌, inl, inr, ◌↔◌, ℕ, ◌≤◌, Bool, true, false, ◌||◌, List, [], Option, Some, None, refl, sym, ap, subst, ◌∙◌, arith, eq-eqb, eqb-true}
+use Rattle.std.specs.List.{Contains, find}
 use Rattle.std.specs.Option.{option_map, option_eq}
-use Rattle.std.proofs.lemmas.Bool.Decides.{nat_tests}
 use Rattle.si_model.specs.declared.numbers.Stamp.{Stamp}
 use Rattle.si_model.specs.declared.numbers.TxnId.{TxnId}
 use Rattle.si_model.specs.declared.operations.Op.{Op}
-use Rattle.si_model.specs.declared.transactions.Status.{Status}
-use Rattle.si_model.specs.declared.transactions.Status.TheVariants as status
 use Rattle.si_model.specs.declared.transactions.Txn.{Txn}
-use Rattle.si_model.specs.declared.refusals.Refusal.{Refusal}
 use Rattle.si_model.specs.declared.refusals.Refusal.TheVariants as refusal
 use Rattle.si_model.specs.Versions.{commit_of}
 use Rattle.si_model.specs.Edits.{same_stamp, commits_at, has_stamp, IsLeastId, writes_pair_of, taken_at}
-use Rattle.si_model.proofs.Members.{Contains-nil}
+use Rattle.si_accept.proofs.Elements.{Contains-nil}
 use Rattle.si_accept.specs.Stamps.{has, IsLeast}
 use Rattle.si_accept.specs.Writers.{writer_of}
 use Rattle.si_accept.specs.Indexes.{Indexes, AreIndexes, has_either}

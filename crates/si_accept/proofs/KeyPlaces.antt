@@ -1,12 +1,11 @@
 -- The numbers of keys, before and after a key gets one.
-use Rattle.std.proofs.Common.{◌≡◌, ℕ, ◌+◌, ◌<◌, ◌≤◌, Bool, true, false, eqb, ltb, nat_eq, List, [], ◌∷◌, ◌++◌, length, get_or, Option, Some, None, refl, sym, ap, subst, ◌∙◌, arith, cond, length-append, eq-eqb, eqb-true}
-use Rattle.std.specs.List.{list_any, position, position_or_len}
+use Rattle.std.proofs.Common.{◌≡◌, ℕ, ◌<◌, ◌≤◌, Bool, true, false, nat_eq, List, [], ◌∷◌, ◌++◌, length, get_or, Some, None, refl, sym, ap, subst, ◌∙◌, arith, cond, length-append, eq-eqb, eqb-true}
+use Rattle.std.specs.List.{list_any, position}
 use Rattle.std.proofs.lemmas.Bool.Decides.{nat_tests}
-use Rattle.std.proofs.lemmas.List.Folds.{position_or_len_push}
 use Rattle.std.proofs.lemmas.List.Quantifiers.{position-Some}
 use Rattle.std.proofs.lemmas.Grind.{common_steps}
 use Rattle.si_model.specs.Parts.{same_key}
-use Rattle.si_model.proofs.Histories.{key_is, key_itself}
+use Rattle.si_accept.proofs.Elements.{key_is, key_itself}
 use Rattle.si_accept.specs.KeyNumbers.{number_of, with_key}
 
 -- each key keeps its number, and new numbers come after the old ones

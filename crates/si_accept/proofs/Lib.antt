@@ -1,3 +1,4 @@
+pub mod Elements
 pub mod Empty
 pub mod Pairs
 pub mod KeyPlaces

@@ -1,18 +1,15 @@
 -- Transactions in slots of which some are empty.
-use Rattle.std.proofs.Common.{◌≡◌, ◌↔◌, ◌⊎◌, inl, inr, ℕ, ◌+◌, ◌<◌, ◌≤◌, Bool, true, false, not, eqb, nat_eq, List, [], ◌∷◌, ◌++◌, length, get_or, map, take, Option, Some, None, zero, suc, refl, sym, ap, subst, ◌∙◌, arith, cond, eq-eqb, eqb-true, slice_get, length-append}
-use Rattle.std.specs.List.{Contains, filter, filter_map, cons_option, find}
-use Rattle.std.specs.Map.{lookup}
+use Rattle.std.proofs.Common.{◌≡◌, ◌⊎◌, inl, inr, ℕ, ◌+◌, ◌<◌, ◌≤◌, true, false, not, eqb, List, [], ◌∷◌, ◌++◌, length, get_or, map, take, Option, Some, None, zero, suc, refl, sym, ap, ◌∙◌, arith, cond, eq-eqb, eqb-true, slice_get}
+use Rattle.std.specs.List.{Contains, filter, filter_map, cons_option}
 use Rattle.std.specs.Option.{option_to_list}
 use Rattle.std.proofs.lemmas.List.{take_more}
 use Rattle.std.proofs.Math.ListN.{set}
-use Rattle.std.proofs.lemmas.Bool.Decides.{nat_tests}
 use Rattle.si_model.specs.declared.numbers.TxnId.{TxnId}
 use Rattle.si_model.specs.declared.transactions.Outcome.{Outcome}
 use Rattle.si_model.specs.declared.transactions.Txn.{Txn}
-use Rattle.si_model.specs.Edits.{same_id, with_id, status_of, resolved}
-use Rattle.si_model.proofs.Members.{Contains-nil, here, there, Contains-cons_cases}
-use Rattle.si_accept.specs.Arrivals.{in_slots, resolved_slot, IsInSlot, ArePlaces}
-use Rattle.si_accept.proofs.Found.{find_only, find_none, not_found}
+use Rattle.si_model.specs.Edits.{same_id, status_of, resolved}
+use Rattle.si_accept.proofs.Elements.{Contains-nil, here, there, Contains-cons_cases}
+use Rattle.si_accept.specs.Arrivals.{in_slots}
 
 -- ---- one slot
 

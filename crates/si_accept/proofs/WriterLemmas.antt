@@ -1,5 +1,5 @@
 -- Who writes what, after one pair of key and value has another writer.
-use Rattle.std.proofs.Common.{◌≡◌, ℕ, ◌<◌, ◌≤◌, Bool, true, false, ◌&&◌, ◌||◌, nat_eq, List, [], ◌∷◌, ◌++◌, length, Option, Some, None, refl, sym, ap, subst, ◌∙◌, arith, cond}
+use Rattle.std.proofs.Common.{◌≡◌, ℕ, ◌<◌, Bool, true, false, ◌&&◌, ◌||◌, nat_eq, List, [], ◌∷◌, ◌++◌, Option, Some, None, refl, sym, ap, ◌∙◌, arith, cond}
 use Rattle.std.specs.List.{list_any}
 use Rattle.std.specs.Map.{lookup}
 use Rattle.std.specs.Option.{option_and_then}
@@ -12,7 +12,7 @@ use Rattle.std.proofs.lemmas.List.Folds.{list_any-append}
 use Rattle.si_model.specs.Edits.{same_write}
 use Rattle.si_model.specs.Parts.{same_key}
 use Rattle.si_model.specs.Versions.{same_value}
-use Rattle.si_model.proofs.Histories.{key_is}
+use Rattle.si_accept.proofs.Elements.{key_is}
 use Rattle.si_accept.specs.KeyNumbers.{number_of}
 use Rattle.si_accept.specs.Stamps.{same_pair}
 use Rattle.si_accept.specs.Writers.{Written, id_at, writer_of, AreNumbered, SetsWriter, SetsWriters, SameWriters, AreFree}

@@ -1,5 +1,5 @@
 -- Keys, numbered in the order in which they were first seen, from 0.
-use Rattle.std.specs.Prelude.{◌≡◌, ℕ, List, [], ◌∷◌, ◌++◌, if◌then◌else◌, Option}
+use Rattle.std.specs.Prelude.{ℕ, List, [], ◌∷◌, ◌++◌, if◌then◌else◌, Option}
 use Rattle.std.specs.List.{list_any, position}
 use Rattle.si_model.specs.Parts.{same_key}
 

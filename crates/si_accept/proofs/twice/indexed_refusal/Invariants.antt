@@ -1,8 +1,5 @@
-use Rattle.std.proofs.Common.{◌≡◌, drop, take, Some, None, cond}
-use Rattle.std.specs.List.{list_any}
-use Rattle.si_model.specs.declared.operations.Op.{Op}
-use Rattle.si_model.specs.Edits.{first_at, twice_at, same_write}
-use Rattle.si_accept.specs.Writers.{writer_of}
+use Rattle.std.proofs.Common.{◌≡◌, drop, take}
+use Rattle.si_model.specs.Edits.{first_at, twice_at}
 use Rattle.si_accept.proofs.TwiceLemmas.{IsSeen}
 use Rattle.si_accept.proofs.twice.indexed_refusal.Given as goal
 

@@ -1,4 +1,4 @@
-use Rattle.std.proofs.Common.{◌∙◌, ◌≡◌, ◌++◌, ◌∷◌, [], ap, sym, subst, take, Some, append-nil}
+use Rattle.std.proofs.Common.{◌∙◌, ◌++◌, ◌∷◌, [], ap, sym, subst, take, Some, append-nil}
 use Rattle.std.specs.Option.{option_to_list}
 use Rattle.si_model.specs.Edits.{with_id}
 use Rattle.si_accept.specs.Arrivals.{in_slots, ArePlaces}

@@ -1,8 +1,8 @@
-use Rattle.std.proofs.Common.{◌∙◌, ◌≡◌, ◌+◌, ap, sym, subst, arith, length, length-append, List, ◌++◌, ◌∷◌, [], Some, cond, nat_eq}
+use Rattle.std.proofs.Common.{◌∙◌, ◌≡◌, ◌+◌, ap, sym, arith, length, length-append, ◌++◌, ◌∷◌, [], Some, cond, nat_eq}
 use Rattle.std.specs.Map.{lookup}
 use Rattle.std.specs.Result.{is_ok}
 use Rattle.si_model.specs.Edits.{with_id}
-use Rattle.si_accept.specs.Arrivals.{in_slots, AreSlots, ArePlaces}
+use Rattle.si_accept.specs.Arrivals.{in_slots}
 use Rattle.si_accept.proofs.SlotLemmas.{few_in_slots, in_slots_pushed}
 use Rattle.si_accept.proofs.PlaceLemmas.{places_pushed}
 use Rattle.si_accept.proofs.arrivals.Arrivals.push.Goals as goal

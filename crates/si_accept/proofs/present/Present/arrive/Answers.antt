@@ -1,6 +1,5 @@
-use Rattle.std.proofs.Common.{◌∙◌, ◌≡◌, ◌++◌, ◌∷◌, [], ap, sym, subst, None}
+use Rattle.std.proofs.Common.{◌∙◌, ◌++◌, ◌∷◌, [], ap}
 use Rattle.si_model.specs.Edits.{arrival_refusal, taken_at}
-use Rattle.si_accept.specs.Indexes.{LacksTxn}
 use Rattle.si_accept.proofs.ArrivalLemmas.{lacks_arrival, id_of_arrival}
 use Rattle.si_accept.proofs.IndexChanges.{indexed_arrived, indexed_undone}
 use Rattle.si_accept.proofs.present.Present.arrive.Goals as goal

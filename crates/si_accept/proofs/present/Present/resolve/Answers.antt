@@ -1,4 +1,4 @@
-use Rattle.std.proofs.Common.{◌∙◌, ◌≡◌, ap, map, None}
+use Rattle.std.proofs.Common.{◌∙◌, ap, map}
 use Rattle.si_model.specs.Edits.{with_id, resolved, resolution_refusal}
 use Rattle.si_model.specs.declared.transactions.Outcome.TheVariants as outcome
 use Rattle.si_accept.specs.declared.present.Present.TheInside.{Inside}

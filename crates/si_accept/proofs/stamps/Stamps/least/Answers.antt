@@ -1,4 +1,3 @@
-use Rattle.std.proofs.Common.{Some}
 use Rattle.si_accept.proofs.Pairs.{least_found, none_found, later_found}
 use Rattle.si_accept.proofs.stamps.Stamps.least.Goals as goal
 

@@ -1,5 +1,4 @@
 use Rattle.std.proofs.Common.{Some, subst, sym}
-use Rattle.si_accept.specs.Writers.{Written}
 use Rattle.si_accept.proofs.KeyPlaces.{IsGrown, grown}
 use Rattle.si_accept.proofs.WriterLemmas.{IsSetAt, writer_set, numbered_set}
 use Rattle.si_accept.proofs.writers.Writers.add.Goals as goal
