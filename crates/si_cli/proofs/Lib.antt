@@ -1,1 +1,2 @@
 pub mod Runnings
+pub mod GivenValues

@@ -1,11 +1,11 @@
 -- How far a run is, and what each of its steps adds.
-use Rattle.std.proofs.Common.{◌≡◌, ◌⊎◌, inl, inr, ℕ, ◌+◌, ◌-◌, ◌^◌, ◌≤◌, ◌<◌, Bool, true, false, cond, List, [], ◌∷◌, ◌++◌, map, length, Option, Some, None, refl, sym, ap, subst, ◌∙◌, arith, append_assoc, append-nil, length-append}
-use Rattle.std.specs.Io.KnownBytes.{Appends, IsAtEnd, prepend_known}
+use Rattle.std.proofs.Common.{◌≡◌, ◌⊎◌, inl, inr, ℕ, ◌+◌, ◌-◌, ◌^◌, ◌≤◌, Bool, true, false, cond, List, [], ◌∷◌, ◌++◌, length, Option, Some, None, refl, sym, ap, subst, ◌∙◌, arith, append_assoc, append-nil, length-append}
+use Rattle.std.specs.Io.KnownBytes.{Appends, IsAtEnd}
 use Rattle.std.proofs.KnownBytes.{Appends-trans, Appends-nil}
 use Rattle.std.proofs.lemmas.List.{map_push}
 use Rattle.si_text.specs.Inputs.{Item, with_first, lines_of, is_line_feed, is_blank, item_of, numbered, items_after, items_of, Yields}
 use Rattle.si_text.specs.Lines.{edit_of}
-use Rattle.si_text.specs.LineBuffers.{lines_ended, bytes_held, bytes_to_come, IsFresh, IsSpent, CountsBytes}
+use Rattle.si_text.specs.LineBuffers.{bytes_held, bytes_to_come, IsFresh, IsSpent, CountsBytes}
 use Rattle.si_text.specs.declared.line_buffers.LineBuffer.{LineBuffer}
 use Rattle.si_cli.specs.declared.statuses.ExitStatus.{ExitStatus}
 use Rattle.si_cli.specs.Outputs.{SourcedItem, sourced, from_source, Rules, Progress, start, progress_after, progress_through, report_at, item_text, items_text, output_of, status_at, status_of}

@@ -1,13 +1,29 @@
--- The command line, as clap's definition of simple commands has it, and what its faults are.
-use Rattle.std.specs.Prelude.{◌≡◌, [], true, codes, Result, Ok, Err}
-use Rattle.clap.specs.Words.{App, HasKind, Kinds, new_app, with_subcommand}
+-- The command line, as clap's definition of simple commands has it, and what its words ask for.
+use Rattle.std.specs.Prelude.{◌≡◌, ◌<◌, ◌≤◌, ℕ, List, [], length, map, true, false, codes, Option, Some, option_map, unwrap_or, Result, Ok, Err}
+use Rattle.std.specs.Option.{option_map_or, IfSome}
+use Rattle.std.specs.Str.Parse.{digits_value, without_leading_plus}
+use Rattle.clap.specs.declared.builder.action.ArgAction.TheVariants.{Set, Append}
+use Rattle.clap.specs.declared.builder.value_parser.ValueParser.TheVariants.{Unsigned}
+use Rattle.clap.specs.declared.error.kind.ErrorKind.TheVariants.{OutOfMemory}
+use Rattle.clap.specs.Words.{App, HasKind, IsUnsignedIn, kind_of, Row, Rule, Text, all_of, fault_of, new_app, new_rule, one_of, subcommand_of, with_rule, with_subcommand}
+use Rattle.si_cli.specs.declared.options.Options.{Options}
 use Rattle.si_cli.specs.declared.settings.Settings.{Settings}
 use Rattle.si_cli.specs.declared.settings.SettingsFault.{SettingsFault}
-use Rattle.si_cli.specs.declared.settings.SettingsFault.TheVariants.{Line}
+use Rattle.si_cli.specs.declared.settings.SettingsFault.TheVariants.{Line, TooManyFiles}
 
--- the subcommand, with no argument
+-- ---- the command
+
+-- `--every N`, a number from 1 to 16,777,216
+abbrev pub every_rule : Rule
+every_rule = record (new_rule (codes "every")) { long = Some (codes "every"); value_names = 1; action = Some Set; parser = Some (Unsigned 1 16777216) }
+
+-- a file, or several
+abbrev pub file_rule : Rule
+file_rule = record (new_rule (codes "FILE")) { action = Some Append }
+
+-- the subcommand
 abbrev pub check_app : App
-check_app = new_app (codes "check")
+check_app = with_rule (with_rule (new_app (codes "check")) every_rule) file_rule
 
 -- the program before its subcommand is added, which has to be given
 abbrev pub top_app : App
@@ -17,7 +33,56 @@ top_app = record (new_app (codes "sicheck")) { top = record (new_app (codes "sic
 abbrev pub sicheck_app : App
 sicheck_app = with_subcommand top_app check_app.top
 
--- settings come where clap has no fault of these kinds to tell of the words, and else a fault of one of them, or want of memory
-abbrev pub IsToldBy : Kinds → Result Settings SettingsFault → Type 0
-IsToldBy kinds (Ok settings) = kinds ≡ []
-IsToldBy kinds (Err (Line error)) = HasKind kinds error
+-- ---- what the words ask for
+
+-- what the words give the subcommand: a row for each argument that is there
+abbrev pub rows_given : List Text → List Row
+rows_given words = option_map_or (λ sub. sub.1) (subcommand_of sicheck_app words) []
+
+-- the number of a decimal text
+abbrev pub number_of : Text → ℕ
+number_of text = digits_value 10 (without_leading_plus text)
+
+-- the N of `--every N`
+abbrev pub every_given : List Row → Option ℕ
+every_given rows = option_map number_of (one_of (codes "every") rows)
+
+-- the names of the files, in their order
+abbrev pub files_given : List Row → List Text
+files_given rows = unwrap_or (all_of (codes "FILE") rows) []
+
+-- the options that the words ask for, with what holds where they ask for nothing
+abbrev pub options_given : List Row → Options
+options_given rows = record { shards = 4; every = every_given rows; explain = false; limit = 16777216 }
+
+-- reports come after a number of items from 1 to 16,777,216, if they come on the way
+abbrev pub IsEveryInRange : Option ℕ → Type 0
+IsEveryInRange every = IfSome every (λ n. (1 ≤ n) × (n ≤ 16777216))
+
+-- how many files are read
+abbrev pub most_files : ℕ
+most_files = 1
+
+-- what settings say of the rows
+pub record IsGiven (rows : List Row) (settings : Settings) : Type 0 where
+  pub options : settings.options ≡ options_given rows
+  pub every : IsEveryInRange settings.options.every
+  pub files : map (λ file. file.now) settings.files.items ≡ files_given rows
+  pub few : length (files_given rows) ≤ most_files
+
+-- settings come where clap has no fault to tell of the words and they name few enough files; a fault is one of clap's, or
+-- want of memory, or that the files are too many
+abbrev pub IsToldBy : List Text → Result Settings SettingsFault → Type 0
+IsToldBy words (Ok settings) = (fault_of sicheck_app words ≡ []) × IsGiven (rows_given words) settings
+IsToldBy words (Err (Line error)) = HasKind (fault_of sicheck_app words) error
+IsToldBy words (Err TooManyFiles) = (fault_of sicheck_app words ≡ []) × (most_files < length (files_given (rows_given words)))
+
+-- the number of `--every` is in its range
+abbrev pub EveryFits : List Row → Type 0
+EveryFits rows = (text : Text) → one_of (codes "every") rows ≡ Some text → IsUnsignedIn 1 16777216 text
+
+-- what reading the rows gives: the settings, too many files, or want of memory
+abbrev pub IsReadOf : List Row → Result Settings SettingsFault → Type 0
+IsReadOf rows (Ok settings) = IsGiven rows settings
+IsReadOf rows (Err (Line error)) = kind_of error ≡ OutOfMemory
+IsReadOf rows (Err TooManyFiles) = most_files < length (files_given rows)

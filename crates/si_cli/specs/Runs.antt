@@ -1,6 +1,5 @@
 -- What a run does to its devices.
 use Rattle.std.specs.Prelude.{◌≡◌, ◌⊎◌, ℕ, ◌-◌, ◌^◌, ◌≤◌, Bool, true, List, length, Option, Some, None, ⊤}
-use Rattle.std.specs.Option.{IfSome}
 use Rattle.std.specs.Io.KnownBytes.{Appends}
 use Rattle.si_text.specs.Inputs.{items_of}
 use Rattle.si_cli.specs.declared.statuses.ExitStatus.{ExitStatus}

@@ -4,6 +4,7 @@
 //! stands on `si_model` for findings, on `si_text` for lines, texts and devices, and on `si_accept` for the book.
 #![tactic(auto)]
 
+mod command_lines;
 mod engines;
 pub mod faults;
 pub mod options;

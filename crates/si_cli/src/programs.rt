@@ -1,20 +1,24 @@
 ghost use Rattle.std.specs.Prelude.{◌≡◌, false};
-ghost use Rattle.si_cli.specs.Programs.{IsProgramStatus};
+ghost use Rattle.si_cli.specs.Programs.{IsProgramStatus, IsRunnable};
 
 use crate::settings::{SettingsFault, settings_of};
 use crate::writing::write_all;
-use crate::{RunFault, run};
+use crate::{Options, RunFault, run};
 use clap::error::ErrorKind;
-use si_text::{ByteSink, ByteSource};
+use si_text::{ByteSink, ByteSource, StdSource};
 use std::alloc::{AllocError, Global};
 use std::convert::AsStr;
+use std::fs;
+use std::rt::Files;
 
 /// The exit status of a run that couldn't be made.
 const FAULTY: u8 = 2;
 
-/// The whole program: it reads a command line, of which the first word is the program's name, checks the input, and
-/// answers the exit status. Help goes to `out`, and what went wrong to `err`, whose own failure changes nothing.
-pub fn main_with<S: AsStr, I: ByteSource, O: ByteSink, E: ByteSink>(
+/// The whole program: it reads a command line, of which the first word is the program's name, checks the file that it names
+/// or else the input, and answers the exit status. Help goes to `out`, and what went wrong to `err`, whose own failure changes
+/// nothing. A file is opened before anything is read.
+pub fn main_with<R: Files, S: AsStr, I: ByteSource, O: ByteSink, E: ByteSink>(
+    rt: &R,
     alloc: Global,
     words: &[S],
     input: &mut I,
@@ -26,11 +30,37 @@ pub fn main_with<S: AsStr, I: ByteSource, O: ByteSink, E: ByteSink>(
     ensures { IsProgramStatus result }
 {
     match settings_of(alloc, words) {
-        Ok(settings) => match run(alloc, input, out, settings.options) {
-            Ok(status) => status.code(),
-            Err(fault) => tell_fault(alloc, err, fault),
+        Ok(settings) => match settings.files.first() {
+            None => check(alloc, input, out, err, settings.options),
+            Some(path) => match fs::File::open(rt, *path) {
+                Ok(file) => {
+                    let mut source = StdSource::new(file);
+                    check(alloc, &mut source, out, err, settings.options)
+                }
+                Err(_) => tell(err, b"sicheck: cannot open source 0\n"),
+            },
         },
         Err(SettingsFault::Line(error)) => tell_line(alloc, out, err, &error),
+        Err(SettingsFault::TooManyFiles) => tell(err, b"sicheck: too many files\n"),
+    }
+}
+
+/// Checks what the source gives, and answers the exit status.
+fn check<I: ByteSource, O: ByteSink, E: ByteSink>(
+    alloc: Global,
+    source: &mut I,
+    out: &mut O,
+    err: &mut E,
+    options: Options,
+) -> u8
+    requires options { IsRunnable options }
+    requires source { I.failed source.old ≡ false }
+    requires out { O.failed out.old ≡ false }
+    ensures { IsProgramStatus result }
+{
+    match run(alloc, source, out, options) {
+        Ok(status) => status.code(),
+        Err(fault) => tell_fault(alloc, err, fault),
     }
 }
 

@@ -1,10 +1,10 @@
-ghost use Rattle.std.specs.Prelude.{◌≡◌, IfOk, map, false};
-ghost use Rattle.clap.specs.Words.{FailsBy, app_of, fault_of};
-ghost use Rattle.si_cli.specs.CommandLines.{IsToldBy, sicheck_app};
-ghost use Rattle.si_cli.specs.Settings.{plain_options};
+ghost use Rattle.std.specs.Prelude.{◌≡◌, map, false, IfOk};
+ghost use Rattle.clap.specs.Words.{found_of, rows_of};
+ghost use Rattle.si_cli.specs.CommandLines.{IsToldBy, IsReadOf, EveryFits, files_given, every_given};
 
 use crate::Options;
-use clap::Command;
+use crate::command_lines::{EVERY, FILE, parse};
+use clap::ArgMatches;
 use std::alloc::{AllocError, Global};
 use std::convert::AsStr;
 use std::fmt;
@@ -12,29 +12,15 @@ use std::fmt;
 /// The most edits that the program accepts.
 pub const MOST_EDITS: usize = 16_777_216;
 
-const ABOUT: &str = "Checks a history of transactions against snapshot isolation.";
-
-const INPUT: &str = "\
-The input has one JSON value a line:
-  {\"do\":\"txn\",\"id\":1,\"start\":1,\"status\":\"committed\",\"commit\":5,\"ops\":[[\"r\",\"x\",null],[\"w\",\"x\",1]]}
-      a transaction: its id, the stamp of its snapshot, what became of it (committed, aborted or indoubt),
-      and its reads and writes in their order; a read of null returned the initial version
-  {\"do\":\"resolve\",\"id\":1,\"status\":\"committed\",\"commit\":5}
-      what became of a transaction in doubt (committed or aborted)
-  {\"do\":\"withdraw\",\"id\":1}
-      the record of that transaction was false
-Lines may come late and out of order. A pair of key and value is written at most once.
-
-The output has a line for each refused line, then a line for each finding, and a summary.
-The exit status is 0 where nothing was found, 10 where the verdict is open or a line was refused,
-20 where snapshot isolation is violated, and 2 where the check couldn't be made.
-
-Try it: sicheck check < history.jsonl";
+/// The most files that are read.
+pub const MOST_FILES: usize = 1;
 
 /// What a command line asks for.
-#[derive(Clone, Copy, Debug, PartialEq, Eq)]
-pub struct Settings {
+#[derive(Debug, Drop)]
+pub struct Settings<'a> {
     pub options: Options,
+    /// The files to read, at most `MOST_FILES`; standard input where there is none.
+    pub files: Vec<&'a str>,
 }
 
 /// Why a command line asks for nothing that can be done.
@@ -42,12 +28,15 @@ pub struct Settings {
 pub enum SettingsFault {
     /// The words aren't a command line of the program, or ask for help, or memory was refused: `clap` says which.
     Line(clap::Error),
+    /// The words name over `MOST_FILES` files.
+    TooManyFiles,
 }
 
 impl fmt::Display for SettingsFault {
     fn fmt<W: fmt::Write>(&self, f: &mut fmt::Formatter<W>) -> fmt::Result {
         match self {
             SettingsFault::Line(error) => write!(f, "{error}"),
+            SettingsFault::TooManyFiles => write!(f, "too many files"),
         }
     }
 }
@@ -56,44 +45,68 @@ impl std::error::Error for SettingsFault {}
 
 /// What the words of a command line ask for, of which the first is the program's name.
 ///
-/// They are `sicheck check`, with no further word: options come later. A fault is one that `clap` tells of the words,
-/// or want of memory.
-pub fn settings_of<'a, S: AsStr>(alloc: Global, words: &'a [S]) -> Result<Settings, SettingsFault>
-    ensures options { IfOk result (λ settings. settings.options ≡ plain_options) }
-    ensures line { IsToldBy (fault_of sicheck_app (map S.text words.entry.now)) result }
+/// They are `sicheck check [--every N] [FILE]`, with N from 1 to 16,777,216. A fault is one that `clap`'s definition of the
+/// command tells of the words, or want of memory, or that they name too many files.
+pub fn settings_of<'a, S: AsStr>(
+    alloc: Global,
+    words: &'a [S],
+) -> Result<Settings<'a>, SettingsFault>
+    ensures { IsToldBy (map S.text words.entry.now) result }
 {
-    match parse(alloc, words) {
-        Ok(()) => Ok(Settings {
-            options: Options {
-                shards: 4,
-                every: None,
-                explain: false,
-                limit: MOST_EDITS,
-            },
+    let matches = match parse(alloc, words) {
+        Ok(matches) => matches,
+        Err(error) => return Err(SettingsFault::Line(error)),
+    };
+    match matches.subcommand() {
+        Some((_, check)) => read(alloc, check),
+        None => Ok(Settings {
+            options: options(None),
+            files: Vec::new(alloc),
         }),
-        Err(error) => Err(SettingsFault::Line(error)),
     }
 }
 
-/// Whether the words are a command line of the program: the fault is that of `clap`'s definition, or want of memory.
-fn parse<'a, S: AsStr>(alloc: Global, words: &'a [S]) -> Result<(), clap::Error>
-    ensures { FailsBy (fault_of sicheck_app (map S.text words.entry.now)) result }
+/// What the arguments of the subcommand ask for.
+fn read<'a>(alloc: Global, check: &ArgMatches<'a>) -> Result<Settings<'a>, SettingsFault>
+    requires { EveryFits (rows_of (found_of check.now)) }
+    ensures { IsReadOf (rows_of (found_of check.now)) result }
 {
-    let command = command(alloc)?;
-    let _matches = command.try_get_matches_from(words)?;
-    Ok(())
+    let Ok(files) = files_of(alloc, check) else {
+        return Err(SettingsFault::Line(clap::Error::from(AllocError)));
+    };
+    if files.len() > MOST_FILES {
+        return Err(SettingsFault::TooManyFiles);
+    }
+    let options = options(every_of(check));
+    Ok(Settings { options, files })
 }
 
-/// The program's command line: its one subcommand has to be given, and takes no further word.
-fn command<'a>(alloc: Global) -> Result<Command<'a>, AllocError>
-    ensures { IfOk result (λ command. app_of command ≡ sicheck_app) }
+/// The files that are named.
+fn files_of<'a>(alloc: Global, check: &ArgMatches<'a>) -> Result<Vec<&'a str>, AllocError>
+    ensures { IfOk result (λ files. map (λ file. file.now) files.items ≡ files_given (rows_of (found_of check.now))) }
 {
-    let check = Command::new(alloc, "check")
-        .about("Checks the history on standard input")
-        .after_help(INPUT);
-    let top = Command::new(alloc, "sicheck")
-        .about(ABOUT)
-        .after_help(INPUT)
-        .subcommand_required(true);
-    top.subcommand(check)
+    match check.get_raw(FILE) {
+        Some(named) => Vec::from_slice(alloc, named),
+        None => Ok(Vec::new(alloc)),
+    }
+}
+
+/// The number of the option `--every`.
+fn every_of(check: &ArgMatches<'_>) -> Option<u64>
+    requires { EveryFits (rows_of (found_of check.now)) }
+    ensures { result ≡ every_given (rows_of (found_of check.now)) }
+{
+    check.get_one::<u64>(EVERY)
+}
+
+/// The program's options, with reports after each so many items.
+fn options(every: Option<u64>) -> Options
+    ensures { result ≡ record { shards = 4; every = every; explain = false; limit = 16777216 } }
+{
+    Options {
+        shards: 4,
+        every,
+        explain: false,
+        limit: MOST_EDITS,
+    }
 }

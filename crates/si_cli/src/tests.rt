@@ -1,5 +1,6 @@
 //! What runs and the whole program write, and how they end.
 
+mod files;
 mod programs;
 mod rows;
 

@@ -1,9 +1,10 @@
 //! Command lines, and devices that fail.
 
-use crate::{ExitStatus, Options, RunFault, main_with, run, settings_of};
+use crate::{ExitStatus, Options, RunFault, SettingsFault, main_with, run, settings_of};
 use si_text::memory::{FailingSink, FailingSource, MemorySink, MemorySource};
 use std::alloc::Global;
 use std::process::Abort;
+use std::rt::Files;
 use std::test::Fail;
 
 const LOST_UPDATE: &str =
@@ -22,7 +23,7 @@ fn source(alloc: Global) -> Result<MemorySource, Fail> {
 
 /// The program on these words ends with the status, and writes to both devices only where that is said.
 fn ends(
-    rt: &impl Abort,
+    rt: &(impl Abort + Files),
     alloc: Global,
     words: &[&str],
     status: u8,
@@ -33,7 +34,7 @@ fn ends(
     let mut out = MemorySink::new(alloc, 4096);
     let mut err = MemorySink::new(alloc, 4096);
     assert_eq!(rt;
-        main_with(alloc, words, &mut input, &mut out, &mut err),
+        main_with(rt, alloc, words, &mut input, &mut out, &mut err),
         status
     );
     assert_eq!(rt; !out.as_slice().is_empty(), writes);
@@ -48,16 +49,66 @@ fn command_lines(rt: HostRuntime) -> Result<(), Fail> {
     ends(&rt, alloc, &["sicheck", "--help"], 0, true, false)?;
     ends(&rt, alloc, &["sicheck"], 2, false, true)?;
     ends(&rt, alloc, &["sicheck", "look"], 2, false, true)?;
-    ends(&rt, alloc, &["sicheck", "check", "FILE"], 2, false, true)?;
-    ends(
+    ends(&rt, alloc, &["sicheck", "help"], 0, true, false)?;
+    ends(&rt, alloc, &["sicheck", "check", "--help"], 0, true, false)?;
+    for option in [
+        "--unknown",
+        "--every",
+        "--every=",
+        "--every=0",
+        "--every=16777217",
+        "--every=-1",
+        "--every=1.0",
+        "--shards=4",
+        "--explain",
+    ] {
+        ends(&rt, alloc, &["sicheck", "check", option], 2, false, true)?;
+    }
+    let twice = ["sicheck", "check", "--every=1", "--every=2"];
+    ends(&rt, alloc, twice.as_slice(), 2, false, true)?;
+    Ok(())
+}
+
+/// The settings that the words after the program's name ask for are these.
+fn asks(
+    rt: &impl Abort,
+    alloc: Global,
+    words: &[&str],
+    every: Option<u64>,
+    files: &[&str],
+) -> Result<(), Fail> {
+    let settings = settings_of(alloc, words)?;
+    assert_eq!(rt; settings.options, Options { every, ..OPTIONS });
+    assert_eq!(rt; settings.files.as_slice(), files);
+    Ok(())
+}
+
+#[test]
+fn what_words_ask_for(rt: HostRuntime) -> Result<(), Fail> {
+    let alloc = rt.alloc();
+    asks(&rt, alloc, &["sicheck", "check"], None, &[])?;
+    asks(
         &rt,
         alloc,
-        &["sicheck", "check", "--unknown"],
-        2,
-        false,
-        true,
+        &["sicheck", "check", "a.jsonl"],
+        None,
+        &["a.jsonl"],
     )?;
-    assert!(rt; settings_of(alloc, ["sicheck", "check"].as_slice()).is_ok());
+    asks(
+        &rt,
+        alloc,
+        &["sicheck", "check", "--every", "1"],
+        Some(1),
+        &[],
+    )?;
+    let most = ["sicheck", "check", "--every=16777216", "a"];
+    asks(&rt, alloc, most.as_slice(), Some(16_777_216), &["a"])?;
+    let after = ["sicheck", "check", "a", "--every", "+007"];
+    asks(&rt, alloc, after.as_slice(), Some(7), &["a"])?;
+    let dashed = ["sicheck", "check", "--", "--every"];
+    asks(&rt, alloc, dashed.as_slice(), None, &["--every"])?;
+    let two = settings_of(alloc, ["sicheck", "check", "a", "b"].as_slice());
+    assert!(rt; matches!(two, Err(SettingsFault::TooManyFiles)));
     Ok(())
 }
 
@@ -95,7 +146,7 @@ fn faults_in_words(rt: HostRuntime) -> Result<(), Fail> {
     let mut err = MemorySink::new(alloc, 4096);
     let words = ["sicheck", "check"];
     assert_eq!(rt;
-        main_with(alloc, words.as_slice(), &mut input, &mut out, &mut err),
+        main_with(&rt, alloc, words.as_slice(), &mut input, &mut out, &mut err),
         2
     );
     assert_eq!(rt;
@@ -106,7 +157,7 @@ fn faults_in_words(rt: HostRuntime) -> Result<(), Fail> {
     let mut out = FailingSink::new(MemorySink::new(alloc, 4096), 0);
     let mut err = MemorySink::new(alloc, 4096);
     assert_eq!(rt;
-        main_with(alloc, words.as_slice(), &mut input, &mut out, &mut err),
+        main_with(&rt, alloc, words.as_slice(), &mut input, &mut out, &mut err),
         2
     );
     assert_eq!(rt; err.as_slice(), b"sicheck: cannot write\n".as_slice());

@@ -1,4 +1,4 @@
-use Rattle.std.proofs.Common.{◌≡◌, ◌⊎◌, true, ◌∙◌, ◌++◌, ◌||◌, ◌+◌, ◌-◌, ◌^◌, ◌≤◌, Bool, false, ℕ, List, refl, sym, ap, inl, inr, arith}
+use Rattle.std.proofs.Common.{◌≡◌, ◌⊎◌, true, ◌∙◌, ◌++◌, ◌||◌, ◌+◌, ◌-◌, ◌^◌, ◌≤◌, Bool, false, ℕ, List, refl, ap, inl, inr, arith}
 use Rattle.std.proofs.lemmas.Result.{err_from_is_err_and}
 use Rattle.si_text.specs.LineBuffers.{bytes_to_come}
 use Rattle.si_text.specs.declared.line_buffers.InputFault.TheVariants as input
