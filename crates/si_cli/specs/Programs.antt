@@ -1,11 +1,39 @@
--- What the program answers.
-use Rattle.std.specs.Prelude.{◌≡◌, ◌≤◌, ◌⊎◌, ℕ, false}
+-- How the program ends.
+use Rattle.std.specs.Prelude.{◌≡◌, ◌≤◌, ◌⊎◌, ℕ, List, [], Option, false}
+use Rattle.clap.specs.declared.error.Error.{Error}
+use Rattle.clap.specs.declared.error.kind.ErrorKind.TheVariants.{DisplayHelp, DisplayVersion}
+use Rattle.clap.specs.Words.{IsAmong, Text, fault_of, kind_of}
 use Rattle.si_cli.specs.declared.options.Options.{Options}
-
--- 0, 10 and 20 by what was found; 2 where the check couldn't be made
-abbrev pub IsProgramStatus : ℕ → Type 0
-IsProgramStatus status = (status ≡ 0) ⊎ ((status ≡ 2) ⊎ ((status ≡ 10) ⊎ (status ≡ 20)))
+use Rattle.si_cli.specs.declared.statuses.ExitStatus.{ExitStatus}
+use Rattle.si_cli.specs.CommandLines.{every_given, files_given, rows_given, sicheck_app}
+use Rattle.si_cli.specs.Outputs.{Rules, exit_code}
+use Rattle.si_cli.specs.Runs.{WritesOutput}
 
 -- the options are in range, and ask for nothing that isn't there yet
 abbrev pub IsRunnable : Options → Type 0
 IsRunnable options = (1 ≤ options.limit) × (options.limit ≤ 16777216) × (options.explain ≡ false)
+
+-- what the options say of the text
+abbrev pub rules_by : Options → Rules
+rules_by options = record { limit = options.limit; every = options.every }
+
+-- clap was asked for a text, which is no fault
+abbrev pub IsAskedFor : Error → Type 0
+IsAskedFor error = (kind_of error ≡ DisplayHelp) ⊎ (kind_of error ≡ DisplayVersion)
+
+-- the status of a check: the check couldn't be made, or it is that of a run on the input, of which the text was written
+abbrev pub EndsCheck : Rules → Option (List ℕ) → Option (List ℕ) → Option (List ℕ) → ℕ → Type 0
+EndsCheck rules left old new result = (result ≡ 2) ⊎ ((status : ExitStatus) × (result ≡ exit_code status) × WritesOutput rules left old new status)
+
+-- the status of an answer of clap: a fault, or a text that was asked for
+abbrev pub EndsLine : Error → ℕ → Type 0
+EndsLine error result = (result ≡ 2) ⊎ ((result ≡ 0) × IsAskedFor error)
+
+-- the status of the program: the check couldn't be made; or the words ask for help; or clap has no fault to tell of them, and
+-- the status is that of a run, on the input where they name no file
+abbrev pub EndsProgram : List Text → Option (List ℕ) → Option (List ℕ) → Option (List ℕ) → ℕ → Type 0
+EndsProgram words left old new result =
+    (result ≡ 2)
+    ⊎ (((result ≡ 0) × (IsAmong DisplayHelp (fault_of sicheck_app words) ⊎ IsAmong DisplayVersion (fault_of sicheck_app words)))
+    ⊎ ((fault_of sicheck_app words ≡ []) × ((status : ExitStatus) × (result ≡ exit_code status)
+    × (files_given (rows_given words) ≡ [] → WritesOutput (record { limit = 16777216; every = every_given (rows_given words) }) left old new status))))

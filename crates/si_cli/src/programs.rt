@@ -1,5 +1,5 @@
-ghost use Rattle.std.specs.Prelude.{◌≡◌, false};
-ghost use Rattle.si_cli.specs.Programs.{IsProgramStatus, IsRunnable};
+ghost use Rattle.std.specs.Prelude.{◌≡◌, false, map};
+ghost use Rattle.si_cli.specs.Programs.{EndsCheck, EndsLine, EndsProgram, IsRunnable, rules_by};
 
 use crate::settings::{SettingsFault, settings_of};
 use crate::writing::write_all;
@@ -27,7 +27,7 @@ pub fn main_with<R: Files, S: AsStr, I: ByteSource, O: ByteSink, E: ByteSink>(
 ) -> u8
     requires input { I.failed input.old ≡ false }
     requires out { O.failed out.old ≡ false }
-    ensures { IsProgramStatus result }
+    ensures { EndsProgram (map S.text words.now) (I.left input.old) (O.written out.old) (O.written out.new) result }
 {
     match settings_of(alloc, words) {
         Ok(settings) => match settings.files.first() {
@@ -56,7 +56,7 @@ fn check<I: ByteSource, O: ByteSink, E: ByteSink>(
     requires options { IsRunnable options }
     requires source { I.failed source.old ≡ false }
     requires out { O.failed out.old ≡ false }
-    ensures { IsProgramStatus result }
+    ensures { EndsCheck (rules_by options) (I.left source.old) (O.written out.old) (O.written out.new) result }
 {
     match run(alloc, source, out, options) {
         Ok(status) => status.code(),
@@ -81,7 +81,7 @@ fn tell_line<O: ByteSink, E: ByteSink>(
     err: &mut E,
     error: &clap::Error,
 ) -> u8
-    ensures { IsProgramStatus result }
+    ensures { EndsLine error.now result }
 {
     if error.kind() == ErrorKind::OutOfMemory {
         return tell(err, b"sicheck: out of memory\n");
