@@ -1,5 +1,5 @@
 -- The last write of a part is a write with none later.
-use Rattle.std.proofs.Common.{◌≡◌, ◌⊎◌, inl, inr, ℕ, ◌+◌, ◌<◌, ◌≤◌, Bool, true, false, List, [], ◌∷◌, Option, Some, None, refl, sym, ap, subst, ◌∙◌, arith, cond, ◌↔◌}
+use Rattle.std.proofs.Common.{◌≡◌, ◌⊎◌, inl, inr, ℕ, ◌+◌, ◌≤◌, Bool, true, false, List, [], ◌∷◌, Option, Some, None, refl, sym, ap, subst, ◌∙◌, arith, cond, ◌↔◌}
 use Rattle.std.specs.List.{Contains, fold, filter_map, enumerate_from, cons_option}
 use Rattle.std.specs.Option.{option_or}
 use Rattle.si_model.specs.declared.numbers.Value.{Value}
@@ -9,8 +9,8 @@ use Rattle.si_model.specs.declared.parts.Access.{Access}
 use Rattle.si_model.specs.declared.parts.Access.TheVariants as access
 use Rattle.si_model.specs.declared.parts.Placed.{Placed}
 use Rattle.si_model.specs.declared.parts.Part.{Part}
-use Rattle.si_model.specs.Parts.{key_of, access_of, same_key, placed_at, accesses, parts}
-use Rattle.si_model.specs.Versions.{written, last_write, WritesAt, IsFinalWrite}
+use Rattle.si_model.specs.Parts.{key_of, access_of, same_key, placed_at, parts}
+use Rattle.si_model.specs.Versions.{written, last_write, IsFinalWrite}
 use Rattle.si_model.proofs.Members.{Contains-nil, here, there, Contains-cons_cases}
 use Rattle.si_model.proofs.Histories.{same_some, part_from}
 use Rattle.si_model.proofs.Exact.{some_last}

@@ -1,5 +1,5 @@
 -- The order of the transactions doesn't matter.
-use Rattle.std.proofs.Common.{◌≡◌, ◌⊎◌, inl, inr, ℕ, List, Option, Some, None}
+use Rattle.std.proofs.Common.{◌≡◌, inl, inr, ℕ, List, Option, Some, None}
 use Rattle.std.specs.List.{Contains}
 use Rattle.std.specs.List.Sorted.{IsStrictlySortedBy}
 use Rattle.si_model.specs.declared.numbers.Stamp.{Stamp}
@@ -17,7 +17,7 @@ use Rattle.si_model.specs.Parts.{part, parts}
 use Rattle.si_model.specs.Versions.{IsInstaller, IsNext}
 use Rattle.si_model.specs.Reads.{IsRead, IsWriter, IsSource, IsNextAt, IsSight}
 use Rattle.si_model.specs.Order.{finding_cmp}
-use Rattle.si_model.specs.Findings.{Rules, cases, IsOfRead, IsOfPair, IsFoundOn, IsFinding, findings}
+use Rattle.si_model.specs.Findings.{Rules, cases, IsFoundOn, IsFinding, findings}
 use Rattle.si_model.specs.History.{IsHistory}
 use Rattle.si_model.specs.Laws.{HaveSame}
 use Rattle.si_model.proofs.Members.{Contains-filter_map, Contains-from_filter_map}

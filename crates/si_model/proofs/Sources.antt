@@ -1,5 +1,5 @@
 -- What the program sees at a read is what is seen there, and nothing else is.
-use Rattle.std.proofs.Common.{◌≡◌, ◌≢◌, ◌⊎◌, inl, inr, ℕ, ◌<◌, ◌≤◌, Bool, true, false, ◌||◌, nat_lt, nat_eq, List, [], ◌∷◌, ◌++◌, Option, Some, None, refl, sym, ap, subst, ◌∙◌, arith, cond}
+use Rattle.std.proofs.Common.{◌≡◌, ◌≢◌, inl, inr, ℕ, Bool, true, false, ◌||◌, List, [], ◌∷◌, Option, Some, None, refl, sym, ap, subst, ◌∙◌, cond}
 use Rattle.std.specs.List.{Contains, find, list_any}
 use Rattle.std.specs.Option.{option_eq}
 use Rattle.std.proofs.lemmas.Bool.Decides.{Decides-eqb}
@@ -10,14 +10,13 @@ use Rattle.si_model.specs.declared.transactions.Status.{Status}
 use Rattle.si_model.specs.declared.transactions.Status.TheVariants as status
 use Rattle.si_model.specs.declared.parts.Access.{Access}
 use Rattle.si_model.specs.declared.parts.Access.TheVariants as access
-use Rattle.si_model.specs.declared.parts.Placed.{Placed}
 use Rattle.si_model.specs.declared.parts.Part.{Part}
 use Rattle.si_model.specs.declared.sights.Installer.{Installer}
 use Rattle.si_model.specs.declared.sights.Source.{Source}
 use Rattle.si_model.specs.declared.sights.Source.TheVariants as source
 use Rattle.si_model.specs.declared.sights.Sight.{Sight}
-use Rattle.si_model.specs.Versions.{same_value, is_write_of, part_writes, last_write, Writes, IsNext, next_after}
-use Rattle.si_model.specs.Reads.{IsWriter, IsSource, IsNextAt, IsSight, own_value, writes_later, source_by, source_from, source_of, next_at, sight_of}
+use Rattle.si_model.specs.Versions.{same_value, is_write_of, part_writes, last_write, Writes, next_after}
+use Rattle.si_model.specs.Reads.{IsWriter, IsSource, IsNextAt, IsSight, source_by, source_from, source_of, next_at, sight_of}
 use Rattle.si_model.specs.History.{ArePartsOfHistory}
 use Rattle.si_model.proofs.Members.{Contains-nil, here, there, Contains-cons_cases}
 use Rattle.si_model.proofs.Histories.{same_some, same_named}

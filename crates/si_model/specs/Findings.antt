@@ -1,7 +1,6 @@
 -- The findings of a list of transactions: as a relation, with quantifiers over the transactions, and as the one list in order.
-use Rattle.std.specs.Prelude.{◌≡◌, ◌⊎◌, ℕ, Bool, true, if◌then◌else◌, List, [], ◌∷◌, map, Some, None, Option}
-use Rattle.std.specs.List.{Contains, flat_map, filter_map}
-use Rattle.std.specs.Option.{option_map}
+use Rattle.std.specs.Prelude.{◌≡◌, ◌⊎◌, ℕ, Bool, true, if◌then◌else◌, List, [], map, Some, None, Option}
+use Rattle.std.specs.List.{flat_map, filter_map}
 use Rattle.std.specs.Ordering.{nat_cmp}
 use Rattle.std.specs.Cmp.Lexicographic.{slice_cmp}
 use Rattle.si_model.specs.declared.numbers.Stamp.{Stamp}

@@ -1,5 +1,5 @@
 -- The reads of one key, what is seen at each, and what kind of finding it is: the first case that applies.
-use Rattle.std.specs.Prelude.{◌≡◌, ◌≢◌, ℕ, ◌<◌, Bool, true, false, ◌&&◌, if◌then◌else◌, nat_eq, nat_lt, List, [], ◌∷◌, Some, None, Option}
+use Rattle.std.specs.Prelude.{◌≡◌, ◌≢◌, ℕ, Bool, true, false, ◌&&◌, if◌then◌else◌, nat_lt, List, Some, None, Option}
 use Rattle.std.specs.List.{Contains, filter, find, list_any}
 use Rattle.std.specs.Option.{option_eq}
 use Rattle.si_model.specs.declared.numbers.TxnId.{TxnId}
@@ -16,7 +16,7 @@ use Rattle.si_model.specs.declared.sights.Source.TheVariants as source
 use Rattle.si_model.specs.declared.sights.Sight.{Sight}
 use Rattle.si_model.specs.declared.kinds.Kind.{Kind}
 use Rattle.si_model.specs.declared.kinds.Kind.TheVariants as kind
-use Rattle.si_model.specs.Versions.{same_value, is_write_of, part_writes, last_write, Writes, IsFinalWrite, next_after, IsNext}
+use Rattle.si_model.specs.Versions.{same_value, is_write_of, part_writes, last_write, Writes, next_after, IsNext}
 
 -- T is a committed transaction whose operation at the place i read the key and returned v
 pub record IsRead (Q : List Part) (T : Part) (i : ℕ) (v : Option Value) : Type 0 where

@@ -1,6 +1,6 @@
 -- The versions of one key, over the parts on it. A transaction's last write of a key installs its version when it commits
 -- (Adya's thesis, chapter 4); the version order by commit stamps is this project's choice.
-use Rattle.std.specs.Prelude.{◌≡◌, ◌≢◌, ℕ, ◌<◌, ◌≤◌, Bool, true, false, if◌then◌else◌, nat_eq, nat_lt, List, [], ◌∷◌, Some, None, Option, ⊤}
+use Rattle.std.specs.Prelude.{◌≡◌, ℕ, ◌≤◌, Bool, true, false, if◌then◌else◌, nat_eq, nat_lt, List, Some, None, Option}
 use Rattle.std.specs.List.{Contains, list_any, fold}
 use Rattle.std.specs.Option.{option_or}
 use Rattle.si_model.specs.declared.numbers.Stamp.{Stamp}
