@@ -18,9 +18,11 @@ use Rattle.si_model.specs.declared.refusals.Refusal.TheVariants as refusal
 use Rattle.si_model.specs.Parts.{same_key}
 use Rattle.si_model.specs.Versions.{same_value, commit_of}
 
+-- whether two ids are equal
 abbrev pub same_id : TxnId → TxnId → Bool
 same_id u w = nat_eq u.0 w.0
 
+-- whether two stamps are equal
 abbrev pub same_stamp : Stamp → Stamp → Bool
 same_stamp s c = nat_eq s.0 c.0
 
@@ -29,6 +31,7 @@ abbrev pub status_of : Outcome → Status
 status_of (outcome.Committed c) = status.Committed c
 status_of outcome.Aborted = status.Aborted
 
+-- whether it isn't known what became of the transaction
 abbrev pub is_in_doubt : Status → Bool
 is_in_doubt (status.Committed c) = false
 is_in_doubt status.Aborted = false

@@ -1,4 +1,5 @@
--- When a history is well formed: two conditions of Adya's thesis, chapter 4, on histories, which are no phenomena.
+-- When a history is well formed: two conditions on histories of Adya's thesis, chapter 3, which are no phenomena. That the writer
+-- of a value is present and not in doubt is this project's choice.
 use Rattle.std.specs.Prelude.{◌≡◌, ◌≢◌, ℕ, List, Some, None, Option}
 use Rattle.std.specs.List.{Contains}
 use Rattle.si_model.specs.declared.numbers.Value.{Value}

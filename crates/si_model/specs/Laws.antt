@@ -1,4 +1,4 @@
--- The laws of the definitions, each the contract of a public function of `laws` with an empty body.
+-- The laws of the definitions, each the contract of a public function of `laws` with an empty body. They are this project's.
 use Rattle.std.specs.Prelude.{◌≡◌, ◌↔◌, ℕ, Bool, List, [], ◌∷◌, ◌++◌, Some, Option}
 use Rattle.std.specs.List.{Contains, filter}
 use Rattle.std.specs.List.Sorted.{IsStrictlySortedBy}

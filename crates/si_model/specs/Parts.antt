@@ -1,4 +1,5 @@
 -- What each transaction does on one key. All that is said of a key is said of these parts, so keys are compared here and nowhere else.
+-- Reads and writes are those of Adya's thesis, chapter 3; the parts are this project's choice.
 use Rattle.std.specs.Prelude.{ℕ, Bool, if◌then◌else◌, nat_eq, List, [], ◌∷◌, Some, None, Option}
 use Rattle.std.specs.List.{filter_map, enumerate_from}
 use Rattle.std.specs.Cmp.Lexicographic.{pointwise}

@@ -1,4 +1,6 @@
 -- The reads of one key, what is seen at each, and what kind of finding it is: the first case that applies.
+-- Adya's thesis has the phenomena that the kinds stand for, G1a and G1b in chapter 3 and G-SI in chapter 4, and in chapter 3
+-- the two conditions on own writes. What is seen at a read, and the order of the cases, are this project's choice.
 use Rattle.std.specs.Prelude.{◌≡◌, ◌≢◌, ℕ, Bool, true, false, ◌&&◌, if◌then◌else◌, nat_lt, List, Some, None, Option}
 use Rattle.std.specs.List.{Contains, filter, find, list_any}
 use Rattle.std.specs.Option.{option_eq}
@@ -112,12 +114,14 @@ sight_of Q T i v = record {
 }
 
 -- The kind of a read, by cases in their order.
--- a version next after the one read that was installed before the reader's start was missed
+-- a version next after the one read that was installed before the reader's start was missed: of G-SI(b), missed effects,
+-- since an rw edge leads to its installer and a start edge back
 abbrev pub judged_by_next : Sight → Option Installer → Option Kind
 judged_by_next s None = None
 judged_by_next s (Some n) = if nat_lt n.commit.0 s.start.0 then Some (kind.Stale s.txn s.op s.read n.txn) else None
 
--- a value is from nowhere, or its writer is in doubt, or aborted, or writes another value later, or committed after the reader's start
+-- a value is from nowhere, or its writer is in doubt, or aborted (G1a, aborted reads), or writes another value later (G1b,
+-- intermediate reads), or committed after the reader's start (G-SI(a), interference: a wr edge without a start edge)
 abbrev pub judged_by_source : Sight → Source → Option Kind
 judged_by_source s source.Missing = Some (kind.Unknown s.txn s.op s.read)
 judged_by_source s (source.InDoubt u) = Some (kind.Doubt s.txn s.op s.read u)
@@ -126,7 +130,8 @@ judged_by_source s (source.Earlier u) = Some (kind.Intermediate s.txn s.op s.rea
 judged_by_source s (source.Installed u c) = if nat_lt s.start.0 c.0 then Some (kind.Future s.txn s.op s.read u) else judged_by_next s s.next
 judged_by_source s source.Initial = judged_by_next s s.next
 
--- the reader's own value is returned where there is one, and else no value that the reader itself writes later
+-- the reader's own value is returned where there is one, and else no value that the reader itself writes later: the thesis's
+-- conditions that a transaction reads its own writes, and that no read precedes the write of its value
 abbrev pub judged_by_own : Sight → Option Value → Bool → Option Kind
 judged_by_own s (Some w) later = if option_eq same_value s.read (Some w) then None else Some (kind.Own s.txn s.op s.read (Some w))
 judged_by_own s None true = Some (kind.Own s.txn s.op s.read None)
@@ -136,6 +141,7 @@ judged_by_own s None false = judged_by_source s s.source
 unfoldable pub kind_of : Sight → Option Kind
 kind_of s = judged_by_own s s.own s.later
 
--- whether the installer of a version, with that commit stamp, committed after the next one's start
+-- whether the installer of a version, with that commit stamp, committed after the next one's start: of G-SI(a), interference,
+-- since it is a ww edge without a start edge
 abbrev pub overlaps : Stamp → Stamp → Bool
 overlaps commit start = nat_lt start.0 commit.0
