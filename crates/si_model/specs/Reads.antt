@@ -55,14 +55,23 @@ IsSource Q (Some v) (source.Aborted u) = (T : Part) × IsWriter Q v u T × (T.st
 IsSource Q (Some v) (source.Earlier u) = (T : Part) × (c : Stamp) × IsWriter Q v u T × (T.status ≡ status.Committed c) × (last_write T.accesses ≢ Some v)
 IsSource Q (Some v) (source.Installed u c) = (T : Part) × IsWriter Q v u T × (T.status ≡ status.Committed c) × (last_write T.accesses ≡ Some v)
 
--- the version next after an initial or an installed one; after no other is one looked for
+-- the version that was read, where what was read is one: the initial version, or an installed one by its commit stamp
+abbrev pub version_of : Source → Option (Option Stamp)
+version_of source.Initial = Some None
+version_of (source.Installed u c) = Some (Some c)
+version_of source.Missing = None
+version_of (source.InDoubt u) = None
+version_of (source.Aborted u) = None
+version_of (source.Earlier u) = None
+
+-- the version next after one; without one none is looked for
+abbrev pub IsNextOf : List Part → Option (Option Stamp) → Option Installer → Type 0
+IsNextOf Q None n = n ≡ None
+IsNextOf Q (Some after) n = IsNext Q after n
+
+-- the version next after the one that was read
 abbrev pub IsNextAt : List Part → Source → Option Installer → Type 0
-IsNextAt Q source.Initial n = IsNext Q None n
-IsNextAt Q (source.Installed u c) n = IsNext Q (Some c) n
-IsNextAt Q source.Missing n = n ≡ None
-IsNextAt Q (source.InDoubt u) n = n ≡ None
-IsNextAt Q (source.Aborted u) n = n ≡ None
-IsNextAt Q (source.Earlier u) n = n ≡ None
+IsNextAt Q s n = IsNextOf Q (version_of s) n
 
 -- what is seen at T's read of v at the place i
 pub record IsSight (Q : List Part) (T : Part) (i : ℕ) (v : Option Value) (s : Sight) : Type 0 where
@@ -91,14 +100,14 @@ unfoldable pub source_of : List Part → Option Value → Source
 source_of Q None = source.Initial
 source_of Q (Some v) = source_from v (find (part_writes v) Q)
 
--- the version next after an initial or an installed one
+-- the version next after one, where there is one
+abbrev pub next_of : List Part → Option (Option Stamp) → Option Installer
+next_of Q None = None
+next_of Q (Some after) = next_after Q after
+
+-- the version next after the one that was read
 unfoldable pub next_at : List Part → Source → Option Installer
-next_at Q source.Initial = next_after Q None
-next_at Q (source.Installed u c) = next_after Q (Some c)
-next_at Q source.Missing = None
-next_at Q (source.InDoubt u) = None
-next_at Q (source.Aborted u) = None
-next_at Q (source.Earlier u) = None
+next_at Q s = next_of Q (version_of s)
 
 -- what is seen at T's read of v at the place i
 unfoldable pub sight_of : List Part → Part → ℕ → Option Value → Sight
