@@ -127,3 +127,7 @@ rising_part P x T c = let f = part_from x P T c in subst (λ ys. Rising 0 ys) (s
 
 pub last_is_final : (P : List Txn) (x : List ℕ) (T : Part) (v : Value) → Contains (parts x P) T → (last_write T.accesses ≡ Some v) ↔ IsFinalWrite T v
 last_is_final P x T v c = let r = rising_part P x T c in (final T v r, last_from_final T v r)
+
+-- two accesses of a part at one place are one
+pub one_access : (P : List Txn) (x : List ℕ) (T : Part) (a b : Placed) → Contains (parts x P) T → Contains T.accesses a → Contains T.accesses b → a.place ≡ b.place → a ≡ b
+one_access P x T a b c = one_at_place 0 T.accesses a b (rising_part P x T c)

@@ -91,11 +91,11 @@ find_nobody Q v none = by (find (part_writes v) Q) refl
     by None e = refl
     by (Some U) e = let f = find-Some (part_writes v) Q U e in absurd (none U f.0 (writes_from_test v U f.1))
 
-last_is : (o : Option Value) (v : Value) → option_eq same_value o (Some v) ≡ true → o ≡ Some v
+pub last_is : (o : Option Value) (v : Value) → option_eq same_value o (Some v) ≡ true → o ≡ Some v
 last_is None v e = cc
 last_is (Some w) v e = ap Some (same_value_is w v e)
 
-last_itself : (o : Option Value) (v : Value) → o ≡ Some v → option_eq same_value o (Some v) ≡ true
+pub last_itself : (o : Option Value) (v : Value) → o ≡ Some v → option_eq same_value o (Some v) ≡ true
 last_itself o v e = rw e (same_value_itself v)
 
 -- ---- where a value comes from
