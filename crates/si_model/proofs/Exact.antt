@@ -1,14 +1,12 @@
 -- The list of the findings is in order and has exactly what the relation says.
-use Rattle.std.proofs.Common.{◌≡◌, ◌≢◌, ◌⊎◌, inl, inr, ℕ, Bool, true, false, nat_lt, nat_eq, List, [], ◌∷◌, ◌++◌, map, Option, Some, None, refl, sym, ap, subst, ◌∙◌, arith, cond, slice_get, ◌↔◌, zero, suc}
-use Rattle.std.specs.List.{Contains, flat_map, filter_map, filter, fold}
+use Rattle.std.proofs.Common.{◌≡◌, ◌⊎◌, inl, inr, ℕ, Bool, true, false, List, [], ◌∷◌, Option, Some, None, refl, sym, ap, subst, ◌∙◌, cond}
+use Rattle.std.specs.List.{Contains, flat_map, filter, fold}
 use Rattle.std.specs.List.Sorted.{IsStrictlySortedBy}
 use Rattle.std.specs.Option.{option_or}
-use Rattle.std.specs.Ordering.{nat_cmp}
-use Rattle.std.specs.Cmp.Lexicographic.{slice_cmp, nat_list_cmp_total}
+use Rattle.std.specs.Cmp.Lexicographic.{nat_list_cmp_total}
 use Rattle.std.proofs.lemmas.List.Kept.{IsStrictlySortedBy-filter}
 use Rattle.si_model.specs.declared.numbers.Stamp.{Stamp}
 use Rattle.si_model.specs.declared.numbers.Value.{Value}
-use Rattle.si_model.specs.declared.operations.Op.{Op}
 use Rattle.si_model.specs.declared.transactions.Txn.{Txn}
 use Rattle.si_model.specs.declared.transactions.Status.{Status}
 use Rattle.si_model.specs.declared.transactions.Status.TheVariants as status
@@ -21,15 +19,15 @@ use Rattle.si_model.specs.declared.kinds.Kind.{Kind}
 use Rattle.si_model.specs.declared.kinds.Kind.TheVariants as kind
 use Rattle.si_model.specs.declared.findings.Finding.{Finding}
 use Rattle.si_model.specs.Parts.{key_of, same_key, accesses, part_with, part, parts}
-use Rattle.si_model.specs.Versions.{commit_of, written, last_write, install, install_with, IsInstaller, IsNext, next_after}
-use Rattle.si_model.specs.Reads.{IsRead, sight_of}
+use Rattle.si_model.specs.Versions.{commit_of, written, last_write, install, install_with, IsNext, next_after}
+use Rattle.si_model.specs.Reads.{sight_of}
 use Rattle.si_model.specs.Order.{finding_cmp, in_order, IsListOf}
 use Rattle.si_model.specs.Findings.{Rules, cases, IsOfRead, IsOfPair, IsFoundOn, IsFindingOn, IsFinding, overlap_with, access_finding, placed_finding, kinds_by, kinds_of, finding_at, found_on, findings_on, keys_in, keys, found_at, findings}
 use Rattle.si_model.specs.History.{IsHistory, ArePartsOfHistory}
 use Rattle.si_model.proofs.Members.{Contains-nil, here, there, Contains-cons_cases, Contains-flat_map, Contains-from_flat_map, Contains-filter_map, Contains-from_filter_map, Contains-map, Contains-from_map, Contains-filter, Contains-from_filter, get_contains}
 use Rattle.si_model.proofs.InOrder.{sorted-in_order, Contains-in_order, Contains-from_in_order, same_sorted}
 use Rattle.si_model.proofs.FindingOrder.{exact_bytes, exact_findings, findings_total}
-use Rattle.si_model.proofs.Histories.{same_some, key_is, key_itself, part_from, IsPartOf, Contains-from_accesses, parts_of_history}
+use Rattle.si_model.proofs.Histories.{same_some, key_is, key_itself, Contains-from_accesses, parts_of_history}
 use Rattle.si_model.proofs.Nearest.{next_is, same_next, install_is}
 use Rattle.si_model.proofs.Sources.{sight_is, same_sight}
 

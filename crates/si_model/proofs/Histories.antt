@@ -1,17 +1,14 @@
 -- What the transactions of a history do on one key are parts of a history.
-use Rattle.std.proofs.Common.{◌≡◌, ◌≢◌, ◌⊎◌, inl, inr, ℕ, ◌+◌, ◌-◌, ◌<◌, ◌≤◌, Bool, true, false, List, [], ◌∷◌, length, get_or, Option, Some, None, zero, suc, refl, sym, ap, subst, ◌∙◌, arith, cond, slice_get}
-use Rattle.std.specs.List.{Contains, AllPairs, All, filter_map, enumerate_from, cons_option}
+use Rattle.std.proofs.Common.{◌≡◌, ◌≢◌, inl, inr, ℕ, ◌+◌, ◌<◌, Bool, true, false, List, [], ◌∷◌, get_or, Option, Some, None, zero, suc, refl, sym, ap, subst, ◌∙◌, arith, cond, slice_get}
+use Rattle.std.specs.List.{Contains, AllPairs, filter_map, enumerate_from, cons_option}
 use Rattle.std.proofs.lemmas.List.Elements.{Contains-get_or}
 use Rattle.std.proofs.lemmas.List.Kept.{AllPairs-cons}
-use Rattle.std.proofs.lemmas.Bool.Decides.{Decides-eqb}
 use Rattle.std.specs.Cmp.Lexicographic.{bytes_decides}
 use Rattle.si_model.specs.declared.numbers.TxnId.{TxnId}
-use Rattle.si_model.specs.declared.numbers.Stamp.{Stamp}
 use Rattle.si_model.specs.declared.numbers.Value.{Value}
 use Rattle.si_model.specs.declared.operations.Op.{Op}
 use Rattle.si_model.specs.declared.operations.Op.TheVariants as op
 use Rattle.si_model.specs.declared.transactions.Txn.{Txn}
-use Rattle.si_model.specs.declared.parts.Access.{Access}
 use Rattle.si_model.specs.declared.parts.Access.TheVariants as access
 use Rattle.si_model.specs.declared.parts.Placed.{Placed}
 use Rattle.si_model.specs.declared.parts.Part.{Part}

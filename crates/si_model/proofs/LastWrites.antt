@@ -1,5 +1,5 @@
 -- The last write of a part is a write with none later.
-use Rattle.std.proofs.Common.{◌≡◌, ◌⊎◌, inl, inr, ℕ, ◌+◌, ◌<◌, ◌≤◌, Bool, true, false, List, [], ◌∷◌, Option, Some, None, refl, sym, ap, subst, ◌∙◌, arith, cond, ◌↔◌}
+use Rattle.std.proofs.Common.{◌≡◌, ◌⊎◌, inl, inr, ℕ, ◌+◌, ◌≤◌, Bool, true, false, List, [], ◌∷◌, Option, Some, None, refl, sym, ap, subst, ◌∙◌, arith, cond, ◌↔◌}
 use Rattle.std.specs.List.{Contains, fold, filter_map, enumerate_from, cons_option}
 use Rattle.std.specs.Option.{option_or}
 use Rattle.si_model.specs.declared.numbers.Value.{Value}
@@ -9,8 +9,8 @@ use Rattle.si_model.specs.declared.parts.Access.{Access}
 use Rattle.si_model.specs.declared.parts.Access.TheVariants as access
 use Rattle.si_model.specs.declared.parts.Placed.{Placed}
 use Rattle.si_model.specs.declared.parts.Part.{Part}
-use Rattle.si_model.specs.Parts.{key_of, access_of, same_key, placed_at, accesses, parts}
-use Rattle.si_model.specs.Versions.{written, last_write, WritesAt, IsFinalWrite}
+use Rattle.si_model.specs.Parts.{key_of, access_of, same_key, placed_at, parts}
+use Rattle.si_model.specs.Versions.{written, last_write, IsFinalWrite}
 use Rattle.si_model.proofs.Members.{Contains-nil, here, there, Contains-cons_cases}
 use Rattle.si_model.proofs.Histories.{same_some, part_from}
 use Rattle.si_model.proofs.Exact.{some_last}
@@ -127,3 +127,7 @@ rising_part P x T c = let f = part_from x P T c in subst (λ ys. Rising 0 ys) (s
 
 pub last_is_final : (P : List Txn) (x : List ℕ) (T : Part) (v : Value) → Contains (parts x P) T → (last_write T.accesses ≡ Some v) ↔ IsFinalWrite T v
 last_is_final P x T v c = let r = rising_part P x T c in (final T v r, last_from_final T v r)
+
+-- two accesses of a part at one place are one
+pub one_access : (P : List Txn) (x : List ℕ) (T : Part) (a b : Placed) → Contains (parts x P) T → Contains T.accesses a → Contains T.accesses b → a.place ≡ b.place → a ≡ b
+one_access P x T a b c = one_at_place 0 T.accesses a b (rising_part P x T c)

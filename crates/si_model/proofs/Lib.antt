@@ -10,3 +10,4 @@ pub mod LastWrites
 pub mod Acceptance
 pub mod Present
 pub mod Deciding
+pub mod Formed

@@ -1,5 +1,5 @@
 -- What lists contain that are made from other lists.
-use Rattle.std.proofs.Common.{◌≡◌, ◌⊎◌, inl, inr, ℕ, ◌<◌, Bool, true, false, List, [], ◌∷◌, ◌++◌, length, map, get_or, Option, Some, None, zero, suc, refl, sym, ap, subst, ◌∙◌, arith, cond, slice_get}
+use Rattle.std.proofs.Common.{◌≡◌, ◌⊎◌, inl, inr, ℕ, ◌<◌, Bool, true, false, List, [], ◌∷◌, length, map, get_or, Option, Some, None, zero, suc, refl, sym, ap, subst, ◌∙◌, arith, cond, slice_get}
 use Rattle.std.specs.List.{Contains, flat_map, filter_map, cons_option, filter}
 use Rattle.std.proofs.lemmas.List.Elements.{Contains-append_left, Contains-append_right, Contains-append_cases}
 

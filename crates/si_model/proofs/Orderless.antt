@@ -1,5 +1,5 @@
 -- The order of the transactions doesn't matter.
-use Rattle.std.proofs.Common.{◌≡◌, ◌⊎◌, inl, inr, ℕ, List, Option, Some, None}
+use Rattle.std.proofs.Common.{◌≡◌, inl, inr, ℕ, List, Option, Some, None}
 use Rattle.std.specs.List.{Contains}
 use Rattle.std.specs.List.Sorted.{IsStrictlySortedBy}
 use Rattle.si_model.specs.declared.numbers.Stamp.{Stamp}
@@ -15,9 +15,9 @@ use Rattle.si_model.specs.declared.kinds.Kind.{Kind}
 use Rattle.si_model.specs.declared.findings.Finding.{Finding}
 use Rattle.si_model.specs.Parts.{part, parts}
 use Rattle.si_model.specs.Versions.{IsInstaller, IsNext}
-use Rattle.si_model.specs.Reads.{IsRead, IsWriter, IsSource, IsNextAt, IsSight}
+use Rattle.si_model.specs.Reads.{IsRead, IsWriter, IsSource, version_of, IsNextOf, IsSight}
 use Rattle.si_model.specs.Order.{finding_cmp}
-use Rattle.si_model.specs.Findings.{Rules, cases, IsOfRead, IsOfPair, IsFoundOn, IsFinding, findings}
+use Rattle.si_model.specs.Findings.{Rules, cases, IsFoundOn, IsFinding, findings}
 use Rattle.si_model.specs.History.{IsHistory}
 use Rattle.si_model.specs.Laws.{HaveSame}
 use Rattle.si_model.proofs.Members.{Contains-filter_map, Contains-from_filter_map}
@@ -48,16 +48,12 @@ module _ (Q R : List Part) (to : (T : Part) → Contains Q T → Contains R T) (
   same_source (Some v) (source.Earlier u) i = (i.0, i.1, same_writer v u i.0 i.2, i.3, i.4)
   same_source (Some v) (source.Installed u c) i = (i.0, same_writer v u i.0 i.1, i.2, i.3)
 
-  same_next_at : (s : Source) (n : Option Installer) → IsNextAt Q s n → IsNextAt R s n
-  same_next_at source.Initial n i = same_next None n i
-  same_next_at (source.Installed u c) n i = same_next (Some c) n i
-  same_next_at source.Missing n i = i
-  same_next_at (source.InDoubt u) n i = i
-  same_next_at (source.Aborted u) n i = i
-  same_next_at (source.Earlier u) n i = i
+  same_next_of : (version : Option (Option Stamp)) (n : Option Installer) → IsNextOf Q version n → IsNextOf R version n
+  same_next_of None n i = i
+  same_next_of (Some after) n i = same_next after n i
 
   same_sight : (T : Part) (i : ℕ) (v : Option Value) (s : Sight) → IsSight Q T i v s → IsSight R T i v s
-  same_sight T i v s is = record { txn = is.txn; op = is.op; start = is.start; read = is.read; own = is.own; later = is.later; from = same_source v s.source is.from; next = same_next_at s.source s.next is.next }
+  same_sight T i v s is = record { txn = is.txn; op = is.op; start = is.start; read = is.read; own = is.own; later = is.later; from = same_source v s.source is.from; next = same_next_of (version_of s.source) s.next is.next }
 
   same_read : (T : Part) (i : ℕ) (v : Option Value) → IsRead Q T i v → IsRead R T i v
   same_read T i v r = record { part = to T r.part; committed = r.committed; returned = r.returned }

@@ -1,6 +1,6 @@
 -- Each acceptable edit leaves a history, so what is present after an accepted journal is one.
-use Rattle.std.proofs.Common.{◌≡◌, ◌≢◌, ◌⊎◌, inl, inr, ℕ, ◌+◌, ◌<◌, ◌≤◌, Bool, true, false, not, ◌&&◌, ◌||◌, nat_lt, nat_eq, List, [], ◌∷◌, ◌++◌, map, take, length, get_or, Option, Some, None, is_some, zero, suc, refl, sym, ap, subst, ◌∙◌, arith, cond, slice_get, append_assoc, append-nil}
-use Rattle.std.specs.List.{Contains, AllPairs, filter, find, list_any}
+use Rattle.std.proofs.Common.{◌≡◌, ◌≢◌, ◌⊎◌, inl, inr, ℕ, ◌<◌, Bool, true, false, not, ◌&&◌, ◌||◌, nat_lt, List, [], ◌∷◌, ◌++◌, map, take, get_or, Option, Some, None, is_some, zero, suc, refl, sym, ap, subst, ◌∙◌, arith, cond, slice_get, append_assoc, append-nil}
+use Rattle.std.specs.List.{Contains, AllPairs, filter, find}
 use Rattle.std.specs.Option.{option_or, option_map, option_eq}
 use Rattle.std.proofs.lemmas.Bool.Decides.{nat_tests, Decides-eqb, Decides-ltb}
 use Rattle.std.proofs.lemmas.List.Kept.{AllPairs-filter}
@@ -9,21 +9,19 @@ use Rattle.std.proofs.lemmas.List.Elements.{Contains-get_or}
 use Rattle.si_model.specs.declared.numbers.TxnId.{TxnId}
 use Rattle.si_model.specs.declared.numbers.Stamp.{Stamp}
 use Rattle.si_model.specs.declared.numbers.Value.{Value}
-use Rattle.si_model.specs.declared.operations.Op.{Op}
 use Rattle.si_model.specs.declared.operations.Op.TheVariants as op
 use Rattle.si_model.specs.declared.transactions.Status.{Status}
 use Rattle.si_model.specs.declared.transactions.Outcome.{Outcome}
 use Rattle.si_model.specs.declared.transactions.Txn.{Txn}
 use Rattle.si_model.specs.declared.edits.Edit.{Edit}
 use Rattle.si_model.specs.declared.edits.Edit.TheVariants as edit
-use Rattle.si_model.specs.declared.refusals.Refusal.{Refusal}
 use Rattle.si_model.specs.declared.refusals.Refusal.TheVariants as refusal
 use Rattle.si_model.specs.Parts.{same_key}
 use Rattle.si_model.specs.Versions.{same_value, commit_of}
 use Rattle.si_model.specs.History.{WritesPairAt, IsHistory}
-use Rattle.si_model.specs.Edits.{same_id, same_stamp, status_of, is_in_doubt, with_id, commits_at, has_stamp, least_id, IsLeastId, same_write, writes_pair_of, first_at, IsFirst, twice_at, taken_at, order_refusal, start_refusal, commit_refusal, arrival_refusal, resolution_refusal_of, resolution_refusal, refusal_on, IsAcceptable, resolved, after}
+use Rattle.si_model.specs.Edits.{same_id, same_stamp, status_of, with_id, commits_at, has_stamp, least_id, IsLeastId, same_write, writes_pair_of, first_at, IsFirst, twice_at, taken_at, order_refusal, start_refusal, commit_refusal, arrival_refusal, resolution_refusal_of, resolution_refusal, refusal_on, IsAcceptable, resolved, after}
 use Rattle.si_model.specs.Journals.{present, IsAccepted}
-use Rattle.si_model.proofs.Members.{Contains-nil, here, there, Contains-map, Contains-from_map, Contains-from_filter, get_contains}
+use Rattle.si_model.proofs.Members.{Contains-nil, here, there, Contains-from_map, Contains-from_filter, get_contains}
 use Rattle.si_model.proofs.Histories.{pairs_head, pairs_tail, pairs_cons, Differ, same_named, same_some, key_itself}
 use Rattle.si_model.proofs.Nearest.{push_cases}
 use Rattle.si_model.proofs.Sources.{find-Some, find-None, any_from, same_value_itself}

@@ -1,5 +1,5 @@
 -- What the program sees at a read is what is seen there, and nothing else is.
-use Rattle.std.proofs.Common.{◌≡◌, ◌≢◌, ◌⊎◌, inl, inr, ℕ, ◌<◌, ◌≤◌, Bool, true, false, ◌||◌, nat_lt, nat_eq, List, [], ◌∷◌, ◌++◌, Option, Some, None, refl, sym, ap, subst, ◌∙◌, arith, cond}
+use Rattle.std.proofs.Common.{◌≡◌, ◌≢◌, inl, inr, ℕ, Bool, true, false, ◌||◌, List, [], ◌∷◌, Option, Some, None, refl, sym, ap, subst, ◌∙◌, cond}
 use Rattle.std.specs.List.{Contains, find, list_any}
 use Rattle.std.specs.Option.{option_eq}
 use Rattle.std.proofs.lemmas.Bool.Decides.{Decides-eqb}
@@ -10,14 +10,13 @@ use Rattle.si_model.specs.declared.transactions.Status.{Status}
 use Rattle.si_model.specs.declared.transactions.Status.TheVariants as status
 use Rattle.si_model.specs.declared.parts.Access.{Access}
 use Rattle.si_model.specs.declared.parts.Access.TheVariants as access
-use Rattle.si_model.specs.declared.parts.Placed.{Placed}
 use Rattle.si_model.specs.declared.parts.Part.{Part}
 use Rattle.si_model.specs.declared.sights.Installer.{Installer}
 use Rattle.si_model.specs.declared.sights.Source.{Source}
 use Rattle.si_model.specs.declared.sights.Source.TheVariants as source
 use Rattle.si_model.specs.declared.sights.Sight.{Sight}
-use Rattle.si_model.specs.Versions.{same_value, is_write_of, part_writes, last_write, Writes, IsNext, next_after}
-use Rattle.si_model.specs.Reads.{IsWriter, IsSource, IsNextAt, IsSight, own_value, writes_later, source_by, source_from, source_of, next_at, sight_of}
+use Rattle.si_model.specs.Versions.{same_value, is_write_of, part_writes, last_write, Writes, next_after}
+use Rattle.si_model.specs.Reads.{IsWriter, IsSource, version_of, IsNextOf, IsNextAt, IsSight, source_by, source_from, source_of, next_of, next_at, sight_of}
 use Rattle.si_model.specs.History.{ArePartsOfHistory}
 use Rattle.si_model.proofs.Members.{Contains-nil, here, there, Contains-cons_cases}
 use Rattle.si_model.proofs.Histories.{same_some, same_named}
@@ -92,11 +91,11 @@ find_nobody Q v none = by (find (part_writes v) Q) refl
     by None e = refl
     by (Some U) e = let f = find-Some (part_writes v) Q U e in absurd (none U f.0 (writes_from_test v U f.1))
 
-last_is : (o : Option Value) (v : Value) → option_eq same_value o (Some v) ≡ true → o ≡ Some v
+pub last_is : (o : Option Value) (v : Value) → option_eq same_value o (Some v) ≡ true → o ≡ Some v
 last_is None v e = cc
 last_is (Some w) v e = ap Some (same_value_is w v e)
 
-last_itself : (o : Option Value) (v : Value) → o ≡ Some v → option_eq same_value o (Some v) ≡ true
+pub last_itself : (o : Option Value) (v : Value) → o ≡ Some v → option_eq same_value o (Some v) ≡ true
 last_itself o v e = rw e (same_value_itself v)
 
 -- ---- where a value comes from
@@ -154,23 +153,21 @@ same_source Q h (Some v) (source.Installed u c) i = ap (λ w. source.Installed w
 
 -- ---- the version next after it
 
-pub next_at_is : (Q : List Part) (s : Source) → IsNextAt Q s (next_at Q s)
-unfolding next_at
-next_at_is Q source.Initial = next_is Q None
-next_at_is Q (source.Installed u c) = next_is Q (Some c)
-next_at_is Q source.Missing = refl
-next_at_is Q (source.InDoubt u) = refl
-next_at_is Q (source.Aborted u) = refl
-next_at_is Q (source.Earlier u) = refl
+next_of_is : (Q : List Part) (version : Option (Option Stamp)) → IsNextOf Q version (next_of Q version)
+next_of_is Q None = refl
+next_of_is Q (Some after) = next_is Q after
 
-pub same_next_at : (Q : List Part) → ArePartsOfHistory Q → (s : Source) (n : Option Installer) → IsNextAt Q s n → n ≡ next_at Q s
+next_at_is : (Q : List Part) (s : Source) → IsNextAt Q s (next_at Q s)
 unfolding next_at
-same_next_at Q h source.Initial n i = same_next Q h None n (next_after Q None) i (next_is Q None)
-same_next_at Q h (source.Installed u c) n i = same_next Q h (Some c) n (next_after Q (Some c)) i (next_is Q (Some c))
-same_next_at Q h source.Missing n i = i
-same_next_at Q h (source.InDoubt u) n i = i
-same_next_at Q h (source.Aborted u) n i = i
-same_next_at Q h (source.Earlier u) n i = i
+next_at_is Q s = next_of_is Q (version_of s)
+
+same_next_of : (Q : List Part) → ArePartsOfHistory Q → (version : Option (Option Stamp)) (n : Option Installer) → IsNextOf Q version n → n ≡ next_of Q version
+same_next_of Q h None n i = i
+same_next_of Q h (Some after) n i = same_next Q h after n (next_after Q after) i (next_is Q after)
+
+same_next_at : (Q : List Part) → ArePartsOfHistory Q → (s : Source) (n : Option Installer) → IsNextAt Q s n → n ≡ next_at Q s
+unfolding next_at
+same_next_at Q h s n i = same_next_of Q h (version_of s) n i
 
 -- ---- what is seen at a read
 

@@ -1,5 +1,5 @@
 -- Why an edit isn't accepted, and what it leaves present. All of it is this project's choice.
-use Rattle.std.specs.Prelude.{◌≡◌, ℕ, ◌+◌, ◌<◌, ◌≤◌, Bool, true, false, not, ◌&&◌, ◌||◌, if◌then◌else◌, nat_eq, nat_lt, List, [], ◌∷◌, ◌++◌, map, take, length, Some, None, Option, is_some, slice_get}
+use Rattle.std.specs.Prelude.{◌≡◌, ℕ, ◌+◌, ◌<◌, ◌≤◌, Bool, true, false, not, ◌&&◌, ◌||◌, if◌then◌else◌, nat_eq, nat_lt, List, [], ◌∷◌, ◌++◌, map, take, Some, None, Option, is_some, slice_get}
 use Rattle.std.specs.List.{Contains, filter, find, list_any, fold}
 use Rattle.std.specs.Option.{option_or, option_map, option_eq}
 use Rattle.si_model.specs.declared.numbers.TxnId.{TxnId}
@@ -18,9 +18,11 @@ use Rattle.si_model.specs.declared.refusals.Refusal.TheVariants as refusal
 use Rattle.si_model.specs.Parts.{same_key}
 use Rattle.si_model.specs.Versions.{same_value, commit_of}
 
+-- whether two ids are equal
 abbrev pub same_id : TxnId → TxnId → Bool
 same_id u w = nat_eq u.0 w.0
 
+-- whether two stamps are equal
 abbrev pub same_stamp : Stamp → Stamp → Bool
 same_stamp s c = nat_eq s.0 c.0
 
@@ -29,6 +31,7 @@ abbrev pub status_of : Outcome → Status
 status_of (outcome.Committed c) = status.Committed c
 status_of outcome.Aborted = status.Aborted
 
+-- whether it isn't known what became of the transaction
 abbrev pub is_in_doubt : Status → Bool
 is_in_doubt (status.Committed c) = false
 is_in_doubt status.Aborted = false

@@ -1,7 +1,7 @@
 -- The findings of a list of transactions: as a relation, with quantifiers over the transactions, and as the one list in order.
-use Rattle.std.specs.Prelude.{◌≡◌, ◌⊎◌, ℕ, Bool, true, if◌then◌else◌, List, [], ◌∷◌, map, Some, None, Option}
-use Rattle.std.specs.List.{Contains, flat_map, filter_map}
-use Rattle.std.specs.Option.{option_map}
+-- The kinds stand for phenomena of Adya's thesis, as `Reads` says; the findings themselves are this project's choice.
+use Rattle.std.specs.Prelude.{◌≡◌, ◌⊎◌, ℕ, Bool, true, if◌then◌else◌, List, [], map, Some, None, Option}
+use Rattle.std.specs.List.{flat_map, filter_map}
 use Rattle.std.specs.Ordering.{nat_cmp}
 use Rattle.std.specs.Cmp.Lexicographic.{slice_cmp}
 use Rattle.si_model.specs.declared.numbers.Stamp.{Stamp}
@@ -71,6 +71,7 @@ abbrev pub access_finding : Rules → List Part → Part → Stamp → ℕ → A
 access_finding J Q T c i (access.Read v) = J.read (sight_of Q T i v)
 access_finding J Q T c i (access.Write v) = overlap_with J T c (next_after Q (Some c))
 
+-- the same of an access with its place
 abbrev pub placed_finding : Rules → List Part → Part → Stamp → Placed → Option Kind
 placed_finding J Q T c a = access_finding J Q T c a.place a.access
 

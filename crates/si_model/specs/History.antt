@@ -1,5 +1,5 @@
--- What a history is. Adya's thesis, chapter 4, has histories of transactions; ids, stamps and unique pairs are this project's choice.
-use Rattle.std.specs.Prelude.{◌≡◌, ◌≢◌, ℕ, ◌<◌, List, Some, None, Option, slice_get}
+-- What a history is. Adya's thesis, chapter 3, has histories of transactions; ids, stamps and unique pairs are this project's choice.
+use Rattle.std.specs.Prelude.{◌≡◌, ◌≢◌, ℕ, ◌<◌, List, Some, slice_get}
 use Rattle.std.specs.List.{Contains, AllPairs}
 use Rattle.si_model.specs.declared.numbers.Stamp.{Stamp}
 use Rattle.si_model.specs.declared.numbers.Value.{Value}
@@ -23,7 +23,7 @@ pub record IsHistory (P : List Txn) : Type 0 where
   -- a pair of key and value is written by one write at most
   pub writes : (A B : Txn) (i j : ℕ) (x : List ℕ) (v : Value) → Contains P A → Contains P B → WritesPairAt A i x v → WritesPairAt B j x v → (A.id ≡ B.id) × (i ≡ j)
 
--- the parts on one key of transactions that a database can have had
+-- the parts on one key of transactions that a database can have had: the same, said of the parts
 pub record ArePartsOfHistory (Q : List Part) : Type 0 where
   pub forward : (T : Part) (c : Stamp) → Contains Q T → commit_of T.status ≡ Some c → T.start.0 < c.0
   pub names : AllPairs (λ A B. A.id ≢ B.id) Q

@@ -1,5 +1,5 @@
--- The tests that decide whether transactions are a history.
-use Rattle.std.specs.Prelude.{ℕ, Bool, true, not, ◌&&◌, nat_lt, List, [], ◌∷◌, Some, None, Option}
+-- The tests that decide whether transactions are a history: `History` in a form that can be computed, this project's choice.
+use Rattle.std.specs.Prelude.{Bool, true, not, ◌&&◌, nat_lt, List, [], ◌∷◌, Some, None, Option}
 use Rattle.std.specs.List.{list_all}
 use Rattle.si_model.specs.declared.numbers.Stamp.{Stamp}
 use Rattle.si_model.specs.declared.operations.Op.{Op}

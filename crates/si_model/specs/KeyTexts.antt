@@ -1,5 +1,5 @@
 -- The text of a key, and the hash that picks its shard. All of it is this project's choice.
-use Rattle.std.specs.Prelude.{ℕ, ◌+◌, ◌*◌, ◌%◌, ◌^◌, ◌≤◌, List, length, fold}
+use Rattle.std.specs.Prelude.{ℕ, ◌+◌, ◌*◌, ◌%◌, ◌≤◌, List, length, fold}
 
 -- a text of 1 to 128 bytes
 abbrev pub IsKeyText : List ℕ → Type 0

@@ -1,5 +1,5 @@
--- The laws of the definitions, each the contract of a public function of `laws` with an empty body.
-use Rattle.std.specs.Prelude.{◌≡◌, ◌≢◌, ◌↔◌, ℕ, Bool, true, List, [], ◌∷◌, ◌++◌, Some, None, Option}
+-- The laws of the definitions, each the contract of a public function of `laws` with an empty body. They are this project's.
+use Rattle.std.specs.Prelude.{◌≡◌, ◌↔◌, ℕ, Bool, false, List, [], ◌∷◌, ◌++◌, Some, Option}
 use Rattle.std.specs.List.{Contains, filter}
 use Rattle.std.specs.List.Sorted.{IsStrictlySortedBy}
 use Rattle.std.specs.declared.cmp.Ordering.TheVariants.{Equal}
@@ -16,6 +16,7 @@ use Rattle.si_model.specs.Versions.{last_write, IsFinalWrite}
 use Rattle.si_model.specs.Order.{finding_cmp, IsListOf}
 use Rattle.si_model.specs.Findings.{Rules, cases, IsFinding, IsFindingOn, findings, findings_on}
 use Rattle.si_model.specs.History.{IsHistory, ArePartsOfHistory}
+use Rattle.si_model.specs.Form.{IsWellFormed, concerns_form}
 use Rattle.si_model.specs.Edits.{IsAcceptable, after, least_id, IsLeastId, first_at, IsFirst}
 use Rattle.si_model.specs.Journals.{present, IsAccepted}
 
@@ -38,6 +39,10 @@ OrderIsStrict = IsTotalOrder finding_cmp × ((f g : Finding) → finding_cmp f g
 -- findings have one list in strict order
 abbrev pub ListIsUnique : Type 0
 ListIsUnique = (fs gs : List Finding) → IsStrictlySortedBy finding_cmp fs → IsStrictlySortedBy finding_cmp gs → HaveSame fs gs → fs ≡ gs
+
+-- a history is well formed exactly where no finding is of the first three kinds
+abbrev pub FormIsFound : Type 0
+FormIsFound = (P : List Txn) → IsHistory P → IsWellFormed P ↔ ((f : Finding) → Contains (findings P) f → concerns_form f.kind ≡ false)
 
 -- the order of the transactions doesn't matter
 abbrev pub OrderIsFree : Type 0

@@ -1,5 +1,5 @@
--- The order of findings, and the one list in order that has given things.
-use Rattle.std.specs.Prelude.{◌≡◌, ℕ, Bool, ◌&&◌, nat_eq, List, [], ◌∷◌, Some, None, Option}
+-- The order of findings, and the one list in order that has given things. All of it is this project's choice.
+use Rattle.std.specs.Prelude.{ℕ, Bool, ◌&&◌, nat_eq, List, [], ◌∷◌, Some, None, Option}
 use Rattle.std.specs.List.{Contains}
 use Rattle.std.specs.List.Sorted.{IsStrictlySortedBy}
 use Rattle.std.specs.declared.cmp.Ordering.{Ordering}
@@ -46,6 +46,7 @@ pub record IsListOf {K : Type 0} (R : K → K → Ordering) (P : K → Type 0) (
   pub sound : (k : K) → Contains ks k → P k
   pub complete : (k : K) → P k → Contains ks k
 
+-- the first, second or third, as one thing is less than another, equal or greater
 abbrev pub by_order : {A : Type 0} → Ordering → A → A → A → A
 by_order Less a b c = a
 by_order Equal a b c = b

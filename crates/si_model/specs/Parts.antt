@@ -1,8 +1,8 @@
 -- What each transaction does on one key. All that is said of a key is said of these parts, so keys are compared here and nowhere else.
-use Rattle.std.specs.Prelude.{◌≡◌, ℕ, Bool, if◌then◌else◌, nat_eq, List, [], ◌∷◌, Some, None, Option}
+-- Reads and writes are those of Adya's thesis, chapter 3; the parts are this project's choice.
+use Rattle.std.specs.Prelude.{ℕ, Bool, if◌then◌else◌, nat_eq, List, [], ◌∷◌, Some, None, Option}
 use Rattle.std.specs.List.{filter_map, enumerate_from}
 use Rattle.std.specs.Cmp.Lexicographic.{pointwise}
-use Rattle.si_model.specs.declared.numbers.Value.{Value}
 use Rattle.si_model.specs.declared.operations.Op.{Op}
 use Rattle.si_model.specs.declared.operations.Op.TheVariants as op
 use Rattle.si_model.specs.declared.transactions.Txn.{Txn}

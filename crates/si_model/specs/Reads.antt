@@ -1,5 +1,7 @@
 -- The reads of one key, what is seen at each, and what kind of finding it is: the first case that applies.
-use Rattle.std.specs.Prelude.{◌≡◌, ◌≢◌, ℕ, ◌<◌, Bool, true, false, ◌&&◌, if◌then◌else◌, nat_eq, nat_lt, List, [], ◌∷◌, Some, None, Option}
+-- Adya's thesis has the phenomena that the kinds stand for, G1a and G1b in chapter 3 and G-SI in chapter 4, and in chapter 3
+-- the two conditions on own writes. What is seen at a read, and the order of the cases, are this project's choice.
+use Rattle.std.specs.Prelude.{◌≡◌, ◌≢◌, ℕ, Bool, true, false, ◌&&◌, if◌then◌else◌, nat_lt, List, Some, None, Option}
 use Rattle.std.specs.List.{Contains, filter, find, list_any}
 use Rattle.std.specs.Option.{option_eq}
 use Rattle.si_model.specs.declared.numbers.TxnId.{TxnId}
@@ -16,7 +18,7 @@ use Rattle.si_model.specs.declared.sights.Source.TheVariants as source
 use Rattle.si_model.specs.declared.sights.Sight.{Sight}
 use Rattle.si_model.specs.declared.kinds.Kind.{Kind}
 use Rattle.si_model.specs.declared.kinds.Kind.TheVariants as kind
-use Rattle.si_model.specs.Versions.{same_value, is_write_of, part_writes, last_write, Writes, IsFinalWrite, next_after, IsNext}
+use Rattle.si_model.specs.Versions.{same_value, is_write_of, part_writes, last_write, Writes, next_after, IsNext}
 
 -- T is a committed transaction whose operation at the place i read the key and returned v
 pub record IsRead (Q : List Part) (T : Part) (i : ℕ) (v : Option Value) : Type 0 where
@@ -53,14 +55,23 @@ IsSource Q (Some v) (source.Aborted u) = (T : Part) × IsWriter Q v u T × (T.st
 IsSource Q (Some v) (source.Earlier u) = (T : Part) × (c : Stamp) × IsWriter Q v u T × (T.status ≡ status.Committed c) × (last_write T.accesses ≢ Some v)
 IsSource Q (Some v) (source.Installed u c) = (T : Part) × IsWriter Q v u T × (T.status ≡ status.Committed c) × (last_write T.accesses ≡ Some v)
 
--- the version next after an initial or an installed one; after no other is one looked for
+-- the version that was read, where what was read is one: the initial version, or an installed one by its commit stamp
+abbrev pub version_of : Source → Option (Option Stamp)
+version_of source.Initial = Some None
+version_of (source.Installed u c) = Some (Some c)
+version_of source.Missing = None
+version_of (source.InDoubt u) = None
+version_of (source.Aborted u) = None
+version_of (source.Earlier u) = None
+
+-- the version next after one; without one none is looked for
+abbrev pub IsNextOf : List Part → Option (Option Stamp) → Option Installer → Type 0
+IsNextOf Q None n = n ≡ None
+IsNextOf Q (Some after) n = IsNext Q after n
+
+-- the version next after the one that was read
 abbrev pub IsNextAt : List Part → Source → Option Installer → Type 0
-IsNextAt Q source.Initial n = IsNext Q None n
-IsNextAt Q (source.Installed u c) n = IsNext Q (Some c) n
-IsNextAt Q source.Missing n = n ≡ None
-IsNextAt Q (source.InDoubt u) n = n ≡ None
-IsNextAt Q (source.Aborted u) n = n ≡ None
-IsNextAt Q (source.Earlier u) n = n ≡ None
+IsNextAt Q s n = IsNextOf Q (version_of s) n
 
 -- what is seen at T's read of v at the place i
 pub record IsSight (Q : List Part) (T : Part) (i : ℕ) (v : Option Value) (s : Sight) : Type 0 where
@@ -89,14 +100,14 @@ unfoldable pub source_of : List Part → Option Value → Source
 source_of Q None = source.Initial
 source_of Q (Some v) = source_from v (find (part_writes v) Q)
 
--- the version next after an initial or an installed one
+-- the version next after one, where there is one
+abbrev pub next_of : List Part → Option (Option Stamp) → Option Installer
+next_of Q None = None
+next_of Q (Some after) = next_after Q after
+
+-- the version next after the one that was read
 unfoldable pub next_at : List Part → Source → Option Installer
-next_at Q source.Initial = next_after Q None
-next_at Q (source.Installed u c) = next_after Q (Some c)
-next_at Q source.Missing = None
-next_at Q (source.InDoubt u) = None
-next_at Q (source.Aborted u) = None
-next_at Q (source.Earlier u) = None
+next_at Q s = next_of Q (version_of s)
 
 -- what is seen at T's read of v at the place i
 unfoldable pub sight_of : List Part → Part → ℕ → Option Value → Sight
@@ -112,12 +123,14 @@ sight_of Q T i v = record {
 }
 
 -- The kind of a read, by cases in their order.
--- a version next after the one read that was installed before the reader's start was missed
+-- a version next after the one read that was installed before the reader's start was missed: of G-SI(b), missed effects,
+-- since an rw edge leads to its installer and a start edge back
 abbrev pub judged_by_next : Sight → Option Installer → Option Kind
 judged_by_next s None = None
 judged_by_next s (Some n) = if nat_lt n.commit.0 s.start.0 then Some (kind.Stale s.txn s.op s.read n.txn) else None
 
--- a value is from nowhere, or its writer is in doubt, or aborted, or writes another value later, or committed after the reader's start
+-- a value is from nowhere, or its writer is in doubt, or aborted (G1a, aborted reads), or writes another value later (G1b,
+-- intermediate reads), or committed after the reader's start (G-SI(a), interference: a wr edge without a start edge)
 abbrev pub judged_by_source : Sight → Source → Option Kind
 judged_by_source s source.Missing = Some (kind.Unknown s.txn s.op s.read)
 judged_by_source s (source.InDoubt u) = Some (kind.Doubt s.txn s.op s.read u)
@@ -126,7 +139,8 @@ judged_by_source s (source.Earlier u) = Some (kind.Intermediate s.txn s.op s.rea
 judged_by_source s (source.Installed u c) = if nat_lt s.start.0 c.0 then Some (kind.Future s.txn s.op s.read u) else judged_by_next s s.next
 judged_by_source s source.Initial = judged_by_next s s.next
 
--- the reader's own value is returned where there is one, and else no value that the reader itself writes later
+-- the reader's own value is returned where there is one, and else no value that the reader itself writes later: the thesis's
+-- conditions that a transaction reads its own writes, and that no read precedes the write of its value
 abbrev pub judged_by_own : Sight → Option Value → Bool → Option Kind
 judged_by_own s (Some w) later = if option_eq same_value s.read (Some w) then None else Some (kind.Own s.txn s.op s.read (Some w))
 judged_by_own s None true = Some (kind.Own s.txn s.op s.read None)
@@ -136,6 +150,7 @@ judged_by_own s None false = judged_by_source s s.source
 unfoldable pub kind_of : Sight → Option Kind
 kind_of s = judged_by_own s s.own s.later
 
--- whether the installer of a version, with that commit stamp, committed after the next one's start
+-- whether the installer of a version, with that commit stamp, committed after the next one's start: of G-SI(a), interference,
+-- since it is a ww edge without a start edge
 abbrev pub overlaps : Stamp → Stamp → Bool
 overlaps commit start = nat_lt start.0 commit.0

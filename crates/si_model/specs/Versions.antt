@@ -1,6 +1,7 @@
--- The versions of one key, over the parts on it. A transaction's last write of a key installs its version when it commits
--- (Adya's thesis, chapter 4); the version order by commit stamps is this project's choice.
-use Rattle.std.specs.Prelude.{◌≡◌, ◌≢◌, ℕ, ◌<◌, ◌≤◌, Bool, true, false, if◌then◌else◌, nat_eq, nat_lt, List, [], ◌∷◌, Some, None, Option, ⊤}
+-- The versions of one key, over the parts on it. A committed transaction installs its final modification of a key, and the
+-- installed versions of a key have a version order: Adya's thesis, chapter 3. That commit stamps give this order, and that
+-- the initial version, which comes first, belongs to no transaction, is this project's choice.
+use Rattle.std.specs.Prelude.{◌≡◌, ℕ, ◌≤◌, Bool, true, false, if◌then◌else◌, nat_eq, nat_lt, List, Some, None, Option}
 use Rattle.std.specs.List.{Contains, list_any, fold}
 use Rattle.std.specs.Option.{option_or}
 use Rattle.si_model.specs.declared.numbers.Stamp.{Stamp}
@@ -13,6 +14,7 @@ use Rattle.si_model.specs.declared.parts.Placed.{Placed}
 use Rattle.si_model.specs.declared.parts.Part.{Part}
 use Rattle.si_model.specs.declared.sights.Installer.{Installer}
 
+-- whether two values are equal
 abbrev pub same_value : Value → Value → Bool
 same_value v w = nat_eq v.0 w.0
 
@@ -52,7 +54,7 @@ WritesAt T i v = Contains T.accesses (record { place = i; access = access.Write 
 abbrev pub Writes : Part → Value → Type 0
 Writes T v = (i : ℕ) × WritesAt T i v
 
--- the value is T's last write of the key: T writes it, and nothing later
+-- the value is T's last write of the key, its final modification: T writes it, and nothing later
 pub record IsFinalWrite (T : Part) (v : Value) : Type 0 where
   pub place : ℕ
   pub is : WritesAt T place v
@@ -72,7 +74,7 @@ install T = install_with T (commit_of T.status) (last_write T.accesses)
 abbrev pub IsInstaller : List Part → Installer → Type 0
 IsInstaller Q n = (T : Part) × Contains Q T × (install T ≡ Some n)
 
--- whether a version with the commit stamp c comes after a version: `None` stands for the initial version, which comes before all
+-- the version order: whether a version with the commit stamp c comes after another. `None` is the initial version, which comes before all
 abbrev pub is_after : Option Stamp → Stamp → Bool
 is_after None c = true
 is_after (Some a) c = nat_lt a.0 c.0

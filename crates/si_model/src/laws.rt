@@ -1,6 +1,6 @@
 //! The laws of the definitions. Each is the contract of a function with an empty body: to call one is to have its fact.
 
-ghost use Rattle.si_model.specs.Laws.{FindingsAreExact, KeyFindingsAreExact, OrderIsStrict, ListIsUnique, OrderIsFree, KeysAreApart, PartsAreOfHistory, LastWriteIsFinal, LeastIsLeast, FirstIsFirst, PresentGrows, AcceptedGrows, AcceptedBegins, PresentIsHistory};
+ghost use Rattle.si_model.specs.Laws.{FindingsAreExact, KeyFindingsAreExact, FormIsFound, OrderIsStrict, ListIsUnique, OrderIsFree, KeysAreApart, PartsAreOfHistory, LastWriteIsFinal, LeastIsLeast, FirstIsFirst, PresentGrows, AcceptedGrows, AcceptedBegins, PresentIsHistory};
 
 /// Of a history, the list of the findings is in strict order and has exactly what the relation says.
 pub fn findings_are_exact()
@@ -10,6 +10,11 @@ pub fn findings_are_exact()
 /// The same for one key, over the parts on it, whatever the rules.
 pub fn key_findings_are_exact()
     ensures { KeyFindingsAreExact }
+{}
+
+/// A history is well formed exactly where no finding is of the first three kinds.
+pub fn form_is_found()
+    ensures { FormIsFound }
 {}
 
 /// The order of findings is total, and only equal findings tie.

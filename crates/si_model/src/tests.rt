@@ -34,8 +34,8 @@ fn key(rt: &impl Abort, alloc: Global, text: &str) -> Result<Key, OutOfMemory> {
 
 fn op(rt: &impl Abort, alloc: Global, step: Do) -> Result<Op, OutOfMemory> {
     Ok(match step {
-        R(text, read) => Op::Read(key(rt, alloc, text)?, read.map(|value| Value(value))),
-        W(text, value) => Op::Write(key(rt, alloc, text)?, Value(value)),
+        R(text, read) => Op::Read(key(rt, alloc, text)?, value(read)),
+        W(text, written) => Op::Write(key(rt, alloc, text)?, Value(written)),
     })
 }
 
@@ -83,6 +83,79 @@ fn finds(
     Ok(())
 }
 
+fn value(read: Option<u64>) -> Option<Value> {
+    read.map(|value| Value(value))
+}
+
+fn unknown(txn: u64, op: usize, read: Option<u64>) -> Kind {
+    Unknown {
+        txn: TxnId(txn),
+        op,
+        read: value(read),
+    }
+}
+
+fn doubt(txn: u64, op: usize, read: Option<u64>, writer: u64) -> Kind {
+    Doubt {
+        txn: TxnId(txn),
+        op,
+        read: value(read),
+        writer: TxnId(writer),
+    }
+}
+
+fn own(txn: u64, op: usize, read: Option<u64>, own: Option<u64>) -> Kind {
+    Own {
+        txn: TxnId(txn),
+        op,
+        read: value(read),
+        own: value(own),
+    }
+}
+
+fn aborted(txn: u64, op: usize, read: Option<u64>, writer: u64) -> Kind {
+    Kind::Aborted {
+        txn: TxnId(txn),
+        op,
+        read: value(read),
+        writer: TxnId(writer),
+    }
+}
+
+fn intermediate(txn: u64, op: usize, read: Option<u64>, writer: u64) -> Kind {
+    Intermediate {
+        txn: TxnId(txn),
+        op,
+        read: value(read),
+        writer: TxnId(writer),
+    }
+}
+
+fn future(txn: u64, op: usize, read: Option<u64>, writer: u64) -> Kind {
+    Future {
+        txn: TxnId(txn),
+        op,
+        read: value(read),
+        writer: TxnId(writer),
+    }
+}
+
+fn stale(txn: u64, op: usize, read: Option<u64>, missed: u64) -> Kind {
+    Stale {
+        txn: TxnId(txn),
+        op,
+        read: value(read),
+        missed: TxnId(missed),
+    }
+}
+
+fn overlap(first: u64, second: u64) -> Kind {
+    Overlap {
+        first: TxnId(first),
+        second: TxnId(second),
+    }
+}
+
 #[test]
 fn clean_histories(rt: HostRuntime) -> Result<(), Fail> {
     let alloc = rt.alloc();
@@ -100,8 +173,9 @@ fn clean_histories(rt: HostRuntime) -> Result<(), Fail> {
 }
 
 #[test]
-fn lost_update_is_an_overlap(rt: HostRuntime) -> Result<(), Fail> {
+fn overlaps_of_neighbours(rt: HostRuntime) -> Result<(), Fail> {
     let alloc = rt.alloc();
+    // a lost update
     finds(
         &rt,
         alloc,
@@ -109,13 +183,38 @@ fn lost_update_is_an_overlap(rt: HostRuntime) -> Result<(), Fail> {
             (1, 1, committed(5), &[R("x", None), W("x", 1)]),
             (2, 2, committed(6), &[R("x", None), W("x", 2)]),
         ],
-        &[(
-            "x",
-            Overlap {
-                first: TxnId(1),
-                second: TxnId(2),
-            },
-        )],
+        &[("x", overlap(1, 2))],
+    )?;
+    // the third starts before both others commit, and installs next to the second alone
+    finds(
+        &rt,
+        alloc,
+        &[
+            (1, 1, committed(10), &[W("x", 1)]),
+            (2, 11, committed(20), &[W("x", 2)]),
+            (3, 9, committed(30), &[W("x", 3)]),
+        ],
+        &[("x", overlap(2, 3))],
+    )?;
+    finds(
+        &rt,
+        alloc,
+        &[
+            (1, 1, committed(10), &[W("x", 1)]),
+            (3, 9, committed(30), &[W("x", 3)]),
+        ],
+        &[("x", overlap(1, 3))],
+    )?;
+    // who doesn't commit installs nothing
+    finds(
+        &rt,
+        alloc,
+        &[
+            (1, 1, committed(10), &[W("x", 1), W("x", 4)]),
+            (2, 2, ABORTED, &[W("x", 2)]),
+            (3, 2, IN_DOUBT, &[W("x", 3)]),
+        ],
+        &[],
     )?;
     Ok(())
 }
@@ -130,15 +229,7 @@ fn missed_versions_are_stale(rt: HostRuntime) -> Result<(), Fail> {
             (1, 1, committed(2), &[W("x", 1)]),
             (2, 3, committed(4), &[R("x", None)]),
         ],
-        &[(
-            "x",
-            Stale {
-                txn: TxnId(2),
-                op: 0,
-                read: None,
-                missed: TxnId(1),
-            },
-        )],
+        &[("x", stale(2, 0, None, 1))],
     )?;
     finds(
         &rt,
@@ -148,15 +239,7 @@ fn missed_versions_are_stale(rt: HostRuntime) -> Result<(), Fail> {
             (3, 7, committed(8), &[R("x", Some(1))]),
             (2, 3, committed(4), &[W("x", 2)]),
         ],
-        &[(
-            "x",
-            Stale {
-                txn: TxnId(3),
-                op: 0,
-                read: Some(Value(1)),
-                missed: TxnId(2),
-            },
-        )],
+        &[("x", stale(3, 0, Some(1), 2))],
     )?;
     finds(
         &rt,
@@ -166,15 +249,18 @@ fn missed_versions_are_stale(rt: HostRuntime) -> Result<(), Fail> {
             (2, 3, committed(4), &[W("x", 2), W("y", 1)]),
             (3, 5, committed(6), &[R("y", Some(1)), R("x", None)]),
         ],
-        &[(
-            "x",
-            Stale {
-                txn: TxnId(3),
-                op: 1,
-                read: None,
-                missed: TxnId(1),
-            },
-        )],
+        &[("x", stale(3, 1, None, 1))],
+    )?;
+    // what commits after the start isn't missed, whenever it starts
+    finds(
+        &rt,
+        alloc,
+        &[
+            (1, 5, committed(6), &[W("x", 1)]),
+            (2, 5, committed(9), &[R("x", None), R("y", None)]),
+            (3, 2, committed(8), &[W("y", 1)]),
+        ],
+        &[],
     )?;
     Ok(())
 }
@@ -189,15 +275,7 @@ fn versions_of_the_future(rt: HostRuntime) -> Result<(), Fail> {
             (1, 1, committed(10), &[W("x", 1)]),
             (2, 2, committed(3), &[R("x", Some(1))]),
         ],
-        &[(
-            "x",
-            Future {
-                txn: TxnId(2),
-                op: 0,
-                read: Some(Value(1)),
-                writer: TxnId(1),
-            },
-        )],
+        &[("x", future(2, 0, Some(1), 1))],
     )?;
     Ok(())
 }
@@ -210,17 +288,12 @@ fn values_that_were_never_installed(rt: HostRuntime) -> Result<(), Fail> {
         alloc,
         &[
             (1, 1, ABORTED, &[W("x", 1), W("x", 2)]),
-            (2, 3, committed(4), &[R("x", Some(1))]),
+            (2, 3, committed(4), &[R("x", Some(1)), R("x", Some(2))]),
         ],
-        &[(
-            "x",
-            Kind::Aborted {
-                txn: TxnId(2),
-                op: 0,
-                read: Some(Value(1)),
-                writer: TxnId(1),
-            },
-        )],
+        &[
+            ("x", aborted(2, 0, Some(1), 1)),
+            ("x", aborted(2, 1, Some(2), 1)),
+        ],
     )?;
     finds(
         &rt,
@@ -229,15 +302,7 @@ fn values_that_were_never_installed(rt: HostRuntime) -> Result<(), Fail> {
             (1, 1, committed(2), &[W("x", 1), W("x", 2)]),
             (2, 3, committed(4), &[R("x", Some(1))]),
         ],
-        &[(
-            "x",
-            Intermediate {
-                txn: TxnId(2),
-                op: 0,
-                read: Some(Value(1)),
-                writer: TxnId(1),
-            },
-        )],
+        &[("x", intermediate(2, 0, Some(1), 1))],
     )?;
     Ok(())
 }
@@ -253,24 +318,27 @@ fn own_writes(rt: HostRuntime) -> Result<(), Fail> {
             (2, 3, committed(4), &[R("y", Some(9)), W("y", 9)]),
         ],
         &[
+            ("x", own(1, 1, None, Some(1))),
+            ("y", own(2, 0, Some(9), None)),
+        ],
+    )?;
+    // beside a later own write the own value is still the one to return
+    finds(
+        &rt,
+        alloc,
+        &[
+            (1, 1, committed(2), &[W("x", 1), R("x", Some(1)), W("x", 2)]),
+            (2, 3, committed(4), &[W("y", 1), R("y", Some(2)), W("y", 2)]),
             (
-                "x",
-                Own {
-                    txn: TxnId(1),
-                    op: 1,
-                    read: None,
-                    own: Some(Value(1)),
-                },
+                3,
+                5,
+                committed(6),
+                &[R("z", None), W("z", 1), W("z", 2), R("z", Some(1))],
             ),
-            (
-                "y",
-                Own {
-                    txn: TxnId(2),
-                    op: 0,
-                    read: Some(Value(9)),
-                    own: None,
-                },
-            ),
+        ],
+        &[
+            ("y", own(2, 1, Some(2), Some(1))),
+            ("z", own(3, 3, Some(1), Some(2))),
         ],
     )?;
     Ok(())
@@ -283,14 +351,7 @@ fn values_that_nobody_wrote(rt: HostRuntime) -> Result<(), Fail> {
         &rt,
         alloc,
         &[(2, 5, committed(6), &[R("x", Some(1))])],
-        &[(
-            "x",
-            Unknown {
-                txn: TxnId(2),
-                op: 0,
-                read: Some(Value(1)),
-            },
-        )],
+        &[("x", unknown(2, 0, Some(1)))],
     )?;
     finds(
         &rt,
@@ -314,15 +375,7 @@ fn doubt_ends_with_its_resolution(rt: HostRuntime) -> Result<(), Fail> {
             (1, 1, IN_DOUBT, &[W("x", 1), R("y", Some(7))]),
             (2, 5, committed(6), &[R("x", Some(1))]),
         ],
-        &[(
-            "x",
-            Doubt {
-                txn: TxnId(2),
-                op: 0,
-                read: Some(Value(1)),
-                writer: TxnId(1),
-            },
-        )],
+        &[("x", doubt(2, 0, Some(1), 1))],
     )?;
     finds(
         &rt,
@@ -331,79 +384,42 @@ fn doubt_ends_with_its_resolution(rt: HostRuntime) -> Result<(), Fail> {
             (1, 1, committed(3), &[W("x", 1), R("y", Some(7))]),
             (2, 5, committed(6), &[R("x", Some(1))]),
         ],
-        &[(
-            "y",
-            Unknown {
-                txn: TxnId(1),
-                op: 1,
-                read: Some(Value(7)),
-            },
-        )],
+        &[("y", unknown(1, 1, Some(7)))],
     )?;
     Ok(())
 }
 
 #[test]
-fn versions_stand_by_commit_stamps(rt: HostRuntime) -> Result<(), Fail> {
-    let alloc = rt.alloc();
-    finds(
-        &rt,
-        alloc,
-        &[
-            (1, 1, committed(10), &[W("x", 1)]),
-            (2, 11, committed(20), &[W("x", 2)]),
-            (3, 9, committed(30), &[W("x", 3)]),
-        ],
-        &[(
-            "x",
-            Overlap {
-                first: TxnId(2),
-                second: TxnId(3),
-            },
-        )],
-    )?;
-    finds(
-        &rt,
-        alloc,
-        &[
-            (1, 1, committed(10), &[W("x", 1)]),
-            (3, 9, committed(30), &[W("x", 3)]),
-        ],
-        &[(
-            "x",
-            Overlap {
-                first: TxnId(1),
-                second: TxnId(3),
-            },
-        )],
-    )?;
-    Ok(())
-}
-
-#[test]
-fn keys_stand_by_their_bytes(rt: HostRuntime) -> Result<(), Fail> {
+fn findings_stand_in_order(rt: HostRuntime) -> Result<(), Fail> {
     let alloc = rt.alloc();
     finds(
         &rt,
         alloc,
         &[(1, 1, committed(2), &[R("é", Some(1)), R("b", Some(2))])],
+        &[("b", unknown(1, 1, Some(2))), ("é", unknown(1, 0, Some(1)))],
+    )?;
+    // on a key by the kind's number, then by the first transaction, then by the place
+    finds(
+        &rt,
+        alloc,
         &[
+            (1, 10, committed(20), &[W("x", 1)]),
             (
-                "b",
-                Unknown {
-                    txn: TxnId(1),
-                    op: 1,
-                    read: Some(Value(2)),
-                },
+                2,
+                1,
+                committed(2),
+                &[R("x", Some(1)), R("x", Some(9)), R("x", Some(8))],
             ),
-            (
-                "é",
-                Unknown {
-                    txn: TxnId(1),
-                    op: 0,
-                    read: Some(Value(1)),
-                },
-            ),
+            (3, 21, committed(22), &[R("x", None), R("x", Some(7))]),
+            (4, 15, committed(30), &[W("x", 2)]),
+        ],
+        &[
+            ("x", unknown(2, 1, Some(9))),
+            ("x", unknown(2, 2, Some(8))),
+            ("x", unknown(3, 1, Some(7))),
+            ("x", future(2, 0, Some(1), 1)),
+            ("x", stale(3, 0, None, 1)),
+            ("x", overlap(1, 4)),
         ],
     )?;
     Ok(())
@@ -482,6 +498,33 @@ fn shards_of_keys(rt: HostRuntime) -> Result<(), Fail> {
 }
 
 #[test]
+fn parts_of_a_key(rt: HostRuntime) -> Result<(), Fail> {
+    let alloc = rt.alloc();
+    let txns = txns(
+        &rt,
+        alloc,
+        &[
+            (1, 1, committed(2), &[W("y", 1)]),
+            (2, 3, ABORTED, &[R("y", None), W("x", 1), R("x", Some(1))]),
+        ],
+    )?;
+    let found = parts::parts_of(alloc, &txns, &key(&rt, alloc, "x")?)?;
+    assert_eq!(rt; found.len(), 1);
+    assert_eq!(rt; found[0].id, TxnId(2));
+    assert_eq!(rt; found[0].start, Stamp(3));
+    assert_eq!(rt; found[0].status, ABORTED);
+    let read = Placed {
+        place: 2,
+        access: Access::Read(Some(Value(1))),
+    };
+    assert_eq!(rt; found[0].accesses.as_slice().last().copied(), Some(read));
+    for txn in &txns {
+        assert!(rt; parts::part_of(alloc, txn, &key(&rt, alloc, "z")?)?.is_none());
+    }
+    Ok(())
+}
+
+#[test]
 fn lengths_of_keys(rt: HostRuntime) -> Result<(), Fail> {
     let mut text = String::new(rt.alloc());
     for length in 0..130 {
@@ -504,12 +547,12 @@ fn copies_are_equal(rt: HostRuntime) -> Result<(), Fail> {
     }
     let finding = Finding {
         key: key(&rt, rt.alloc(), "x")?,
-        kind: Overlap {
-            first: TxnId(1),
-            second: TxnId(2),
-        },
+        kind: overlap(1, 2),
     };
     assert_eq!(rt; finding.try_clone()?, finding);
+    let write = op(&rt, rt.alloc(), W("x", 1))?;
+    assert_eq!(rt; write.try_clone()?, write);
+    assert_eq!(rt; write.key().try_clone()?.as_str(), "x");
     assert_eq!(rt; Outcome::Aborted.status(), ABORTED);
     Ok(())
 }
