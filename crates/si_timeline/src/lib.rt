@@ -1,0 +1,14 @@
+//! The versions of one key.
+//!
+//! It carries the promise that the versions stand in the order of their installers' commit stamps, and that the nearest one
+//! before and after a stamp is found. It stands on `si_model`.
+#![tactic(auto)]
+
+pub mod timelines;
+pub mod versions;
+
+pub use timelines::Timeline;
+pub use versions::Version;
+
+#[cfg(test)]
+mod tests;
