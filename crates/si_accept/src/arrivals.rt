@@ -162,3 +162,6 @@ fn empty(slot: &mut Option<Txn>)
 {
     *slot = None;
 }
+
+#[cfg(test)]
+mod tests;

@@ -2,6 +2,7 @@
 
 ghost use Rattle.std.specs.Prelude.{◌≡◌, OnOk, OnErr, map, filter, not};
 ghost use Rattle.si_model.specs.Edits.{after, resolved, same_id};
+ghost use Rattle.si_accept.specs.Changes.{IsArrival};
 
 use si_model::{Edit, OutOfMemory, Outcome, Txn, TxnId};
 
@@ -10,6 +11,7 @@ use si_model::{Edit, OutOfMemory, Outcome, Txn, TxnId};
 pub fn change(txns: &mut Vec<Txn>, edit: Edit) -> Result<(), OutOfMemory>
     ensures ok { OnOk result (txns.new.items ≡ after edit txns.old.items) }
     ensures err { OnErr result (txns.new.items ≡ txns.old.items) }
+    ensures arrival { OnErr result (IsArrival edit) }
 {
     match edit {
         Edit::Arrive(txn) => txns.push(txn)?,

@@ -4,6 +4,8 @@ use si_model::{Key, Op, Ops, Outcome, Stamp, Status, Value};
 use std::process::Abort;
 use std::test::Fail;
 
+mod refused_memory;
+
 /// An edit as the worked examples write it. Reads have no part in acceptance, so only writes stand here.
 #[derive(Clone, Copy)]
 enum Line<'a> {
