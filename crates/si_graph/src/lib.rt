@@ -5,8 +5,13 @@
 //! checked by itself and without memory, and that a checked one is a phenomenon. It stands on `si_model` and `thiserror`.
 #![tactic(auto)]
 
+pub mod checks;
 pub mod edges;
 pub mod evidence;
+mod keys;
+mod leads;
+mod versions;
 
+pub use checks::check_evidence;
 pub use edges::{Edge, Label};
 pub use evidence::Evidence;

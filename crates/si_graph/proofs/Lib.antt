@@ -1,0 +1,5 @@
+pub mod Members
+pub mod OnKeys
+pub mod Neighbours
+pub mod Leading
+pub mod Deciding
