@@ -223,12 +223,21 @@ rw_is P A B a b e =
           to = (install_is x B n.2 n.3).txn;
         }
 
+-- the next version, after whichever one, has an installer
+pub next_installs : (x : List ℕ) (P : List Txn) (s : Source) (n : Installer) → IsNextAt (parts x P) s (Some n) → IsInstaller (parts x P) n
+next_installs x P source.Initial n is = is.0
+next_installs x P (source.Installed t c) n is = is.0
+next_installs x P source.Missing n is = cc
+next_installs x P (source.InDoubt t) n is = cc
+next_installs x P (source.Aborted t) n is = cc
+next_installs x P (source.Earlier t) n is = cc
+
 rw_from : (P : List Txn) (u w : TxnId) → IsAntiDependency P u w → ArePair P (leads P label.Rw) u w
 rw_from P u w d =
     let x = d.key in
     let g = read_by x P d.reader d.place d.value d.returned in
     let A = g.txn in
-    let f = installer_from x P d.second (installs d.source d.next) in
+    let f = installer_from x P d.second (next_installs x P d.source d.second d.next) in
     let B = f.0 in
     record {
       first = A;
@@ -241,14 +250,6 @@ rw_from P u w d =
           (any_from (reads_before P B) A.ops (op.Read x d.value) (get_contains A.ops d.place (op.Read x d.value) g.found) (before B f.1 f.2 d.value d.source d.read d.next));
     }
   where
-    installs : (s : Source) → IsNextAt (parts d.key P) s (Some d.second) → IsInstaller (parts d.key P) d.second
-    installs source.Initial n = n.0
-    installs (source.Installed t c) n = n.0
-    installs source.Missing n = cc
-    installs (source.InDoubt t) n = cc
-    installs (source.Aborted t) n = cc
-    installs (source.Earlier t) n = cc
-
     before : (B : Txn) → Contains P B → install_on d.key B ≡ Some d.second → (o : Option Value) (s : Source) → IsSource (parts d.key P) o s → IsNextAt (parts d.key P) s (Some d.second) → reads_before P B (op.Read d.key o) ≡ true
     before B b e None source.Initial r n = follows_from d.key P None B d.second e n
     before B b e None source.Missing r n = cc

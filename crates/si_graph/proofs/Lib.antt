@@ -3,3 +3,5 @@ pub mod OnKeys
 pub mod Neighbours
 pub mod Leading
 pub mod Deciding
+pub mod Judged
+pub mod Explaining

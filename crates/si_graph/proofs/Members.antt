@@ -1,6 +1,6 @@
 -- What lists contain, and what the tests of lists say.
 use Rattle.std.proofs.Common.{◌≡◌, ◌⊎◌, inl, inr, ℕ, ◌+◌, ◌<◌, Bool, true, false, not, ◌&&◌, ◌||◌, List, [], ◌∷◌, length, get_or, Option, Some, None, zero, suc, refl, sym, ap, subst, ◌∙◌, arith, cond, slice_get}
-use Rattle.std.specs.List.{Contains, filter_map, cons_option, enumerate_from, find, list_any, list_all}
+use Rattle.std.specs.List.{Contains, filter_map, cons_option, filter, enumerate_from, find, list_any, list_all}
 
 pub Contains-nil : {X : Type 0} (y : X) → Contains [] y → ⊥
 Contains-nil y c = absurd (omega (arith, c.1))
@@ -107,6 +107,21 @@ Contains-from_filter_map h [] y c = absurd (Contains-nil y c)
 Contains-from_filter_map h (z ∷ xs) y c = elim (option_cases (h z) (filter_map h xs) y c) [
   | inl e ↦ (z, here z xs, e)
   | inr d ↦ let r = Contains-from_filter_map h xs y d in (r.0, there z xs r.0 r.1, r.2)
+]
+
+kept : {X : Type 0} (b : Bool) (z : X) (ys : List X) → b ≡ true → Contains (cond b (z ∷ ys) ys) z
+kept true z ys e = here z ys
+kept false z ys e = cc
+
+kept_more : {X : Type 0} (b : Bool) (z : X) (ys : List X) (x : X) → Contains ys x → Contains (cond b (z ∷ ys) ys) x
+kept_more true z ys x c = there z ys x c
+kept_more false z ys x c = c
+
+pub Contains-filter : {X : Type 0} (p : X → Bool) (xs : List X) (x : X) → Contains xs x → p x ≡ true → Contains (filter p xs) x
+Contains-filter p [] x c e = c
+Contains-filter p (z ∷ xs) x c e = elim (Contains-cons_cases z xs x c) [
+  | inl s ↦ subst (λ w. Contains (filter p (z ∷ xs)) w) s (kept (p z) z (filter p xs) (ap p s ∙ e))
+  | inr c ↦ kept_more (p z) z (filter p xs) x (Contains-filter p xs x c e)
 ]
 
 -- an element at a place

@@ -3,3 +3,4 @@ pub mod Walks
 pub mod Phenomena
 pub mod Shown
 pub mod EvidenceTests
+pub mod Explanations

@@ -8,6 +8,8 @@
 pub mod checks;
 pub mod edges;
 pub mod evidence;
+pub mod explanations;
+pub mod faults;
 mod keys;
 mod leads;
 mod versions;
@@ -15,3 +17,5 @@ mod versions;
 pub use checks::check_evidence;
 pub use edges::{Edge, Label};
 pub use evidence::Evidence;
+pub use explanations::explain;
+pub use faults::ExplainFault;
