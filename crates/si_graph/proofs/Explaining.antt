@@ -132,7 +132,7 @@ installer_node x P n is =
     (f.0, record { txn = f.1; id = sym i.txn; committed = i.status }, i.start)
 
 -- a node has one transaction and one commit stamp
-same_node : (P : List Txn) → IsHistory P → (u w : TxnId) (A B : Txn) (c d : Stamp) → IsNode P u A c → IsNode P w B d → u ≡ w → (A ≡ B) × (c ≡ d)
+pub same_node : (P : List Txn) → IsHistory P → (u w : TxnId) (A B : Txn) (c d : Stamp) → IsNode P u A c → IsNode P w B d → u ≡ w → (A ≡ B) × (c ≡ d)
 same_node P h u w A B c d a b e =
     let same : A ≡ B = same_named (λ T. T.id) P h.names A B a.txn b.txn (a.id ∙ e ∙ sym b.id) in
     let stamps : Some c ≡ Some d = ap commit_of (sym a.committed) ∙ ap (λ T. commit_of T.status) same ∙ ap commit_of b.committed in

@@ -5,3 +5,4 @@ pub mod Leading
 pub mod Deciding
 pub mod Judged
 pub mod Explaining
+pub mod Present

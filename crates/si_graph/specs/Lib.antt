@@ -4,3 +4,4 @@ pub mod Phenomena
 pub mod Shown
 pub mod EvidenceTests
 pub mod Explanations
+pub mod Laws

@@ -11,6 +11,7 @@ pub mod evidence;
 pub mod explanations;
 pub mod faults;
 mod keys;
+pub mod laws;
 mod leads;
 mod versions;
 
