@@ -1,0 +1,181 @@
+//! Whether an evidence holds, found by walking transactions and operations, with no memory.
+
+ghost use Rattle.std.specs.Prelude.{◌≡◌, ◌↔◌, IsTrue};
+ghost use Rattle.std.specs.List.{list_all, count_by};
+ghost use Rattle.si_model.specs.History.{IsHistory};
+ghost use Rattle.si_model.specs.Edits.{with_id};
+ghost use Rattle.si_graph.specs.Shown.{Shows};
+ghost use Rattle.si_graph.specs.EvidenceTests.{is_edge, is_aborted, reads_write_of, reads_earlier_of, is_aborted_read, is_intermediate_read, is_interference, commits_late, is_not_before, is_dependency, is_walk, is_closed, are_missed, holds};
+ghost use Rattle.si_graph.specs.Walks.{is_rw_edge};
+
+use crate::keys::{is_last_on, writes_on};
+use crate::leads::{is_committed, is_edge, with_id};
+use crate::{Edge, Evidence, Label};
+use si_model::{Op, Stamp, Status, Txn, TxnId};
+
+/// Whether the evidence holds of these transactions. A yes means that the phenomenon is there.
+///
+/// It takes no memory. For each edge it walks all transactions for each operation of its ends.
+pub fn check_evidence(txns: &[Txn], evidence: &Evidence) -> bool
+    requires { IsHistory txns.now }
+    ensures { IsTrue result ↔ Shows txns.now evidence.now }
+{
+    holds(txns, evidence)
+}
+
+fn holds(txns: &[Txn], evidence: &Evidence) -> bool
+    ensures { result ≡ holds txns.now evidence.now }
+{
+    match evidence {
+        Evidence::AbortedRead { reader, op, writer } => {
+            match (with_id(txns, *reader), with_id(txns, *writer)) {
+                (Some(reader), Some(writer)) => is_aborted_read(*op, reader, writer),
+                _ => false,
+            }
+        }
+        Evidence::IntermediateRead { reader, op, writer } => {
+            match (with_id(txns, *reader), with_id(txns, *writer)) {
+                (Some(reader), Some(writer)) => is_intermediate_read(*op, reader, writer),
+                _ => false,
+            }
+        }
+        Evidence::Interference(edge) => is_interference(txns, *edge),
+        Evidence::Missed(edges) => are_missed(txns, edges),
+    }
+}
+
+fn is_aborted_read(op: usize, reader: &Txn, writer: &Txn) -> bool
+    ensures { result ≡ is_aborted_read op reader.now writer.now }
+{
+    is_committed(reader)
+        && is_aborted(writer.status)
+        && match reader.ops.as_slice().get(op) {
+            None => false,
+            Some(op) => reads_write_of(writer, op),
+        }
+}
+
+fn is_intermediate_read(op: usize, reader: &Txn, writer: &Txn) -> bool
+    ensures { result ≡ is_intermediate_read op reader.now writer.now }
+{
+    is_committed(reader)
+        && writer.id != reader.id
+        && match reader.ops.as_slice().get(op) {
+            None => false,
+            Some(op) => reads_earlier_of(writer, op),
+        }
+}
+
+fn is_aborted(status: Status) -> bool
+    ensures { result ≡ is_aborted status }
+{
+    match status {
+        Status::Aborted => true,
+        Status::Committed(_) | Status::InDoubt => false,
+    }
+}
+
+fn reads_write_of(writer: &Txn, op: &Op) -> bool
+    ensures { result ≡ reads_write_of writer.now op.now }
+{
+    match op {
+        Op::Read(key, Some(value)) => writes_on(key, *value, writer),
+        Op::Read(_, None) | Op::Write(..) => false,
+    }
+}
+
+fn reads_earlier_of(writer: &Txn, op: &Op) -> bool
+    ensures { result ≡ reads_earlier_of writer.now op.now }
+{
+    match op {
+        Op::Read(key, Some(value)) => {
+            writes_on(key, *value, writer) && !is_last_on(key, *value, writer)
+        }
+        Op::Read(_, None) | Op::Write(..) => false,
+    }
+}
+
+fn is_interference(txns: &[Txn], edge: Edge) -> bool
+    ensures { result ≡ is_interference txns.now edge }
+{
+    is_dependency(edge.label)
+        && is_edge(txns, edge)
+        && match (with_id(txns, edge.from), with_id(txns, edge.to)) {
+            (Some(from), Some(to)) => commits_late(from, to),
+            _ => false,
+        }
+}
+
+fn is_dependency(label: Label) -> bool
+    ensures { result ≡ is_dependency label }
+{
+    match label {
+        Label::Ww | Label::Wr => true,
+        Label::Rw | Label::St => false,
+    }
+}
+
+fn commits_late(from: &Txn, to: &Txn) -> bool
+    ensures { result ≡ commits_late from.now to.now }
+{
+    is_not_before(from.status.commit(), to.start) && is_committed(to)
+}
+
+fn is_not_before(commit: Option<Stamp>, start: Stamp) -> bool
+    ensures { result ≡ is_not_before commit start }
+{
+    match commit {
+        None => false,
+        Some(commit) => commit >= start,
+    }
+}
+
+fn are_missed(txns: &[Txn], edges: &[Edge]) -> bool
+    ensures { result ≡ are_missed txns.now edges.now }
+{
+    is_closed(edges) && count_of_rw(edges) == 1 && are_edges(txns, edges)
+}
+
+fn count_of_rw(edges: &[Edge]) -> usize
+    ensures { result ≡ count_by is_rw_edge edges.now }
+{
+    edges.iter().filter(|edge| is_rw_edge(edge)).count()
+}
+
+fn are_edges(txns: &[Txn], edges: &[Edge]) -> bool
+    ensures { result ≡ list_all (is_edge txns.now) edges.now }
+{
+    edges.iter().all(|edge| is_edge(txns, *edge))
+}
+
+fn is_rw_edge(edge: &Edge) -> bool
+    ensures { result ≡ is_rw_edge edge.now }
+{
+    match edge.label {
+        Label::Rw => true,
+        Label::Ww | Label::Wr | Label::St => false,
+    }
+}
+
+fn is_closed(edges: &[Edge]) -> bool
+    ensures { result ≡ is_closed edges.now }
+{
+    match edges {
+        [] => false,
+        [first, rest @ ..] => is_walk(first.to, rest, first.from),
+    }
+}
+
+/// Whether the edges are a walk between the two.
+fn is_walk(from: TxnId, edges: &[Edge], to: TxnId) -> bool
+    ensures { result ≡ is_walk from edges.now to }
+{
+    let mut at = from;
+    for edge in edges {
+        if edge.from != at {
+            return false;
+        }
+        at = edge.to;
+    }
+    at == to
+}
