@@ -1,0 +1,89 @@
+-- The edges of the start-ordered serialization graph of Adya's thesis, chapter 4: the conflicts of its chapter 3 and the start
+-- dependencies, between two different committed transactions. That the version order is by commit stamps is this project's choice.
+use Rattle.std.specs.Prelude.{◌≡◌, ◌≢◌, ℕ, ◌<◌, List, Some, Option, ⊤}
+use Rattle.std.specs.List.{Contains}
+use Rattle.si_model.specs.declared.numbers.TxnId.{TxnId}
+use Rattle.si_model.specs.declared.numbers.Stamp.{Stamp}
+use Rattle.si_model.specs.declared.numbers.Value.{Value}
+use Rattle.si_model.specs.declared.transactions.Status.TheVariants as status
+use Rattle.si_model.specs.declared.transactions.Txn.{Txn}
+use Rattle.si_model.specs.declared.parts.Part.{Part}
+use Rattle.si_model.specs.declared.sights.Installer.{Installer}
+use Rattle.si_model.specs.declared.sights.Source.{Source}
+use Rattle.si_model.specs.declared.sights.Source.TheVariants as source
+use Rattle.si_model.specs.Parts.{parts}
+use Rattle.si_model.specs.Versions.{IsInstaller, IsNext}
+use Rattle.si_model.specs.Reads.{IsRead, IsSource, IsNextAt}
+use Rattle.si_graph.specs.declared.edges.Label.{Label}
+use Rattle.si_graph.specs.declared.edges.Label.TheVariants as label
+use Rattle.si_graph.specs.declared.edges.Edge.{Edge}
+
+-- a node: T is a committed transaction of that id and commit stamp
+pub record IsNode (P : List Txn) (u : TxnId) (T : Txn) (c : Stamp) : Type 0 where
+  pub txn : Contains P T
+  pub id : T.id ≡ u
+  pub committed : T.status ≡ status.Committed c
+
+-- ww: a installs a version of a key, and b installs the next one
+pub record IsWriteDependency (P : List Txn) (a b : TxnId) : Type 0 where
+  pub key : List ℕ
+  pub first : Installer
+  pub second : Installer
+  pub installs : IsInstaller (parts key P) first
+  pub next : IsNext (parts key P) (Some first.commit) (Some second)
+  pub from : first.txn ≡ a
+  pub to : second.txn ≡ b
+
+-- wr: a installs a version of a key, and a read of b on that key returned it
+pub record IsReadDependency (P : List Txn) (a b : TxnId) : Type 0 where
+  pub key : List ℕ
+  pub commit : Stamp
+  pub reader : Part
+  pub place : ℕ
+  pub value : Option Value
+  pub returned : IsRead (parts key P) reader place value
+  pub installed : IsSource (parts key P) value (source.Installed a commit)
+  pub to : reader.id ≡ b
+
+-- rw: a read of a returned the initial version of a key or an installed one, which may be its own, and b installs the next one
+pub record IsAntiDependency (P : List Txn) (a b : TxnId) : Type 0 where
+  pub key : List ℕ
+  pub reader : Part
+  pub place : ℕ
+  pub value : Option Value
+  pub source : Source
+  pub second : Installer
+  pub returned : IsRead (parts key P) reader place value
+  pub read : IsSource (parts key P) value source
+  pub next : IsNextAt (parts key P) source (Some second)
+  pub from : reader.id ≡ a
+  pub to : second.txn ≡ b
+
+-- st: a commits before b starts
+pub record IsStartDependency (P : List Txn) (a b : TxnId) : Type 0 where
+  pub first : Txn
+  pub second : Txn
+  pub commit : Stamp
+  pub later : Stamp
+  pub from : IsNode P a first commit
+  pub to : IsNode P b second later
+  pub before : commit.0 < second.start.0
+
+-- a dependency of that label leads from a to b
+abbrev pub Leads : List Txn → Label → TxnId → TxnId → Type 0
+Leads P label.Ww a b = IsWriteDependency P a b
+Leads P label.Wr a b = IsReadDependency P a b
+Leads P label.Rw a b = IsAntiDependency P a b
+Leads P label.St a b = IsStartDependency P a b
+
+-- e is an edge of the graph
+pub record IsEdge (P : List Txn) (e : Edge) : Type 0 where
+  pub differ : e.from ≢ e.to
+  pub leads : Leads P e.label e.from e.to
+
+-- the edge is a ww or wr edge
+abbrev pub IsDependency : Label → Type 0
+IsDependency label.Ww = ⊤
+IsDependency label.Wr = ⊤
+IsDependency label.Rw = ⊥
+IsDependency label.St = ⊥

@@ -1,0 +1,4 @@
+pub mod Edges
+pub mod Walks
+pub mod Phenomena
+pub mod Shown

@@ -1,0 +1,12 @@
+//! The start-ordered serialization graph of a history: its edges, its walks, the phenomena that snapshot isolation forbids,
+//! and the evidence that a finding stands for one of them.
+//!
+//! It carries the promise that each finding that breaks snapshot isolation is explained by an evidence, that an evidence is
+//! checked by itself and without memory, and that a checked one is a phenomenon. It stands on `si_model` and `thiserror`.
+#![tactic(auto)]
+
+pub mod edges;
+pub mod evidence;
+
+pub use edges::{Edge, Label};
+pub use evidence::Evidence;
