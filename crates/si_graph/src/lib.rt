@@ -6,6 +6,7 @@
 #![tactic(auto)]
 
 pub mod edges;
+pub mod emptiness;
 pub mod evidence;
 
 pub use edges::{Edge, Label};
