@@ -6,3 +6,9 @@ pub mod Deciding
 pub mod Judged
 pub mod Explaining
 pub mod Present
+pub mod Judgements
+pub mod Ends
+pub mod Walking
+pub mod Meanings
+pub mod Founds
+pub mod Emptied

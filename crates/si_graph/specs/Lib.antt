@@ -5,3 +5,4 @@ pub mod Shown
 pub mod EvidenceTests
 pub mod Explanations
 pub mod Laws
+pub mod Emptiness
