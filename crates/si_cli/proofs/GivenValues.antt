@@ -362,7 +362,7 @@ entered_keeps a (Some p) good none = go (find (λ s. answers_to p.0 (label_of s)
 sicheck_good : All (λ t. All Good t.rules) (built sicheck_app).subs
 unfolding clap_on_literals
 sicheck_good = (
-  (λ e. record { action = refl; ignore_case = refl; parser = refl; defaults = refl }, (λ e. absurd (true≢false (sym e)), (λ e. absurd (true≢false (sym e)), tt))),
+  (λ e. record { action = refl; ignore_case = refl; parser = refl; defaults = refl }, (λ e. absurd (true≢false (sym e)), (λ e. absurd (true≢false (sym e)), (λ e. absurd (true≢false (sym e)), tt)))),
   ((λ e. absurd (true≢false (sym e)), tt), tt),
 )
 

@@ -95,17 +95,17 @@ all_done bytes rest m done e none = e ∙ ap (λ r. done ++ items_after m r) non
 
 told : (rules : Rules) (written w v : Option (List ℕ)) (items : List Item) (p : Progress) (status : ExitStatus) (text : List ℕ)
     → Appends written w (items_text rules start (from_source 0 items)) → p ≡ progress_through rules start (from_source 0 items)
-    → Appends w v text → text ≡ report_at p → status ≡ status_at p
+    → Appends w v text → text ≡ report_at rules p → status ≡ status_at p
     → Appends written v (output_of rules (from_source 0 items)) × (status ≡ status_of rules (from_source 0 items))
 unfolding output_of status_of
 told rules written w v items p status text wrote progress adds text_is status_is =
     let before = items_text rules start (from_source 0 items) in (
-      subst (λ t. Appends written v (before ++ t)) (text_is ∙ ap report_at progress) (Appends-trans written w v before text wrote adds),
+      subst (λ t. Appends written v (before ++ t)) (text_is ∙ ap (report_at rules) progress) (Appends-trans written w v before text wrote adds),
       status_is ∙ ap status_at progress,
     )
 
 pub ends : (rules : Rules) (left written : Option (List ℕ)) (n m : ℕ) (a b w v : Option (List ℕ)) (p : Progress) (status : ExitStatus) (text : List ℕ)
-    → IsUnderWay rules left written n a w p → Yields n a m b [] → IsAtEnd b → Appends w v text → text ≡ report_at p → status ≡ status_at p
+    → IsUnderWay rules left written n a w p → Yields n a m b [] → IsAtEnd b → Appends w v text → text ≡ report_at rules p → status ≡ status_at p
     → WritesOutput rules left written v status
 ends rules None written n m a b w v p status text way none end adds text_is status_is = tt
 ends rules (Some bytes) written n m a b w v p status text way none end adds text_is status_is =

@@ -1,11 +1,12 @@
 -- The command line, as clap's definition of simple commands has it, and what its words ask for.
-use Rattle.std.specs.Prelude.{◌≡◌, ◌<◌, ◌≤◌, ℕ, List, [], length, map, true, false, codes, Option, Some, option_map, unwrap_or, Result, Ok, Err}
+use Rattle.std.specs.Prelude.{◌≡◌, ◌<◌, ◌≤◌, ℕ, Bool, false, List, [], length, map, true, false, codes, Option, Some, option_map, unwrap_or, Result, Ok, Err}
 use Rattle.std.specs.Option.{option_map_or, IfSome}
+use Rattle.std.specs.Str.{bytes_eq}
 use Rattle.std.specs.Str.Parse.{digits_value, without_leading_plus}
-use Rattle.clap.specs.declared.builder.action.ArgAction.TheVariants.{Set, Append}
+use Rattle.clap.specs.declared.builder.action.ArgAction.TheVariants.{Set, SetTrue, Append}
 use Rattle.clap.specs.declared.builder.value_parser.ValueParser.TheVariants.{Unsigned}
 use Rattle.clap.specs.declared.error.kind.ErrorKind.TheVariants.{OutOfMemory}
-use Rattle.clap.specs.Words.{App, HasKind, IsUnsignedIn, kind_of, Row, Rule, Text, all_of, fault_of, new_app, new_rule, one_of, subcommand_of, with_rule, with_subcommand}
+use Rattle.clap.specs.Words.{App, HasKind, IsUnsignedIn, kind_of, Row, Rule, Text, all_of, fault_of, first_of, new_app, new_rule, one_of, subcommand_of, with_rule, with_subcommand}
 use Rattle.si_cli.specs.declared.options.Options.{Options}
 use Rattle.si_cli.specs.declared.settings.Settings.{Settings}
 use Rattle.si_cli.specs.declared.settings.SettingsFault.{SettingsFault}
@@ -17,13 +18,17 @@ use Rattle.si_cli.specs.declared.settings.SettingsFault.TheVariants.{Line, TooMa
 abbrev pub every_rule : Rule
 every_rule = record (new_rule (codes "every")) { long = Some (codes "every"); value_names = 1; action = Some Set; parser = Some (Unsigned 1 16777216) }
 
+-- `--explain`
+abbrev pub explain_rule : Rule
+explain_rule = record (new_rule (codes "explain")) { long = Some (codes "explain"); action = Some SetTrue }
+
 -- a file, or several
 abbrev pub file_rule : Rule
 file_rule = record (new_rule (codes "FILE")) { action = Some Append }
 
 -- the subcommand
 abbrev pub check_app : App
-check_app = with_rule (with_rule (new_app (codes "check")) every_rule) file_rule
+check_app = with_rule (with_rule (with_rule (new_app (codes "check")) every_rule) explain_rule) file_rule
 
 -- the program before its subcommand is added, which has to be given
 abbrev pub top_app : App
@@ -47,13 +52,17 @@ number_of text = digits_value 10 (without_leading_plus text)
 abbrev pub every_given : List Row → Option ℕ
 every_given rows = option_map number_of (one_of (codes "every") rows)
 
+-- whether `--explain` is there
+abbrev pub explain_given : List Row → Bool
+explain_given rows = option_map_or (λ text. bytes_eq text (codes "true")) (first_of (codes "explain") rows) false
+
 -- the names of the files, in their order
 abbrev pub files_given : List Row → List Text
 files_given rows = unwrap_or (all_of (codes "FILE") rows) []
 
 -- the options that the words ask for, with what holds where they ask for nothing
 abbrev pub options_given : List Row → Options
-options_given rows = record { shards = 4; every = every_given rows; explain = false; limit = 16777216 }
+options_given rows = record { shards = 4; every = every_given rows; explain = explain_given rows; limit = 16777216 }
 
 -- reports come after a number of items from 1 to 16,777,216, if they come on the way
 abbrev pub IsEveryInRange : Option ℕ → Type 0

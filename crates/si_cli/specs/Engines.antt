@@ -8,4 +8,4 @@ progress_of engine = record { journal = engine.book.journal; decided = engine.de
 
 -- the rules that it decides by
 abbrev pub rules_of : Engine → Rules
-rules_of engine = record { limit = engine.book.limit; every = engine.every }
+rules_of engine = record { limit = engine.book.limit; every = engine.every; explain = engine.explain }

@@ -26,10 +26,12 @@ sourced source item = (source, item)
 abbrev pub from_source : ℕ → List Item → List SourcedItem
 from_source source items = map (sourced source) items
 
--- the most edits that a journal may have, and after how many decided items each report comes, if any do on the way
+-- the most edits that a journal may have, after how many decided items each report comes, if any do on the way, and whether
+-- evidence follows the findings
 pub record Rules : Type 0 where
   pub limit : ℕ
   pub every : Option ℕ
+  pub explain : Bool
 
 -- how far the decisions are: the accepted edits, how many items were decided and how many of them refused
 pub record Progress : Type 0 where
@@ -74,8 +76,8 @@ progress_through rules p [] = p
 progress_through rules p (item ∷ items) = progress_through rules (progress_after rules p item) items
 
 -- the report of what is present
-unfoldable pub report_at : Progress → List ℕ
-report_at p = report_text (present p.journal) (findings (present p.journal)) p.refused
+unfoldable pub report_at : Rules → Progress → List ℕ
+report_at rules p = report_text rules.explain (present p.journal) (findings (present p.journal)) p.refused
 
 -- whether a report comes after so many decided items
 abbrev pub is_due : Option ℕ → ℕ → Bool
@@ -89,7 +91,7 @@ refusal_line source line (Some reason) = refused_text source line reason
 
 -- the report on the way, where it is due
 abbrev pub report_due : Rules → Progress → List ℕ
-report_due rules p = if is_due rules.every p.decided then report_at p else []
+report_due rules p = if is_due rules.every p.decided then report_at rules p else []
 
 -- what is written for one item
 unfoldable pub item_text : Rules → Progress → SourcedItem → List ℕ
@@ -102,7 +104,7 @@ items_text rules p (item ∷ items) = item_text rules p item ++ items_text rules
 
 -- the whole text
 unfoldable pub output_of : Rules → List SourcedItem → List ℕ
-output_of rules items = items_text rules start items ++ report_at (progress_through rules start items)
+output_of rules items = items_text rules start items ++ report_at rules (progress_through rules start items)
 
 -- the exit status by the last verdict and by how many items were refused
 abbrev pub status_by : Verdict → ℕ → ExitStatus

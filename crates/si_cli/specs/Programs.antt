@@ -1,21 +1,21 @@
 -- How the program ends.
-use Rattle.std.specs.Prelude.{◌≡◌, ◌≤◌, ◌⊎◌, ℕ, List, [], Option, false}
+use Rattle.std.specs.Prelude.{◌≡◌, ◌≤◌, ◌⊎◌, ℕ, List, [], Option}
 use Rattle.clap.specs.declared.error.Error.{Error}
 use Rattle.clap.specs.declared.error.kind.ErrorKind.TheVariants.{DisplayHelp, DisplayVersion}
 use Rattle.clap.specs.Words.{IsAmong, Text, fault_of, kind_of}
 use Rattle.si_cli.specs.declared.options.Options.{Options}
 use Rattle.si_cli.specs.declared.statuses.ExitStatus.{ExitStatus}
-use Rattle.si_cli.specs.CommandLines.{every_given, files_given, rows_given, sicheck_app}
+use Rattle.si_cli.specs.CommandLines.{every_given, explain_given, files_given, rows_given, sicheck_app}
 use Rattle.si_cli.specs.Outputs.{Rules, exit_code}
 use Rattle.si_cli.specs.Runs.{WritesOutput}
 
--- the options are in range, and ask for nothing that isn't there yet
+-- the options are in range
 abbrev pub IsRunnable : Options → Type 0
-IsRunnable options = (1 ≤ options.limit) × (options.limit ≤ 16777216) × (options.explain ≡ false)
+IsRunnable options = (1 ≤ options.limit) × (options.limit ≤ 16777216)
 
 -- what the options say of the text
 abbrev pub rules_by : Options → Rules
-rules_by options = record { limit = options.limit; every = options.every }
+rules_by options = record { limit = options.limit; every = options.every; explain = options.explain }
 
 -- clap was asked for a text, which is no fault
 abbrev pub IsAskedFor : Error → Type 0
@@ -36,4 +36,4 @@ EndsProgram words left old new result =
     (result ≡ 2)
     ⊎ (((result ≡ 0) × (IsAmong DisplayHelp (fault_of sicheck_app words) ⊎ IsAmong DisplayVersion (fault_of sicheck_app words)))
     ⊎ ((fault_of sicheck_app words ≡ []) × ((status : ExitStatus) × (result ≡ exit_code status)
-    × (files_given (rows_given words) ≡ [] → WritesOutput (record { limit = 16777216; every = every_given (rows_given words) }) left old new status))))
+    × (files_given (rows_given words) ≡ [] → WritesOutput (record { limit = 16777216; every = every_given (rows_given words); explain = explain_given (rows_given words) }) left old new status))))

@@ -1,6 +1,6 @@
 ghost use Rattle.std.specs.Prelude.{◌≡◌, IfOk, map, false};
 ghost use Rattle.clap.specs.Words.{FailsBy, app_of, fault_of, rule_of, subcommand_of, subcommand_rows_of};
-ghost use Rattle.si_cli.specs.CommandLines.{every_rule, file_rule, sicheck_app};
+ghost use Rattle.si_cli.specs.CommandLines.{every_rule, explain_rule, file_rule, sicheck_app};
 
 use clap::builder::ValueParser;
 use clap::{Arg, ArgAction, ArgMatches, Command};
@@ -9,6 +9,9 @@ use std::convert::AsStr;
 
 /// The id of the option that asks for reports on the way.
 pub const EVERY: &str = "every";
+
+/// The id of the flag that asks for evidence.
+pub const EXPLAIN: &str = "explain";
 
 /// The id of the files.
 pub const FILE: &str = "FILE";
@@ -52,6 +55,7 @@ fn command<'a>(alloc: Global) -> Result<Command<'a>, AllocError>
         .about("Checks the history in a file, or on standard input where none is named")
         .after_help(INPUT)
         .arg(every(alloc))?
+        .arg(explain(alloc))?
         .arg(file(alloc))?;
     let top = Command::new(alloc, "sicheck")
         .about(ABOUT)
@@ -72,6 +76,19 @@ fn every<'a>(alloc: Global) -> Arg<'a>
         .value_parser(ValueParser::unsigned(1, 16_777_216))
         .help(
             "Reports after each N lines that were accepted or refused, 1 to 16777216, and at the end",
+        )
+}
+
+/// The flag that asks for evidence.
+fn explain<'a>(alloc: Global) -> Arg<'a>
+    ensures rule { rule_of result ≡ explain_rule }
+    ensures local { result.global ≡ false }
+{
+    Arg::new(alloc, EXPLAIN)
+        .long("explain")
+        .action(ArgAction::SetTrue)
+        .help(
+            "Follows each violation with its evidence, a phenomenon of Adya's that can be checked by itself",
         )
 }
 

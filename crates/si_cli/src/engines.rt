@@ -19,6 +19,7 @@ pub struct Engine {
     alloc: Global,
     book: Book,
     every: Option<u64>,
+    explain: bool,
     decided: u64,
     refused: u64,
     ghost counts: { refused ≤ decided },
@@ -33,12 +34,14 @@ impl Engine {
         requires some { 1 ≤ options.limit }
         requires most { options.limit ≤ 16777216 }
         ensures progress { progress_of result ≡ start }
-        ensures rules { rules_of result ≡ record { limit = options.limit; every = options.every } }
+        ensures rules { rules_of result
+            ≡ record { limit = options.limit; every = options.every; explain = options.explain } }
     {
         Engine {
             alloc,
             book: Book::new(alloc, options.limit),
             every: options.every,
+            explain: options.explain,
             decided: 0,
             refused: 0,
         }
@@ -77,7 +80,8 @@ impl Engine {
         requires { self.old.refused < self.old.decided }
         ensures text { OnOk result (text.new.items ≡ text.old.items ++ refusal_line source line reason) }
         ensures count { OnOk result (self.new.refused ≡ counted self.old.refused reason) }
-        ensures rest { (self.new.book ≡ self.old.book) × (self.new.every ≡ self.old.every) × (self.new.decided ≡ self.old.decided) }
+        ensures rest { (self.new.book ≡ self.old.book) × (self.new.every ≡ self.old.every)
+            × (self.new.explain ≡ self.old.explain) × (self.new.decided ≡ self.old.decided) }
     {
         if let Some(reason) = reason {
             self.refused += 1;
@@ -91,7 +95,8 @@ impl Engine {
         ensures reason { IfOk result (λ reason. reason ≡ reason_after self.old.book.limit self.old.book.journal answer) }
         ensures journal { OnOk result (self.new.book.journal ≡ journal_after self.old.book.limit self.old.book.journal answer) }
         ensures limit { self.new.book.limit ≡ self.old.book.limit }
-        ensures rest { (self.new.every ≡ self.old.every) × (self.new.decided ≡ self.old.decided) × (self.new.refused ≡ self.old.refused) }
+        ensures rest { (self.new.every ≡ self.old.every) × (self.new.explain ≡ self.old.explain)
+            × (self.new.decided ≡ self.old.decided) × (self.new.refused ≡ self.old.refused) }
     {
         let edit = match answer {
             Ok(edit) => edit,
@@ -117,14 +122,21 @@ impl Engine {
     /// Appends the report of what is present, and answers its verdict.
     #[tactic(auto, unfolding(crate::specs::Outputs::report_at))]
     pub fn report(&self, text: &mut Vec<u8>) -> Result<Verdict, OutOfMemory>
-        ensures text { OnOk result (text.new.items ≡ text.old.items ++ report_at (progress_of self.now)) }
+        ensures text { OnOk result (text.new.items ≡ text.old.items ++ report_at (rules_of self.now) (progress_of self.now)) }
         ensures verdict { IfOk result (λ verdict. verdict ≡ verdict_of (findings (present self.now.book.journal))) }
     {
         let present = self.book.present()?;
         let _journal = self.book.journal();
         present_is_history();
         let findings = findings_of(self.alloc, &present)?;
-        print_report(self.alloc, text, &present, &findings, self.refused, false)?;
+        print_report(
+            self.alloc,
+            text,
+            &present,
+            &findings,
+            self.refused,
+            self.explain,
+        )?;
         Ok(Verdict::of(&findings))
     }
 

@@ -17,10 +17,9 @@ pub fn run<S: ByteSource, W: ByteSink>(
 ) -> Result<ExitStatus, RunFault>
     requires some { 1 ≤ options.limit }
     requires most { options.limit ≤ 16777216 }
-    requires explain { options.explain ≡ false }
     requires source { S.failed source.old ≡ false }
     requires writer { W.failed writer.old ≡ false }
-    ensures output { IfOk result (λ status. WritesOutput (record { limit = options.limit; every = options.every })
+    ensures output { IfOk result (λ status. WritesOutput (record { limit = options.limit; every = options.every; explain = options.explain })
         (S.left source.old) (W.written writer.old) (W.written writer.new) status) }
     ensures fault { IfErr result (IsTrueFault (S.left source.old) (S.failed source.new) (W.failed writer.new)) }
 {

@@ -1,9 +1,9 @@
 ghost use Rattle.std.specs.Prelude.{◌≡◌, map, false, IfOk};
 ghost use Rattle.clap.specs.Words.{found_of, rows_of};
-ghost use Rattle.si_cli.specs.CommandLines.{IsToldBy, IsReadOf, EveryFits, files_given, every_given};
+ghost use Rattle.si_cli.specs.CommandLines.{IsToldBy, IsReadOf, EveryFits, files_given, every_given, explain_given};
 
 use crate::Options;
-use crate::command_lines::{EVERY, FILE, parse};
+use crate::command_lines::{EVERY, EXPLAIN, FILE, parse};
 use clap::ArgMatches;
 use std::alloc::{AllocError, Global};
 use std::convert::AsStr;
@@ -45,7 +45,7 @@ impl std::error::Error for SettingsFault {}
 
 /// What the words of a command line ask for, of which the first is the program's name.
 ///
-/// They are `sicheck check [--every N] [FILE]`, with N from 1 to 16,777,216. A fault is one that `clap`'s definition of the
+/// They are `sicheck check [--every N] [--explain] [FILE]`, with N from 1 to 16,777,216. A fault is one that `clap`'s definition of the
 /// command tells of the words, or want of memory, or that they name too many files.
 pub fn settings_of<'a, S: AsStr>(
     alloc: Global,
@@ -60,7 +60,7 @@ pub fn settings_of<'a, S: AsStr>(
     match matches.subcommand() {
         Some((_, check)) => read(alloc, check),
         None => Ok(Settings {
-            options: options(None),
+            options: options(None, false),
             files: Vec::new(alloc),
         }),
     }
@@ -77,7 +77,7 @@ fn read<'a>(alloc: Global, check: &ArgMatches<'a>) -> Result<Settings<'a>, Setti
     if files.len() > MOST_FILES {
         return Err(SettingsFault::TooManyFiles);
     }
-    let options = options(every_of(check));
+    let options = options(every_of(check), is_explained(check));
     Ok(Settings { options, files })
 }
 
@@ -99,14 +99,24 @@ fn every_of(check: &ArgMatches<'_>) -> Option<u64>
     check.get_one::<u64>(EVERY)
 }
 
-/// The program's options, with reports after each so many items.
-fn options(every: Option<u64>) -> Options
-    ensures { result ≡ record { shards = 4; every = every; explain = false; limit = 16777216 } }
+/// Whether evidence is asked for.
+fn is_explained(check: &ArgMatches<'_>) -> bool
+    ensures { result ≡ explain_given (rows_of (found_of check.now)) }
+{
+    match check.get_str(EXPLAIN) {
+        Some(text) => text == "true",
+        None => false,
+    }
+}
+
+/// The program's options, with reports after each so many items, and with evidence or without.
+fn options(every: Option<u64>, explain: bool) -> Options
+    ensures { result ≡ record { shards = 4; every = every; explain = explain; limit = 16777216 } }
 {
     Options {
         shards: 4,
         every,
-        explain: false,
+        explain,
         limit: MOST_EDITS,
     }
 }

@@ -1,5 +1,6 @@
 //! What runs and the whole program write, and how they end.
 
+mod evidence;
 mod files;
 mod programs;
 mod rows;
@@ -10,12 +11,20 @@ use std::alloc::Global;
 use std::process::Abort;
 use std::test::Fail;
 
+/// What the tests run with, where they say nothing else.
+const PLAIN: Options = Options {
+    shards: 4,
+    every: None,
+    explain: false,
+    limit: 16_777_216,
+};
+
 /// A run over the input, which gives and takes so many bytes at once, writes the output and has that status.
 fn check_text(
     rt: &impl Abort,
     alloc: Global,
     piece: usize,
-    every: Option<u64>,
+    options: Options,
     input: &str,
     output: &str,
     status: ExitStatus,
@@ -23,12 +32,7 @@ fn check_text(
     assert!(rt; 1 <= piece);
     let mut source = MemorySource::new(Vec::from_slice(alloc, input.as_bytes())?, piece);
     let mut sink = MemorySink::new(alloc, piece);
-    let options = Options {
-        shards: 4,
-        every,
-        explain: false,
-        limit: 16_777_216,
-    };
+    assert!(rt; 1 <= options.limit && options.limit <= 16_777_216);
     let ended = run(alloc, &mut source, &mut sink, options).ok();
     assert_eq!(rt; ended, Some(status));
     assert_eq!(rt; sink.as_slice(), output.as_bytes());
@@ -36,6 +40,19 @@ fn check_text(
 }
 
 /// The same, by bytes one at a time and all at once.
+fn check_with(
+    rt: &impl Abort,
+    alloc: Global,
+    options: Options,
+    input: &str,
+    output: &str,
+    status: ExitStatus,
+) -> Result<(), Fail> {
+    check_text(rt, alloc, 1, options, input, output, status)?;
+    check_text(rt, alloc, 65536, options, input, output, status)
+}
+
+/// The same, with reports after each so many lines.
 fn check(
     rt: &impl Abort,
     alloc: Global,
@@ -44,6 +61,5 @@ fn check(
     output: &str,
     status: ExitStatus,
 ) -> Result<(), Fail> {
-    check_text(rt, alloc, 1, every, input, output, status)?;
-    check_text(rt, alloc, 65536, every, input, output, status)
+    check_with(rt, alloc, Options { every, ..PLAIN }, input, output, status)
 }

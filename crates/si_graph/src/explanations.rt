@@ -46,7 +46,8 @@ fn is_among(found: &[Finding], finding: &Finding) -> bool
     found.iter().any(|other| finding.cmp(other).is_eq())
 }
 
-fn evidence_of(alloc: Global, kind: Kind) -> Result<Evidence, ExplainFault>
+/// The evidence for a finding of that kind, which holds of each history of which the finding is one.
+pub fn evidence_of(alloc: Global, kind: Kind) -> Result<Evidence, ExplainFault>
     ensures explains { IfOk result (Explains kind) }
     ensures fault { IfErr result (IsFaultOfKind kind) }
 {

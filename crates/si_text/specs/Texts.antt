@@ -1,4 +1,4 @@
--- The texts that are printed: findings, refused items, the summary and the whole report.
+-- The texts that are printed: findings and their evidence, refused items, the summary and the whole report.
 use Rattle.std.specs.Prelude.{ℕ, List, [], ◌∷◌, ◌++◌, length, codes, decimal, Bool, true, false, if◌then◌else◌, Option, Some, None}
 use Rattle.std.specs.List.{flat_map, list_any}
 use Rattle.serde_json.specs.Data.{string}
@@ -11,6 +11,12 @@ use Rattle.si_model.specs.declared.numbers.Value.{Value}
 use Rattle.si_model.specs.declared.refusals.Refusal.{Refusal}
 use Rattle.si_model.specs.declared.refusals.Refusal.TheVariants.{Full, IdPresent, NoSuch, NotInDoubt, StampOrder, StampTaken, ValueTwice, ValueTaken}
 use Rattle.si_model.specs.declared.transactions.Txn.{Txn}
+use Rattle.si_graph.specs.declared.edges.Edge.{Edge}
+use Rattle.si_graph.specs.declared.edges.Label.{Label}
+use Rattle.si_graph.specs.declared.edges.Label.TheVariants as label
+use Rattle.si_graph.specs.declared.evidence.Evidence.{Evidence}
+use Rattle.si_graph.specs.declared.evidence.Evidence.TheVariants as evidence
+use Rattle.si_graph.specs.Explanations.{edge}
 use Rattle.si_text.specs.Faults.{field_name, fault_code}
 use Rattle.si_text.specs.declared.faults.LineFault.{LineFault}
 use Rattle.si_text.specs.declared.faults.LineFault.TheVariants.{TooLong, NotJson, NotObject, BadKind, BadField, BadStatus, TooManyOps, BadOp, OutOfMemory}
@@ -58,6 +64,51 @@ kind_text key (Overlap first second) = codes "overlap" ++ codes " key=" ++ key +
 -- the line of a finding
 abbrev pub finding_text : Finding → List ℕ
 finding_text finding = kind_text (key_text finding.key) finding.kind ++ line_end
+
+-- ---- evidence
+
+-- a read by its transaction and the place of its operation, and the writer of what it returned
+abbrev pub read_from_text : List ℕ → TxnId → ℕ → TxnId → List ℕ
+read_from_text label t i u = label ++ decimal t.0 ++ codes " op=" ++ decimal i ++ codes " writer=" ++ decimal u.0
+
+abbrev pub label_text : Label → List ℕ
+label_text label.Ww = codes "-ww->"
+label_text label.Wr = codes "-wr->"
+label_text label.Rw = codes "-rw->"
+label_text label.St = codes "-st->"
+
+-- an edge behind a space, as ` 1-ww->2`
+abbrev pub edge_text : Edge → List ℕ
+edge_text e = codes " " ++ decimal e.from.0 ++ label_text e.label ++ decimal e.to.0
+
+abbrev pub missed_text : List Edge → List ℕ
+missed_text es = codes "  G-SI(b)" ++ flat_map edge_text es
+
+-- what an evidence says
+abbrev pub shown_text : Evidence → List ℕ
+shown_text (evidence.AbortedRead t i u) = read_from_text (codes "  G1a reader=") t i u
+shown_text (evidence.IntermediateRead t i u) = read_from_text (codes "  G1b reader=") t i u
+shown_text (evidence.Interference e) = codes "  G-SI(a)" ++ edge_text e
+shown_text (evidence.Missed walk) = missed_text walk.items
+
+-- the line of an evidence
+abbrev pub evidence_text : Evidence → List ℕ
+evidence_text e = shown_text e ++ line_end
+
+-- the line of the evidence for a finding of that kind, if it has one
+abbrev pub explanation_text : Kind → List ℕ
+explanation_text (Unknown t i v) = []
+explanation_text (Doubt t i v u) = []
+explanation_text (Own t i v w) = []
+explanation_text (Aborted t i v u) = read_from_text (codes "  G1a reader=") t i u ++ line_end
+explanation_text (Intermediate t i v u) = read_from_text (codes "  G1b reader=") t i u ++ line_end
+explanation_text (Future t i v u) = (codes "  G-SI(a)" ++ edge_text (edge label.Wr u t)) ++ line_end
+explanation_text (Stale t i v n) = missed_text (edge label.Rw t n ∷ edge label.St n t ∷ []) ++ line_end
+explanation_text (Overlap a b) = (codes "  G-SI(a)" ++ edge_text (edge label.Ww a b)) ++ line_end
+
+-- the line of a finding, and its evidence if that is asked for
+abbrev pub finding_lines : Bool → Finding → List ℕ
+finding_lines explain f = finding_text f ++ (if explain then explanation_text f.kind else [])
 
 -- ---- refused items
 
@@ -144,6 +195,7 @@ abbrev pub summary_text : ℕ → ℕ → ℕ → Verdict → List ℕ
 summary_text transactions findings refused verdict =
     codes "transactions=" ++ decimal transactions ++ codes " findings=" ++ decimal findings ++ codes " refused=" ++ decimal refused ++ codes " verdict=" ++ verdict_text verdict ++ line_end
 
--- the findings, each in its line, and the summary
-abbrev pub report_text : List Txn → List Finding → ℕ → List ℕ
-report_text present findings refused = flat_map finding_text findings ++ summary_text (length present) (length findings) refused (verdict_of findings)
+-- the findings, each in its lines, and the summary
+abbrev pub report_text : Bool → List Txn → List Finding → ℕ → List ℕ
+report_text explain present findings refused =
+    flat_map (finding_lines explain) findings ++ summary_text (length present) (length findings) refused (verdict_of findings)

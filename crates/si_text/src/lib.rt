@@ -1,11 +1,12 @@
 //! The texts of the checker: lines in, report lines out, and the devices that carry their bytes.
 //!
 //! It carries the promise that an edit read from a line is what the line says by its definition, and that what is
-//! printed is exactly the text of its definition. It stands on `si_model` for the types, on `serde_json` for JSON and
+//! printed is exactly the text of its definition. It stands on `si_model` for the types, on `si_graph` for evidence, on `serde_json` for JSON and
 //! on `itoa` for numbers.
 #![tactic(auto)]
 
 pub mod devices;
+pub mod explaining;
 pub mod faults;
 pub mod line_buffers;
 pub mod line_items;
@@ -20,6 +21,7 @@ pub mod streams;
 pub mod verdicts;
 
 pub use devices::{ByteSink, ByteSource, DeviceFailed};
+pub use explaining::print_evidence;
 pub use faults::{Field, LineFault};
 pub use line_buffers::{InputFault, LineBuffer};
 pub use line_items::LineItem;

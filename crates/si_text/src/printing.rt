@@ -1,8 +1,9 @@
-ghost use Rattle.std.specs.Prelude.{◌≡◌, ◌++◌, decimal, codes, length, OnOk, OnErr, IfOk, false};
+ghost use Rattle.std.specs.Prelude.{◌≡◌, ◌++◌, decimal, codes, length, OnOk, OnErr, IfOk};
 ghost use Rattle.std.specs.List.{flat_map};
 ghost use Rattle.si_model.specs.Findings.{findings};
-ghost use Rattle.si_text.specs.Texts.{code_text, fault_text, finding_text, key_text, kind_text, own_text, read_text, reading_text, reason_text, refusal_text, refused_text, report_text, summary_text, verdict_of};
+ghost use Rattle.si_text.specs.Texts.{code_text, fault_text, finding_lines, finding_text, key_text, kind_text, own_text, read_text, reading_text, reason_text, refusal_text, refused_text, report_text, summary_text, verdict_of};
 
+use crate::explaining::explanation_line;
 use crate::{LineFault, Reason, Verdict};
 use itoa::Buffer;
 use serde_json::Value;
@@ -36,8 +37,8 @@ pub fn print_refusal(
 }
 
 /// Appends a report: the findings, each in its line, and the summary of the transactions that are present, the findings
-/// and how many items were refused so far. With `explain` each finding that is a violation is to be followed by its
-/// evidence, which can't be asked for yet. For want of memory the bytes are as before.
+/// and how many items were refused so far. With `explain` each finding that is a violation is followed by the line of its
+/// evidence. For want of memory the bytes are as before.
 pub fn print_report(
     alloc: Global,
     out: &mut Vec<u8>,
@@ -46,14 +47,12 @@ pub fn print_report(
     refused: u64,
     explain: bool,
 ) -> Result<(), OutOfMemory>
-    requires exact { found.now ≡ findings present.now }
-    requires explain { explain ≡ false }
+    requires { found.now ≡ findings present.now }
     ensures ok { OnOk result
-        (out.new.items ≡ out.old.items ++ report_text present.now found.now refused) }
+        (out.new.items ≡ out.old.items ++ report_text explain present.now found.now refused) }
     ensures err { OnErr result (out.new.items ≡ out.old.items) }
 {
-    prove!(!explain);
-    let report = report_lines(alloc, present.len(), found, refused)?;
+    let report = report_lines(alloc, present.len(), found, refused, explain)?;
     out.extend_from_slice(&report)
 }
 
@@ -220,7 +219,7 @@ fn put_key(out: &mut Vec<u8>, kind: &str, key: &[u8]) -> Result<(), OutOfMemory>
 }
 
 /// Appends a label and a number behind it.
-fn put_number(out: &mut Vec<u8>, label: &str, number: u64) -> Result<(), OutOfMemory>
+pub(crate) fn put_number(out: &mut Vec<u8>, label: &str, number: u64) -> Result<(), OutOfMemory>
     ensures { OnOk result (out.new.items ≡ out.old.items ++ label.now ++ decimal number) }
 {
     let mut buffer = Buffer::new();
@@ -320,25 +319,43 @@ fn report_lines(
     transactions: usize,
     findings: &[Finding],
     refused: u64,
+    explain: bool,
 ) -> Result<Vec<u8>, OutOfMemory>
-    ensures { IfOk result (λ text. text.items ≡ flat_map finding_text findings.now
+    ensures { IfOk result (λ text. text.items ≡ flat_map (finding_lines explain) findings.now
         ++ summary_text transactions (length findings.now) refused (verdict_of findings.now)) }
 {
-    let mut text = finding_lines(alloc, findings)?;
+    let mut text = finding_lines(alloc, findings, explain)?;
     let verdict = Verdict::of(findings);
     let summary = summary_line(alloc, transactions, findings.len(), refused, verdict)?;
     text.extend_from_slice(&summary)?;
     Ok(text)
 }
 
-fn finding_lines(alloc: Global, findings: &[Finding]) -> Result<Vec<u8>, OutOfMemory>
-    ensures { IfOk result (λ text. text.items ≡ flat_map finding_text findings.now) }
+fn finding_lines(alloc: Global, findings: &[Finding], explain: bool) -> Result<Vec<u8>, OutOfMemory>
+    ensures { IfOk result (λ text. text.items ≡ flat_map (finding_lines explain) findings.now) }
 {
     let mut text = Vec::new(alloc);
     for finding in findings {
-        print_finding(alloc, &mut text, finding)?;
+        put_finding(alloc, &mut text, finding, explain)?;
     }
     Ok(text)
+}
+
+/// Appends the line of a finding, and of its evidence if that is asked for.
+fn put_finding(
+    alloc: Global,
+    out: &mut Vec<u8>,
+    finding: &Finding,
+    explain: bool,
+) -> Result<(), OutOfMemory>
+    ensures { OnOk result (out.new.items ≡ out.old.items ++ finding_lines explain finding.now) }
+{
+    print_finding(alloc, out, finding)?;
+    if explain {
+        let line = explanation_line(alloc, finding.kind)?;
+        out.extend_from_slice(&line)?;
+    }
+    Ok(())
 }
 
 fn summary_line(

@@ -60,7 +60,7 @@ fn command_lines(rt: HostRuntime) -> Result<(), Fail> {
         "--every=-1",
         "--every=1.0",
         "--shards=4",
-        "--explain",
+        "--explain=1",
     ] {
         ends(&rt, alloc, &["sicheck", "check", option], 2, false, true)?;
     }
@@ -75,10 +75,18 @@ fn asks(
     alloc: Global,
     words: &[&str],
     every: Option<u64>,
+    explain: bool,
     files: &[&str],
 ) -> Result<(), Fail> {
     let settings = settings_of(alloc, words)?;
-    assert_eq!(rt; settings.options, Options { every, ..OPTIONS });
+    assert_eq!(rt;
+        settings.options,
+        Options {
+            every,
+            explain,
+            ..OPTIONS
+        }
+    );
     assert_eq!(rt; settings.files.as_slice(), files);
     Ok(())
 }
@@ -86,12 +94,13 @@ fn asks(
 #[test]
 fn what_words_ask_for(rt: HostRuntime) -> Result<(), Fail> {
     let alloc = rt.alloc();
-    asks(&rt, alloc, &["sicheck", "check"], None, &[])?;
+    asks(&rt, alloc, &["sicheck", "check"], None, false, &[])?;
     asks(
         &rt,
         alloc,
         &["sicheck", "check", "a.jsonl"],
         None,
+        false,
         &["a.jsonl"],
     )?;
     asks(
@@ -99,14 +108,19 @@ fn what_words_ask_for(rt: HostRuntime) -> Result<(), Fail> {
         alloc,
         &["sicheck", "check", "--every", "1"],
         Some(1),
+        false,
         &[],
     )?;
     let most = ["sicheck", "check", "--every=16777216", "a"];
-    asks(&rt, alloc, most.as_slice(), Some(16_777_216), &["a"])?;
+    asks(&rt, alloc, most.as_slice(), Some(16_777_216), false, &["a"])?;
     let after = ["sicheck", "check", "a", "--every", "+007"];
-    asks(&rt, alloc, after.as_slice(), Some(7), &["a"])?;
+    asks(&rt, alloc, after.as_slice(), Some(7), false, &["a"])?;
     let dashed = ["sicheck", "check", "--", "--every"];
-    asks(&rt, alloc, dashed.as_slice(), None, &["--every"])?;
+    asks(&rt, alloc, dashed.as_slice(), None, false, &["--every"])?;
+    let explained = ["sicheck", "check", "--explain", "a"];
+    asks(&rt, alloc, explained.as_slice(), None, true, &["a"])?;
+    let all = ["sicheck", "check", "a", "--every=3", "--explain"];
+    asks(&rt, alloc, all.as_slice(), Some(3), true, &["a"])?;
     let two = settings_of(alloc, ["sicheck", "check", "a", "b"].as_slice());
     assert!(rt; matches!(two, Err(SettingsFault::TooManyFiles)));
     Ok(())

@@ -1,6 +1,6 @@
 //! Inputs with the texts that are written for them.
 
-use super::{check, check_text};
+use super::{PLAIN, check, check_text};
 use crate::ExitStatus::{Clean, Open, Violation};
 use std::test::Fail;
 
@@ -150,6 +150,6 @@ fn faulty_lines(rt: HostRuntime) -> Result<(), Fail> {
     )?;
     let output =
         "refused source=0 line=1 code=2 reason=not-json\nrefused source=0 line=3 code=1 reason=too-long\nrefused source=0 line=4 code=15 reason=stamp-order\ntransactions=1 findings=0 refused=3 verdict=clean\n";
-    check_text(&rt, rt.alloc(), 65536, None, input.as_str(), output, Open)?;
+    check_text(&rt, rt.alloc(), 65536, PLAIN, input.as_str(), output, Open)?;
     Ok(())
 }

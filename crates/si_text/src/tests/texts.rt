@@ -1,6 +1,7 @@
 ghost use Rattle.std.specs.Prelude.{◌≤◌, vec_len};
 
-use crate::{Field, LineFault, Reason, print_finding, print_refusal, print_report};
+use crate::{Field, LineFault, Reason, print_evidence, print_finding, print_refusal, print_report};
+use si_graph::{Edge, Evidence, Label};
 use si_model::{
     Finding, Key, Kind, Op, Ops, Refusal, Stamp, Status, Txn, TxnId, Value, findings_of, is_history,
 };
@@ -217,11 +218,67 @@ fn check_report(
     refused: u64,
     text: &str,
 ) -> Result<(), Fail> {
+    check_explained(rt, alloc, present, refused, false, text)
+}
+
+/// The same, with or without evidence.
+fn check_explained(
+    rt: &impl Abort,
+    alloc: Global,
+    present: &[Txn],
+    refused: u64,
+    explain: bool,
+    text: &str,
+) -> Result<(), Fail> {
     assert!(rt; is_history(present));
     let findings = findings_of(alloc, present)?;
     let mut out = Vec::new(alloc);
-    print_report(alloc, &mut out, present, &findings, refused, false)?;
+    print_report(alloc, &mut out, present, &findings, refused, explain)?;
     assert_eq!(rt; out.as_slice(), text.as_bytes());
+    Ok(())
+}
+
+/// The line of this evidence.
+fn check_evidence_line(
+    rt: &impl Abort,
+    alloc: Global,
+    evidence: &Evidence,
+    text: &str,
+) -> Result<(), Fail> {
+    let mut out = Vec::new(alloc);
+    print_evidence(alloc, &mut out, evidence)?;
+    assert_eq!(rt; out.as_slice(), text.as_bytes());
+    Ok(())
+}
+
+#[test]
+fn lines_of_evidence(rt: HostRuntime) -> Result<(), Fail> {
+    let alloc = rt.alloc();
+    let (one, two) = (TxnId(1), TxnId(2));
+    let aborted = Evidence::AbortedRead {
+        reader: two,
+        op: 0,
+        writer: one,
+    };
+    check_evidence_line(&rt, alloc, &aborted, "  G1a reader=2 op=0 writer=1\n")?;
+    let intermediate = Evidence::IntermediateRead {
+        reader: two,
+        op: 3,
+        writer: one,
+    };
+    check_evidence_line(&rt, alloc, &intermediate, "  G1b reader=2 op=3 writer=1\n")?;
+    let edge = |label, from, to| Edge { from, to, label };
+    let first = Evidence::Interference(edge(Label::Ww, one, two));
+    check_evidence_line(&rt, alloc, &first, "  G-SI(a) 1-ww->2\n")?;
+    let second = Evidence::Interference(edge(Label::Wr, one, two));
+    check_evidence_line(&rt, alloc, &second, "  G-SI(a) 1-wr->2\n")?;
+    let walk = vec![in alloc; edge(Label::Rw, two, one), edge(Label::St, one, two)]?;
+    check_evidence_line(
+        &rt,
+        alloc,
+        &Evidence::Missed(walk),
+        "  G-SI(b) 2-rw->1 1-st->2\n",
+    )?;
     Ok(())
 }
 
@@ -247,5 +304,9 @@ fn reports(rt: HostRuntime) -> Result<(), Fail> {
     let violation =
         "overlap key=\"x\" first=1 second=2\ntransactions=2 findings=1 refused=0 verdict=violation\n";
     check_report(&rt, alloc, &both, 0, violation)?;
+    let explained =
+        "overlap key=\"x\" first=1 second=2\n  G-SI(a) 1-ww->2\ntransactions=2 findings=1 refused=0 verdict=violation\n";
+    check_explained(&rt, alloc, &both, 0, true, explained)?;
+    check_explained(&rt, alloc, &[], 0, true, clean)?;
     Ok(())
 }

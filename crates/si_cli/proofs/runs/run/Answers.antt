@@ -14,7 +14,7 @@ items-init g c =
     let written = g.W.ByteSink.written c.args.writer.now in
     let buffer = c.in_ok-lines.lines in
     record {
-      way = begins (record { limit = c.args.options.limit; every = c.args.options.every }) buffer left written (progress_of c.new-engine.result) c.in_ok-lines.ensures c.new-engine.ensures.progress;
+      way = begins (record { limit = c.args.options.limit; every = c.args.options.every; explain = c.args.options.explain }) buffer left written (progress_of c.new-engine.result) c.in_ok-lines.ensures c.new-engine.ensures.progress;
       counts = (buffer, c.in_ok-lines.ensures, CountsBytes-none buffer left);
       turns = ap (λ (p : Progress). p.decided) c.new-engine.ensures.progress;
       rules = c.new-engine.ensures.rules;
@@ -26,7 +26,7 @@ pub items-preserved : goal.items-preserved
 items-preserved g c =
     let left = g.S.ByteSource.left in
     let written = g.W.ByteSink.written in
-    let rules : Rules = record { limit = c.args.options.limit; every = c.args.options.every } in
+    let rules : Rules = record { limit = c.args.options.limit; every = c.args.options.every; explain = c.args.options.explain } in
     let at = c.items.invariant in
     let p = progress_of c.items.engine in
     let q = progress_of c.decide.new.self in
@@ -53,12 +53,13 @@ unfolding status_at
 returns-in_default-clause-output g c =
     let left = g.S.ByteSource.left in
     let written = g.W.ByteSink.written in
-    let rules : Rules = record { limit = c.args.options.limit; every = c.args.options.every } in
+    let rules : Rules = record { limit = c.args.options.limit; every = c.args.options.every; explain = c.args.options.explain } in
     let at = c.items.invariant in
     let p = progress_of c.items.engine in
     let none = rw c.in_default.is at c.in_ok-item.ensures.items in
     let end = rw c.in_default.is at c.in_ok-item.ensures.end in
-    let text_is : c.deref.result.now ≡ report_at p = c.deref.ensures.value ∙ c.in_ok-verdict.ensures.text ∙ ap (λ (l : List ℕ). l ++ report_at p) c.clear.ensures.items in
+    let text_is : c.deref.result.now ≡ report_at rules p = c.deref.ensures.value ∙ c.in_ok-verdict.ensures.text ∙ ap (λ (l : List ℕ). l ++ report_at (rules_of c.items.engine) p) c.clear.ensures.items
+    ∙ ap (λ (r : Rules). report_at r p) at.rules in
     let status_is : c.of.result ≡ status_at p = c.of.ensures ∙ (λ i. status_by (c.in_ok-verdict.ensures.verdict i) (c.refused.ensures i)) in
     ends rules (left c.args.source.now) (written c.args.writer.now) c.items.lines.lines c.next_item.new.self.lines
     (bytes_to_come c.items.lines (left c.items.source)) (bytes_to_come c.next_item.new.self (left c.next_item.new.source))
@@ -72,7 +73,7 @@ returns-clause-fault g c =
     let turned = at.turns in
     let most : 2 ^ 64 - 1 ≤ (progress_of c.items.engine).decided = omega arith in (
       refl,
-      inr (many_items (record { limit = c.args.options.limit; every = c.args.options.every }) left (g.W.ByteSink.written c.args.writer.now) c.items.lines.lines
+      inr (many_items (record { limit = c.args.options.limit; every = c.args.options.every; explain = c.args.options.explain }) left (g.W.ByteSink.written c.args.writer.now) c.items.lines.lines
           (bytes_to_come c.items.lines (g.S.ByteSource.left c.items.source)) (g.W.ByteSink.written c.items.writer) (progress_of c.items.engine) at.way most),
     )
 

@@ -10,7 +10,7 @@ abbrev pub invariant-items : goal.invariant-items
 invariant-items g l =
     let left = g.S.ByteSource.left in
     let written = g.W.ByteSink.written in
-    let rules : Rules = record { limit = l.fn.options.limit; every = l.fn.options.every } in
+    let rules : Rules = record { limit = l.fn.options.limit; every = l.fn.options.every; explain = l.fn.options.explain } in
     record {
       way : IsUnderWay rules (left l.fn.source) (written l.fn.writer) l.lines.lines (bytes_to_come l.lines (left l.source)) (written l.writer) (progress_of l.engine);
       counts : (fresh : LineBuffer) × IsFresh fresh × CountsBytes fresh (left l.fn.source) l.lines (left l.source);
