@@ -18,7 +18,7 @@ mod versions;
 pub use checks::check_evidence;
 pub use edges::{Edge, Label};
 pub use evidence::Evidence;
-pub use explanations::explain;
+pub use explanations::{evidence_of, explain};
 pub use faults::ExplainFault;
 
 #[cfg(test)]
