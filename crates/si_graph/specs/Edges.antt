@@ -45,7 +45,8 @@ pub record IsReadDependency (P : List Txn) (a b : TxnId) : Type 0 where
   pub installed : IsSource (parts key P) value (source.Installed a commit)
   pub to : reader.id ≡ b
 
--- rw: a read of a returned the initial version of a key or an installed one, which may be its own, and b installs the next one
+-- rw: a read of a returned the initial version of a key or an installed one, which may be its own, and b installs the next one.
+-- After a value that isn't installed `IsNextAt` has no version
 pub record IsAntiDependency (P : List Txn) (a b : TxnId) : Type 0 where
   pub key : List ℕ
   pub reader : Part

@@ -46,7 +46,9 @@ fn is_among(found: &[Finding], finding: &Finding) -> bool
     found.iter().any(|other| finding.cmp(other).is_eq())
 }
 
-/// The evidence for a finding of that kind, which holds of each history of which the finding is one.
+/// The evidence that explains a finding of that kind, which holds of a history where it is a finding.
+///
+/// It looks at no history, so that a caller who has the findings needn't have them computed again.
 pub fn evidence_of(alloc: Global, kind: Kind) -> Result<Evidence, ExplainFault>
     ensures explains { IfOk result (Explains kind) }
     ensures fault { IfErr result (IsFaultOfKind kind) }
@@ -56,25 +58,17 @@ pub fn evidence_of(alloc: Global, kind: Kind) -> Result<Evidence, ExplainFault>
             Err(ExplainFault::FormFinding)
         }
         Kind::Aborted {
-            txn,
+            txn: reader,
             op,
             writer,
             ..
-        } => Ok(Evidence::AbortedRead {
-            reader: txn,
-            op,
-            writer,
-        }),
+        } => Ok(Evidence::AbortedRead { reader, op, writer }),
         Kind::Intermediate {
-            txn,
+            txn: reader,
             op,
             writer,
             ..
-        } => Ok(Evidence::IntermediateRead {
-            reader: txn,
-            op,
-            writer,
-        }),
+        } => Ok(Evidence::IntermediateRead { reader, op, writer }),
         Kind::Future { txn, writer, .. } => {
             Ok(Evidence::Interference(edge(Label::Wr, writer, txn)))
         }

@@ -20,3 +20,6 @@ pub use edges::{Edge, Label};
 pub use evidence::Evidence;
 pub use explanations::{evidence_of, explain};
 pub use faults::ExplainFault;
+
+#[cfg(test)]
+mod tests;
