@@ -34,7 +34,7 @@ use Rattle.si_graph.specs.Edges.{IsNode, IsEdge}
 use Rattle.si_graph.specs.Walks.{IsClosedWalk, HasOneRw}
 use Rattle.si_graph.specs.Phenomena.{IsAbortedRead, IsIntermediateRead}
 use Rattle.si_graph.specs.Shown.{IsReadFrom, Shows}
-use Rattle.si_graph.specs.Explanations.{is_same, edge, IsMissedBy, Explains}
+use Rattle.si_graph.specs.Explanations.{is_same, edge, missed_walk, IsMissedBy, Explains}
 use Rattle.si_graph.specs.EvidenceTests.{on_key}
 use Rattle.si_graph.proofs.Members.{Contains-nil, Contains-cons_cases, Contains-filter, same_some, both_true, any_from, any_is}
 use Rattle.si_graph.proofs.OnKeys.{same_named, value_itself, Contains-from_accesses, part_from, some_last, install_is, installer_from}
@@ -186,10 +186,7 @@ overlapped x P h m n is next l =
 
 -- ---- missed versions
 
-abbrev stale_walk : TxnId → TxnId → List Edge
-stale_walk t n = edge label.Rw t n ∷ edge label.St n t ∷ []
-
-missed : (x : List ℕ) (P : List Txn) → IsHistory P → (T : Part) (i : ℕ) (o : Option Value) (s : Source) (m : Installer) → IsRead (parts x P) T i o → IsSource (parts x P) o s → IsNextAt (parts x P) s (Some m) → m.commit.0 < T.start.0 → IsClosedWalk P (stale_walk T.id m.txn) × HasOneRw (stale_walk T.id m.txn)
+missed : (x : List ℕ) (P : List Txn) → IsHistory P → (T : Part) (i : ℕ) (o : Option Value) (s : Source) (m : Installer) → IsRead (parts x P) T i o → IsSource (parts x P) o s → IsNextAt (parts x P) s (Some m) → m.commit.0 < T.start.0 → IsClosedWalk P (missed_walk T.id m.txn) × HasOneRw (missed_walk T.id m.txn)
 missed x P h T i o s m r from next l =
     let B = reader_node x P T i o r in
     let A = installer_node x P m (next_installs x P s m next) in
@@ -258,7 +255,7 @@ read_explained x P h (kind.Stale t i v n) r says e ex =
     let start = subst (λ s. m.commit.0 < s.0) r.seen.start says.4 in
     let next = subst (IsNextAt (parts x P) r.sight.source) says.2 r.seen.next in
     let shown = missed x P h r.part r.place r.value r.sight.source m r.returned r.seen.from next start in
-    missed_shown P (stale_walk t n) e ex (subst (λ u. IsClosedWalk P (stale_walk t u) × HasOneRw (stale_walk t u)) says.3 (subst (λ u. IsClosedWalk P (stale_walk u m.txn) × HasOneRw (stale_walk u m.txn)) id shown))
+    missed_shown P (missed_walk t n) e ex (subst (λ u. IsClosedWalk P (missed_walk t u) × HasOneRw (missed_walk t u)) says.3 (subst (λ u. IsClosedWalk P (missed_walk u m.txn) × HasOneRw (missed_walk u m.txn)) id shown))
 
 pub explained : (P : List Txn) → IsHistory P → (f : Finding) → IsFinding P f → (e : Evidence) → Explains f.kind e → Shows P e
 explained P h f (inl r) e ex = read_explained f.key P h f.kind r (judged_is r.sight f.kind r.judged) e ex

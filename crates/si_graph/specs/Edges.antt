@@ -82,7 +82,7 @@ pub record IsEdge (P : List Txn) (e : Edge) : Type 0 where
   pub differ : e.from ≢ e.to
   pub leads : Leads P e.label e.from e.to
 
--- the edge is a ww or wr edge
+-- the label is that of a ww or wr edge
 abbrev pub IsDependency : Label → Type 0
 IsDependency label.Ww = ⊤
 IsDependency label.Wr = ⊤

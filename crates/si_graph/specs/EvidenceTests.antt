@@ -145,7 +145,7 @@ both test (Some A) (Some B) = test A B
 abbrev pub is_edge : List Txn → Edge → Bool
 is_edge P e = not (same_id e.from e.to) && both (leads P e.label) (with_id P e.from) (with_id P e.to)
 
--- whether the edge is a ww or wr edge
+-- whether the label is that of a ww or wr edge
 abbrev pub is_dependency : Label → Bool
 is_dependency label.Ww = true
 is_dependency label.Wr = true

@@ -25,6 +25,10 @@ is_same f g = is_eq (finding_cmp f g)
 abbrev pub edge : Label → TxnId → TxnId → Edge
 edge l a b = record { from = a; to = b; label = l }
 
+-- the walk from a reader to the installer of the version that it missed, and back
+abbrev pub missed_walk : TxnId → TxnId → List Edge
+missed_walk t n = edge label.Rw t n ∷ edge label.St n t ∷ []
+
 -- the evidence is the walk of these edges
 abbrev pub IsMissedBy : List Edge → Evidence → Type 0
 IsMissedBy es (evidence.Missed walk) = walk.items ≡ es
@@ -40,7 +44,7 @@ Explains (kind.Own t i v w) e = ⊥
 Explains (kind.Aborted t i v u) e = e ≡ evidence.AbortedRead t i u
 Explains (kind.Intermediate t i v u) e = e ≡ evidence.IntermediateRead t i u
 Explains (kind.Future t i v u) e = e ≡ evidence.Interference (edge label.Wr u t)
-Explains (kind.Stale t i v n) e = IsMissedBy (edge label.Rw t n ∷ edge label.St n t ∷ []) e
+Explains (kind.Stale t i v n) e = IsMissedBy (missed_walk t n) e
 Explains (kind.Overlap a b) e = e ≡ evidence.Interference (edge label.Ww a b)
 
 -- the fault says that a finding of that kind has no evidence: it concerns form, or the growth of some memory was refused

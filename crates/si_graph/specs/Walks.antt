@@ -23,7 +23,7 @@ pub record IsClosedWalk (P : List Txn) (es : List Edge) : Type 0 where
   pub edges : (e : Edge) → Contains es e → IsEdge P e
   pub closed : IsClosed es
 
--- whether it is an rw edge
+-- whether the label is that of an rw edge
 abbrev pub is_rw : Label → Bool
 is_rw label.Ww = false
 is_rw label.Wr = false

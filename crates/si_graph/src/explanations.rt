@@ -1,12 +1,11 @@
 //! The evidence for a finding.
 
-ghost use Rattle.std.specs.Prelude.{◌≡◌, ◌↔◌, ◌∷◌, [], IsTrue, IfOk, IfErr, OnOk};
+ghost use Rattle.std.specs.Prelude.{◌≡◌, ◌↔◌, IsTrue, IfOk, IfErr, OnOk};
 ghost use Rattle.std.specs.List.{list_any};
 ghost use Rattle.si_model.specs.Findings.{IsFinding, findings};
 ghost use Rattle.si_model.specs.History.{IsHistory};
 ghost use Rattle.si_graph.specs.Shown.{Shows};
-ghost use Rattle.si_graph.specs.Explanations.{is_same, edge, Explains, IsFaultOf, IsFaultOfKind};
-ghost use Rattle.si_graph.specs.declared.edges.Label.TheVariants as label;
+ghost use Rattle.si_graph.specs.Explanations.{is_same, edge, missed_walk, Explains, IsFaultOf, IsFaultOfKind};
 
 use crate::{Edge, Evidence, ExplainFault, Label};
 use si_model::laws::{findings_are_exact, order_is_strict};
@@ -81,7 +80,7 @@ pub fn evidence_of(alloc: Global, kind: Kind) -> Result<Evidence, ExplainFault>
 
 /// The walk from the reader over the version that it missed, and back.
 fn missed_walk(alloc: Global, reader: TxnId, missed: TxnId) -> Result<Vec<Edge>, OutOfMemory>
-    ensures { IfOk result (λ walk. walk.items ≡ edge label.Rw reader missed ∷ edge label.St missed reader ∷ []) }
+    ensures { IfOk result (λ walk. walk.items ≡ missed_walk reader missed) }
 {
     let mut walk = Vec::new(alloc);
     walk.push(edge(Label::Rw, reader, missed))?;

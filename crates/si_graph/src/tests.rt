@@ -5,6 +5,7 @@ ghost use Rattle.si_model.specs.History.{IsHistory};
 
 use crate::Label::{Rw, St, Wr, Ww};
 use crate::{Edge, Evidence, ExplainFault, Label, check_evidence, explain};
+use si_model::operations::MOST_OPS;
 use si_model::{
     Finding, Key, Kind, Op, Ops, OutOfMemory, Stamp, Status, Txn, TxnId, Value, findings_of,
     is_history,
@@ -51,7 +52,7 @@ fn txn(rt: &impl Abort, alloc: Global, row: &Row) -> Result<Txn, OutOfMemory> {
     for step in steps {
         ops.push(op(rt, alloc, *step)?)?;
     }
-    assert!(rt; ops.len() <= 4096);
+    assert!(rt; ops.len() <= MOST_OPS);
     Ok(Txn {
         id: TxnId(id),
         start: Stamp(start),
