@@ -16,7 +16,7 @@ use Rattle.si_graph.specs.declared.edges.Label.{Label}
 use Rattle.si_graph.specs.declared.edges.Label.TheVariants as label
 use Rattle.si_graph.specs.declared.evidence.Evidence.{Evidence}
 use Rattle.si_graph.specs.declared.evidence.Evidence.TheVariants as evidence
-use Rattle.si_graph.specs.Explanations.{edge}
+use Rattle.si_graph.specs.Explanations.{edge, missed_walk}
 use Rattle.si_text.specs.Faults.{field_name, fault_code}
 use Rattle.si_text.specs.declared.faults.LineFault.{LineFault}
 use Rattle.si_text.specs.declared.faults.LineFault.TheVariants.{TooLong, NotJson, NotObject, BadKind, BadField, BadStatus, TooManyOps, BadOp, OutOfMemory}
@@ -103,7 +103,7 @@ explanation_text (Own t i v w) = []
 explanation_text (Aborted t i v u) = read_from_text (codes "  G1a reader=") t i u ++ line_end
 explanation_text (Intermediate t i v u) = read_from_text (codes "  G1b reader=") t i u ++ line_end
 explanation_text (Future t i v u) = (codes "  G-SI(a)" ++ edge_text (edge label.Wr u t)) ++ line_end
-explanation_text (Stale t i v n) = missed_text (edge label.Rw t n ∷ edge label.St n t ∷ []) ++ line_end
+explanation_text (Stale t i v n) = missed_text (missed_walk t n) ++ line_end
 explanation_text (Overlap a b) = (codes "  G-SI(a)" ++ edge_text (edge label.Ww a b)) ++ line_end
 
 -- the line of a finding, and its evidence if that is asked for
