@@ -1,8 +1,8 @@
 -- The journal without edits.
 use Rattle.std.proofs.Common.{◌≡◌, [], ◌∷◌, refl}
-use Rattle.si_model.specs.Journals.{present, IsAccepted}
+use Rattle.si_model.specs.Journals.{nothing, present, IsAccepted}
 
-pub present_empty : present [] ≡ []
+pub present_empty : present [] ≡ nothing
 unfolding present
 present_empty = refl
 

@@ -1,17 +1,16 @@
 -- What an index says stays exact when a transaction arrives, is withdrawn or changes.
-use Rattle.std.proofs.Common.{◌≡◌, ◌⊎◌, inl, inr, ◌↔◌, true, false, not, List, [], ◌∷◌, ◌++◌, map, refl, sym, ap, subst, ◌∙◌, eqb, eq-eqb, eqb-true}
+use Rattle.std.proofs.Common.{◌≡◌, ◌⊎◌, inl, inr, ◌↔◌, true, false, not, List, [], ◌∷◌, ◌++◌, map, refl, sym, ap, subst, ◌∙◌}
 use Rattle.std.specs.List.{Contains, filter}
-use Rattle.std.proofs.lemmas.List.Elements.{Contains-append_left, Contains-append_right, Contains-append_cases}
+use Rattle.std.proofs.lemmas.List.Elements.{Contains-append_left, Contains-append_right}
 use Rattle.si_model.specs.declared.transactions.Txn.{Txn}
-use Rattle.si_model.specs.Edits.{same_id}
-use Rattle.si_accept.proofs.Elements.{Contains-nil, here, Contains-cons_cases, Contains-map, Contains-from_map, Contains-filter, Contains-from_filter}
+use Rattle.si_model.specs.Edits.{same_id, is_another}
+use Rattle.si_model.proofs.Equalities.{same_id_is, same_id_from}
+use Rattle.si_lists.proofs.Pushes.{push_cases}
+use Rattle.si_lists.proofs.Members.{here, Contains-map, Contains-from_map, Contains-filter, Contains-from_filter}
 use Rattle.si_accept.specs.Indexes.{IsExact}
 
-only : (T A : Txn) → Contains (T ∷ []) A → T ≡ A
-only T A c = elim (Contains-cons_cases T [] A c) [ inl e ↦ e | inr d ↦ absurd (Contains-nil A d) ]
-
 pub arrived : (P : List Txn) (T A : Txn) → Contains (P ++ T ∷ []) A → Contains P A ⊎ (T ≡ A)
-arrived P T A c = elim (Contains-append_cases P (T ∷ []) A c) [ inl d ↦ inl d | inr d ↦ inr (only T A d) ]
+arrived P T A c = push_cases P T A c
 
 module _ {K : Type 0} (of_txn : Txn → K → Type 0) where
   -- an arrival adds its own places
@@ -28,26 +27,23 @@ module _ {K : Type 0} (of_txn : Txn → K → Type 0) where
   )
 
   -- a withdrawal takes its own places out
-  pub exact_withdrawn : (was is : K → Type 0) (P : List Txn) (T : Txn) → Contains P T → ((A B : Txn) → Contains P A → Contains P B → A.id ≡ B.id → A ≡ B) → ((A B : Txn) (k : K) → of_txn A k → of_txn B k → A.id ≡ B.id) → IsExact was of_txn P → ((k : K) → is k ↔ (was k × ¬ of_txn T k)) → IsExact is of_txn (filter (λ A. not (same_id A.id T.id)) P)
+  pub exact_withdrawn : (was is : K → Type 0) (P : List Txn) (T : Txn) → Contains P T → ((A B : Txn) → Contains P A → Contains P B → A.id ≡ B.id → A ≡ B) → ((A B : Txn) (k : K) → of_txn A k → of_txn B k → A.id ≡ B.id) → IsExact was of_txn P → ((k : K) → is k ↔ (was k × ¬ of_txn T k)) → IsExact is of_txn (filter (is_another T.id) P)
   exact_withdrawn was is P T t names one h g k = (
     λ i. let w = (g k).0 i in
         let r = (h k).0 w.0 in
-        (r.0, Contains-filter (λ A. not (same_id A.id T.id)) P r.0 r.1 (differs r.0 r.1 r.2 w.1), r.2),
-    λ r. let c = Contains-from_filter (λ A. not (same_id A.id T.id)) P r.0 r.1 in
+        (r.0, Contains-filter (is_another T.id) P r.0 r.1 (differs r.0 r.1 r.2 w.1), r.2),
+    λ r. let c = Contains-from_filter (is_another T.id) P r.0 r.1 in
         (g k).1 ((h k).1 (r.0, c.0, r.2), λ o. apart r.0 c.1 (one r.0 T k r.2 o)),
   )
     where
-      apart : (A : Txn) → not (same_id A.id T.id) ≡ true → A.id ≡ T.id → ⊥
-      apart A e s = (let f = eq-eqb A.id.0 T.id.0 (ap (λ u. u.0) s) in let n = sym e ∙ ap not f in cc)
+      apart : (A : Txn) → is_another T.id A ≡ true → A.id ≡ T.id → ⊥
+      apart A e s = (let n = sym e ∙ ap not (same_id_from A.id T.id s) in cc)
 
-      differs : (A : Txn) → Contains P A → of_txn A k → (of_txn T k → ⊥) → not (same_id A.id T.id) ≡ true
-      differs A c o n = elim (eqb A.id.0 T.id.0) as (λ b. eqb A.id.0 T.id.0 ≡ b → not b ≡ true) [
-        | true ↦ λ e. absurd (n (subst (λ B. of_txn B k) (names A T c t (same A e)) o))
+      differs : (A : Txn) → Contains P A → of_txn A k → (of_txn T k → ⊥) → is_another T.id A ≡ true
+      differs A c o n = elim (same_id A.id T.id) as (λ b. same_id A.id T.id ≡ b → not b ≡ true) [
+        | true ↦ λ e. absurd (n (subst (λ B. of_txn B k) (names A T c t (same_id_is A.id T.id e)) o))
         | false ↦ λ e. refl
       ] refl
-        where
-          same : (A : Txn) → eqb A.id.0 T.id.0 ≡ true → A.id ≡ T.id
-          same A e = ap (λ n. record { 0 = n }) (eqb-true A.id.0 T.id.0 e)
 
   -- a change of what the index doesn't look at
   pub exact_changed : (there : K → Type 0) (P : List Txn) (f : Txn → Txn) → ((A : Txn) (k : K) → Contains P A → of_txn A k ↔ of_txn (f A) k) → IsExact there of_txn P → IsExact there of_txn (map f P)

@@ -4,8 +4,8 @@ use Rattle.std.specs.List.{list_any, position}
 use Rattle.std.proofs.lemmas.Bool.Decides.{nat_tests}
 use Rattle.std.proofs.lemmas.List.Quantifiers.{position-Some}
 use Rattle.std.proofs.lemmas.Grind.{common_steps}
-use Rattle.si_model.specs.Parts.{same_key}
-use Rattle.si_accept.proofs.Elements.{key_is, key_itself}
+use Rattle.si_model.specs.Operations.{same_key}
+use Rattle.si_model.proofs.Equalities.{same_key_is, same_key_from}
 use Rattle.si_accept.specs.KeyNumbers.{number_of, with_key}
 
 -- each key keeps its number, and new numbers come after the old ones
@@ -52,9 +52,9 @@ numbers_tell K x y n m e h = bool_same (nat_eq n m) (same_key y x) one_key one_n
     one_key : nat_eq n m ≡ true → same_key y x ≡ true
     one_key t =
         let same = eqb-true n m t in
-        let here = key_is x (get_or K n []) (position-Some (same_key x) K n [] e).1 in
-        let there = key_is y (get_or K m []) (position-Some (same_key y) K m [] h).1 in
-        subst (λ z. same_key y z ≡ true) (there ∙ ap (λ k. get_or K k []) (sym same) ∙ sym here) (key_itself y)
+        let here = same_key_is x (get_or K n []) (position-Some (same_key x) K n [] e).1 in
+        let there = same_key_is y (get_or K m []) (position-Some (same_key y) K m [] h).1 in
+        subst (λ z. same_key y z ≡ true) (there ∙ ap (λ k. get_or K k []) (sym same) ∙ sym here) (same_key_from y y refl)
 
     one_number : same_key y x ≡ true → nat_eq n m ≡ true
-    one_number t = eq-eqb n m (same_number (sym e ∙ ap (number_of K) (sym (key_is y x t)) ∙ h))
+    one_number t = eq-eqb n m (same_number (sym e ∙ ap (number_of K) (sym (same_key_is y x t)) ∙ h))

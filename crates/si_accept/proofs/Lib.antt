@@ -1,13 +1,15 @@
-pub mod Elements
 pub mod Empty
 pub mod Pairs
 pub mod KeyPlaces
 pub mod WriterLemmas
 pub mod Exact
-pub mod Found
 pub mod SlotLemmas
 pub mod PlaceLemmas
 pub mod TwiceLemmas
+pub mod SetUpLemmas
+pub mod StampChanges
+pub mod PairChanges
 pub mod IndexLemmas
 pub mod IndexChanges
+pub mod Resolutions
 pub mod ArrivalLemmas

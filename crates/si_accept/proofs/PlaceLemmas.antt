@@ -7,7 +7,7 @@ use Rattle.si_model.specs.declared.numbers.TxnId.{TxnId}
 use Rattle.si_model.specs.declared.transactions.Txn.{Txn}
 use Rattle.si_model.specs.Edits.{same_id, with_id}
 use Rattle.si_accept.specs.Arrivals.{in_slots, IsInSlot, ArePlaces}
-use Rattle.si_accept.proofs.Found.{find_only, find_none, not_found}
+use Rattle.si_lists.proofs.Tests.{find_only, find_none, find-None}
 use Rattle.si_accept.proofs.SlotLemmas.{IsAlone, slot_holds, slot_of, pushed_old, pushed_new, pushed_cases, set_other, set_same, slot_among_first}
 
 same_or_not : (j k : ℕ) → (j ≡ k) ⊎ (j ≡ k → ⊥)
@@ -37,7 +37,7 @@ module _ (S : List (Option Txn)) (I : List (ℕ × ℕ)) (h : ArePlaces S I) whe
   lacks u e = find_none (λ T. same_id T.id u) (in_slots S) (λ T c t. let s = slot_of S T c in absent u e s.0 T s.1 (eqb-true T.id.0 u.0 t))
 
   never_there : (u : TxnId) → with_id (in_slots S) u ≡ None → (j : ℕ) (T : Txn) → slice_get S j ≡ Some (Some T) → T.id.0 ≡ u.0 → ⊥
-  never_there u e j T s i = eqb-false T.id.0 u.0 (not_found (λ A. same_id A.id u) (in_slots S) e T (slot_holds S j T s)) i
+  never_there u e j T s i = eqb-false T.id.0 u.0 (find-None (λ A. same_id A.id u) (in_slots S) e T (slot_holds S j T s)) i
 
   pub places_pushed : (T : Txn) (J : List (ℕ × ℕ)) → with_id (in_slots S) T.id ≡ None → ((q : ℕ) → lookup (nat_eq q) J ≡ cond (nat_eq T.id.0 q) (Some (length S)) (lookup (nat_eq q) I)) → ArePlaces (S ++ Some T ∷ []) J
   places_pushed T J new g u k = (there, back)

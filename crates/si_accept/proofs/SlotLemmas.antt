@@ -7,8 +7,8 @@ use Rattle.std.proofs.Math.ListN.{set}
 use Rattle.si_model.specs.declared.numbers.TxnId.{TxnId}
 use Rattle.si_model.specs.declared.transactions.Outcome.{Outcome}
 use Rattle.si_model.specs.declared.transactions.Txn.{Txn}
-use Rattle.si_model.specs.Edits.{same_id, status_of, resolved}
-use Rattle.si_accept.proofs.Elements.{Contains-nil, here, there, Contains-cons_cases}
+use Rattle.si_model.specs.Edits.{same_id, status_after, resolved, is_another}
+use Rattle.si_lists.proofs.Members.{Contains-nil, here, there, Contains-cons_cases}
 use Rattle.si_accept.specs.Arrivals.{in_slots}
 
 -- ---- one slot
@@ -110,17 +110,17 @@ one_changed u f (Some U ∷ S) (suc k) T e i a =
     ap (λ Q. U ∷ Q) (one_changed u f S k T e i (λ j V s v. let m = a (suc j) V s v in omega arith))
     ∙ ap (λ c. cons_option c (filter_map (at_id u f) (in_slots S))) (sym (other u f U (λ v. absurd (omega (arith, a 0 U refl v)))))
 
-pub as_filter : (u : TxnId) (P : List Txn) → filter_map (at_id u (λ T. None)) P ≡ filter (λ T. not (same_id T.id u)) P
+pub as_filter : (u : TxnId) (P : List Txn) → filter_map (at_id u (λ T. None)) P ≡ filter (is_another u) P
 as_filter u [] = refl
-as_filter u (T ∷ P) = elim (same_id T.id u) as (λ b. cons_option (cond b None (Some T)) (filter_map (at_id u (λ T. None)) P) ≡ cond (not b) (T ∷ filter (λ T. not (same_id T.id u)) P) (filter (λ T. not (same_id T.id u)) P)) [
+as_filter u (T ∷ P) = elim (same_id T.id u) as (λ b. cons_option (cond b None (Some T)) (filter_map (at_id u (λ T. None)) P) ≡ cond (not b) (T ∷ filter (is_another u) P) (filter (is_another u) P)) [
   | true ↦ as_filter u P
   | false ↦ ap (λ Q. T ∷ Q) (as_filter u P)
 ]
 
-pub as_map : (u : TxnId) (o : Outcome) (P : List Txn) → filter_map (at_id u (λ T. Some (record T { status = status_of o }))) P ≡ map (resolved u o) P
+pub as_map : (u : TxnId) (o : Outcome) (P : List Txn) → filter_map (at_id u (λ T. Some (record T { status = status_after o }))) P ≡ map (resolved u o) P
 as_map u o [] = refl
-as_map u o (T ∷ P) = elim (same_id T.id u) as (λ b. cons_option (cond b (Some (record T { status = status_of o })) (Some T)) (filter_map (at_id u (λ T. Some (record T { status = status_of o }))) P) ≡ cond b (record T { status = status_of o }) T ∷ map (resolved u o) P) [
-  | true ↦ ap (λ Q. record T { status = status_of o } ∷ Q) (as_map u o P)
+as_map u o (T ∷ P) = elim (same_id T.id u) as (λ b. cons_option (cond b (Some (record T { status = status_after o })) (Some T)) (filter_map (at_id u (λ T. Some (record T { status = status_after o }))) P) ≡ cond b (record T { status = status_after o }) T ∷ map (resolved u o) P) [
+  | true ↦ ap (λ Q. record T { status = status_after o } ∷ Q) (as_map u o P)
   | false ↦ ap (λ Q. T ∷ Q) (as_map u o P)
 ]
 

@@ -5,7 +5,7 @@ use Rattle.std.specs.Option.{is_some}
 use Rattle.std.proofs.lemmas.List.Folds.{list_any-append}
 use Rattle.si_model.specs.declared.numbers.TxnId.{TxnId}
 use Rattle.si_model.specs.declared.operations.Op.{Op}
-use Rattle.si_model.specs.Edits.{same_write}
+use Rattle.si_model.specs.Operations.{same_write}
 use Rattle.si_accept.specs.Writers.{Written, writer_of, SetsWriter}
 
 -- a pair has a writer in the index where one of the operations writes it

@@ -9,10 +9,8 @@ use Rattle.si_model.specs.declared.numbers.Value.{Value}
 use Rattle.si_model.specs.declared.operations.Op.{Op}
 use Rattle.si_model.specs.declared.operations.Op.TheVariants as op
 use Rattle.std.proofs.lemmas.List.Folds.{list_any-append}
-use Rattle.si_model.specs.Edits.{same_write}
-use Rattle.si_model.specs.Parts.{same_key}
-use Rattle.si_model.specs.Versions.{same_value}
-use Rattle.si_accept.proofs.Elements.{key_is}
+use Rattle.si_model.specs.Operations.{same_key, same_value, same_write}
+use Rattle.si_model.proofs.Equalities.{same_key_is}
 use Rattle.si_accept.specs.KeyNumbers.{number_of}
 use Rattle.si_accept.specs.Stamps.{same_pair}
 use Rattle.si_accept.specs.Writers.{Written, id_at, writer_of, AreNumbered, SetsWriter, SetsWriters, SameWriters, AreFree}
@@ -42,7 +40,7 @@ no_number old K y g e = elim (number_of old.keys y) as (λ o. number_of old.keys
 
 other_key : (K : List (List ℕ)) (x y : List ℕ) (n : ℕ) → number_of K x ≡ Some n → number_of K y ≡ None → same_key y x ≡ false
 other_key K x y n e h = elim (same_key y x) as (λ b. same_key y x ≡ b → b ≡ false) [
-  | true ↦ λ t. (let s = ap (number_of K) (key_is y x t) in cc)
+  | true ↦ λ t. (let s = ap (number_of K) (same_key_is y x t) in cc)
   | false ↦ λ t. refl
 ] refl
 

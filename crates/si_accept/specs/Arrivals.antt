@@ -4,7 +4,7 @@ use Rattle.std.specs.List.{filter_map}
 use Rattle.std.specs.Map.{lookup}
 use Rattle.si_model.specs.declared.transactions.Outcome.{Outcome}
 use Rattle.si_model.specs.declared.transactions.Txn.{Txn}
-use Rattle.si_model.specs.Edits.{status_of}
+use Rattle.si_model.specs.Edits.{status_after}
 
 -- the transactions in the slots
 abbrev pub in_slots : List (Option Txn) → List Txn
@@ -26,4 +26,4 @@ pub record AreSlots (S : List (Option Txn)) (ids : List (ℕ × ℕ)) (many : �
 -- the slot, where what is in it is resolved
 abbrev pub resolved_slot : Outcome → Option Txn → Option Txn
 resolved_slot o None = None
-resolved_slot o (Some T) = Some (record T { status = status_of o })
+resolved_slot o (Some T) = Some (record T { status = status_after o })

@@ -1,7 +1,7 @@
 -- Keys, numbered in the order in which they were first seen, from 0.
 use Rattle.std.specs.Prelude.{ℕ, List, [], ◌∷◌, ◌++◌, if◌then◌else◌, Option}
 use Rattle.std.specs.List.{list_any, position}
-use Rattle.si_model.specs.Parts.{same_key}
+use Rattle.si_model.specs.Operations.{same_key}
 
 -- the number of the key, if it has one
 abbrev pub number_of : List (List ℕ) → List ℕ → Option ℕ

@@ -5,4 +5,4 @@ pub mod KeyNumbers
 pub mod Writers
 pub mod Indexes
 pub mod Arrivals
-pub mod Changes
+pub mod SetUps

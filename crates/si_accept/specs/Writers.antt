@@ -7,7 +7,7 @@ use Rattle.si_model.specs.declared.numbers.TxnId.{TxnId}
 use Rattle.si_model.specs.declared.numbers.Value.{Value}
 use Rattle.si_model.specs.declared.operations.Op.{Op}
 use Rattle.si_model.specs.declared.operations.Op.TheVariants as op
-use Rattle.si_model.specs.Edits.{same_write}
+use Rattle.si_model.specs.Operations.{same_write}
 use Rattle.si_accept.specs.KeyNumbers.{number_of}
 use Rattle.si_accept.specs.Stamps.{same_pair}
 

@@ -1,8 +1,9 @@
 //! Transactions in the order of arrival, found by their ids.
 
-ghost use Rattle.std.specs.Prelude.{◌≡◌, [], ◌∷◌, ◌++◌, None, OnOk, OnErr, IfOk, map, filter, not, length};
+ghost use Rattle.std.specs.Prelude.{◌≡◌, [], ◌∷◌, ◌++◌, None, OnOk, OnErr, IfOk, map, length};
+ghost use Rattle.std.specs.List.{filter};
 ghost use Rattle.std.specs.Option.{option_copied};
-ghost use Rattle.si_model.specs.Edits.{with_id, resolved, same_id};
+ghost use Rattle.si_model.specs.Edits.{with_id, resolved, is_another};
 ghost use Rattle.si_accept.specs.Arrivals.{resolved_slot};
 
 use indexmap::IndexMap;
@@ -103,7 +104,7 @@ impl Arrivals {
 
     /// The transaction with that id leaves, and the later ones close up.
     pub fn withdraw(&mut self, id: TxnId)
-        ensures { self.new ≡ filter (λ T. not (same_id T.id id)) self.old }
+        ensures { self.new ≡ filter (is_another id) self.old }
     {
         self.take_out(id);
         self.close_up();
@@ -111,7 +112,7 @@ impl Arrivals {
 
     /// The transaction with that id leaves an empty slot.
     fn take_out(&mut self, id: TxnId)
-        ensures { self.new ≡ filter (λ T. not (same_id T.id id)) self.old }
+        ensures { self.new ≡ filter (is_another id) self.old }
     {
         match self.places.swap_remove(&id.0) {
             Some(place) => {

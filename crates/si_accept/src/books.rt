@@ -1,20 +1,18 @@
 ghost use Rattle.std.specs.Prelude.{◌≡◌, ℕ, ◌≤◌, ◌<◌, [], ◌∷◌, ◌++◌, length, None, IfOk, OnOk, IfErr, OnErr, IfNone, IsTrue, ◌↔◌};
 ghost use Rattle.std.specs.Option.{option_copied};
 ghost use Rattle.si_model.specs.Edits.{IsAcceptable, with_id, after};
+ghost use Rattle.si_model.specs.History.{IsHistory};
 ghost use Rattle.si_model.specs.Journals.{present, IsAccepted, refusal_after};
 ghost use Rattle.si_accept.specs.Faults.{IsFaultOf};
 
 use crate::AcceptFault;
-use crate::present::Present;
-use si_model::laws::{accepted_grows, present_grows};
-use si_model::{Edit, Number, OutOfMemory, Refusal, Txn, TxnId};
+use crate::contents::Contents;
+use si_model::laws::{accepted_grows, present_grows, present_is_history};
+use si_model::{Edit, Key, MOST_EDITS, Number, OutOfMemory, Refusal, Txn, TxnId, Value};
 use std::alloc::Global;
 use std::marker::Model;
 
-/// The most edits that a journal may be limited to.
-pub const MOST_EDITS: usize = 16_777_216;
-
-/// The journal of accepted edits, and the transactions that are present after them.
+/// The journal of accepted edits, and what is present after them.
 ///
 /// Contracts see the limit and the journal. What is present follows from the journal.
 #[derive(Drop)]
@@ -23,7 +21,7 @@ pub struct Book {
     limit: usize,
     journal: Vec<Edit>,
     // What is present after the journal.
-    present: Present,
+    present: Contents,
 }
 
 impl Model for Book {
@@ -46,7 +44,7 @@ impl Book {
         Book {
             limit,
             journal: Vec::new(alloc),
-            present: Present::new(alloc),
+            present: Contents::new(alloc),
         }
     }
 
@@ -93,14 +91,23 @@ impl Book {
 
     /// Copies of the present transactions, in the order of arrival, which share the operations.
     pub fn present(&self) -> Result<Vec<Txn>, OutOfMemory>
-        ensures { IfOk result (λ txns. txns.items ≡ present self.now.journal) }
+        ensures txns { IfOk result (λ txns. txns.items ≡ (present self.now.journal).txns) }
+        ensures history { IsHistory (present self.now.journal) }
     {
-        self.present.to_vec()
+        present_is_history();
+        self.present.txns()
+    }
+
+    /// Copies of the keys that were set up with their values, in the order of arrival.
+    pub fn initial(&self) -> Result<Vec<(Key, Value)>, OutOfMemory>
+        ensures { IfOk result (λ initial. initial.items ≡ (present self.now.journal).initial) }
+    {
+        self.present.initial()
     }
 
     /// The present transaction with that id.
     pub fn get(&self, id: TxnId) -> Option<&Txn>
-        ensures { option_copied result ≡ with_id (present self.now.journal) id }
+        ensures { option_copied result ≡ with_id (present self.now.journal).txns id }
     {
         self.present.get(id)
     }
@@ -116,14 +123,14 @@ impl Book {
 
     /// How many transactions are present.
     pub fn len(&self) -> usize
-        ensures { result ≡ length (present self.now.journal) }
+        ensures { result ≡ length (present self.now.journal).txns }
     {
         self.present.len()
     }
 
     /// Whether no transaction is present.
     pub fn is_empty(&self) -> bool
-        ensures { IsTrue result ↔ (present self.now.journal ≡ []) }
+        ensures { IsTrue result ↔ ((present self.now.journal).txns ≡ []) }
     {
         self.len() == 0
     }

@@ -1,22 +1,20 @@
-//! The book: the journal of accepted edits, and the transactions that are present after them.
+//! The book: the journal of accepted edits, and what is present after them: transactions and set-up values.
 //!
 //! It carries the promise that an edit is refused exactly where the definition of a refusal gives that refusal, and
 //! that a refused edit changes nothing. No edit walks over all that is present. It stands on `si_model`, `indexmap`
-//! and `thiserror`.
+//! and `thiserror`, and its proofs on `si_lists`.
 #![tactic(auto)]
 
 mod arrivals;
 pub mod books;
-mod changes;
+mod contents;
 pub mod faults;
-mod holders;
 mod index;
 mod key_numbers;
-pub mod plain;
-mod present;
+mod set_ups;
 mod stamps;
 mod twice;
 mod writers;
 
-pub use books::{Book, MOST_EDITS};
+pub use books::Book;
 pub use faults::AcceptFault;

@@ -3,8 +3,8 @@
 ghost use Rattle.std.specs.Prelude.{◌≡◌, IfOk};
 ghost use Rattle.si_model.specs.Edits.{first_at, twice_at};
 
-use crate::plain::twice_refusal as walked_refusal;
 use crate::writers::Writers;
+use si_model::plain::twice_refusal as walked_refusal;
 use si_model::{Op, OutOfMemory, Refusal, TxnId};
 use std::alloc::Global;
 

@@ -4,7 +4,7 @@ ghost use Rattle.std.specs.Prelude.{◌≡◌, Some, None, OnOk, OnErr};
 ghost use Rattle.si_accept.specs.Writers.{writer_of, SetsWriter, SetsWriters, SameWriters, AreFree};
 
 use crate::key_numbers::KeyNumbers;
-use si_model::{Op, OutOfMemory, TxnId};
+use si_model::{Key, Op, OutOfMemory, TxnId, Value};
 use std::alloc::Global;
 use std::collections::HashMap;
 use std::marker::Model;
@@ -42,12 +42,17 @@ impl Writers {
         ensures { result ≡ writer_of self.now op.now }
     {
         match op {
-            Op::Read(_, _) => None,
-            Op::Write(key, value) => {
-                let number = self.keys.number(key)?;
-                self.ids.get(&(number, value.0)).copied()
-            }
+            Op::Read(..) => None,
+            Op::Write(key, value) => self.writer_of_pair(key, *value),
         }
+    }
+
+    /// The writer of the value to the key.
+    pub fn writer_of_pair(&self, key: &Key, value: Value) -> Option<TxnId>
+        ensures { result ≡ writer_of self.now (Op.Write key.now value) }
+    {
+        let number = self.keys.number(key)?;
+        self.ids.get(&(number, value.0)).copied()
     }
 
     /// The transaction writes the pair that the operation writes, from now on.

@@ -29,6 +29,7 @@ use Rattle.clap.specs.declared.parser.matches.ValueSource.TheVariants.{CommandLi
 use Rattle.clap.proofs.OnLiterals.{clap_on_literals}
 use Rattle.clap.proofs.WalkLemmas.{raw_values-rows}
 use Rattle.clap.proofs.ValueTestLemmas.{accepts-Accepts}
+use Rattle.si_cli.specs.declared.command_lines.TheConstants.{MOST_EVERY}
 use Rattle.si_cli.specs.CommandLines.{EveryFits, every_given, files_given, number_of, rows_given, sicheck_app}
 
 -- ---- kinds
@@ -43,7 +44,7 @@ abbrev is_every : Text → Bool
 is_every id = bytes_eq id (codes "every")
 
 abbrev every_parser : ValueParser
-every_parser = Unsigned 1 16777216
+every_parser = Unsigned 1 MOST_EVERY
 
 -- the values pass the parser, and are read as they are written
 record PassesAll (reading : Reading) (texts : List Text) : Type 0 where
@@ -389,23 +390,23 @@ find_passes (x ∷ xs) r all e = go (is_every x.id) refl e (find_passes xs r all
     go true is f rest = subst (λ (y : Row). PassesAll y.reading y.values) (ap (λ o. unwrap_or o x) f) (all.0 is)
     go false is f rest = rest f
 
-value_passes : (text : Text) → value_kinds false every_parser text ≡ [] → IsUnsignedIn 1 16777216 text
+value_passes : (text : Text) → value_kinds false every_parser text ≡ [] → IsUnsignedIn 1 MOST_EVERY text
 value_passes text none = accepts-Accepts false every_parser text (go (accepts false every_parser text) none)
   where
     go : (b : Bool) → cond b [] (refused_kind every_parser ∷ []) ≡ [] → b ≡ true
     go true e = refl
     go false e = absurd (let n : length (refused_kind every_parser ∷ []) ≡ 0 = ap length e in omega arith)
 
-row_passes : (how : Reading) (values : List Text) (text : Text) → PassesAll how values → option_map (read_as how) (slice_get values 0) ≡ Some text → IsUnsignedIn 1 16777216 text
+row_passes : (how : Reading) (values : List Text) (text : Text) → PassesAll how values → option_map (read_as how) (slice_get values 0) ≡ Some text → IsUnsignedIn 1 MOST_EVERY text
 row_passes how [] text all e = absurd (true≢false (sym (ap is_some e)))
 row_passes how (v ∷ vs) text all e =
     let read : v ≡ text = ap (λ h. read_as h v) (sym all.as_written) ∙ ap (λ o. unwrap_or o v) e in
-    subst (IsUnsignedIn 1 16777216) read (value_passes v (none_of (value_kinds false every_parser v) _ all.values).0)
+    subst (IsUnsignedIn 1 MOST_EVERY) read (value_passes v (none_of (value_kinds false every_parser v) _ all.values).0)
 
 pub every_fits : (words : List Text) → fault_of sicheck_app words ≡ [] → EveryFits (rows_given words)
 every_fits words none text given = go (find (λ r. bytes_eq r.id (codes "every")) (rows_given words)) refl given
   where
-    go : (found : Option Row) → find (λ r. bytes_eq r.id (codes "every")) (rows_given words) ≡ found → option_and_then row_text found ≡ Some text → IsUnsignedIn 1 16777216 text
+    go : (found : Option Row) → find (λ r. bytes_eq r.id (codes "every")) (rows_given words) ≡ found → option_and_then row_text found ≡ Some text → IsUnsignedIn 1 MOST_EVERY text
     go None is e = absurd (true≢false (sym (ap is_some e)))
     go (Some r) is e = row_passes r.reading r.values text (find_passes (rows_given words) r (rows_pass words none) is) e
 
@@ -424,7 +425,7 @@ pub every_reads : (E : Type 0) (G : Text → Result ℕ E → Type 0) (rows : Li
     → ((text : Text) (x : Result ℕ E) → G text x → ParsesUnsigned 64 10 text x) → EveryFits rows → r ≡ every_given rows
 every_reads E G rows r none some parses fits = go (one_of (codes "every") rows) refl
   where
-    parsed : (text : Text) (o : Option ℕ) → ReadsOne G text o → IsUnsignedIn 1 16777216 text → o ≡ Some (number_of text)
+    parsed : (text : Text) (o : Option ℕ) → ReadsOne G text o → IsUnsignedIn 1 MOST_EVERY text → o ≡ Some (number_of text)
     parsed text (Some n) read fit = ap (λ m. Some m) (parses text (Ok n) read).1
     parsed text None read fit = absurd (parses text (Err read.0) read.1 (fit.0, fit.1))
 

@@ -8,7 +8,7 @@ use Rattle.si_text.specs.Lines.{edit_of}
 use Rattle.si_text.specs.LineBuffers.{bytes_held, bytes_to_come, IsFresh, IsSpent, CountsBytes}
 use Rattle.si_text.specs.declared.line_buffers.LineBuffer.{LineBuffer}
 use Rattle.si_cli.specs.declared.statuses.ExitStatus.{ExitStatus}
-use Rattle.si_cli.specs.Outputs.{SourcedItem, sourced, from_source, Rules, Progress, start, progress_after, progress_through, report_at, item_text, items_text, output_of, status_at, status_of}
+use Rattle.si_cli.specs.Outputs.{SourcedItem, sourced, from_source, Terms, Progress, start, progress_after, progress_through, report_at, item_text, items_text, output_of, status_at, status_of}
 use Rattle.si_text.specs.declared.line_buffers.InputFault.{InputFault}
 use Rattle.si_text.specs.declared.line_buffers.InputFault.TheVariants as input
 use Rattle.si_cli.specs.Faults.{fault_of_input}
@@ -16,15 +16,15 @@ use Rattle.si_cli.specs.Runs.{WritesOutput, MayBeTooLong, IsTrueFault}
 
 -- ---- the texts of items, one more at the end
 
-progress_through-push : (rules : Rules) (p : Progress) (items : List SourcedItem) (item : SourcedItem) → progress_through rules p (items ++ item ∷ []) ≡ progress_after rules (progress_through rules p items) item
-progress_through-push rules p [] item = refl
-progress_through-push rules p (first ∷ items) item = progress_through-push rules (progress_after rules p first) items item
+progress_through-push : (terms : Terms) (p : Progress) (items : List SourcedItem) (item : SourcedItem) → progress_through terms p (items ++ item ∷ []) ≡ progress_after terms (progress_through terms p items) item
+progress_through-push terms p [] item = refl
+progress_through-push terms p (first ∷ items) item = progress_through-push terms (progress_after terms p first) items item
 
-items_text-push : (rules : Rules) (p : Progress) (items : List SourcedItem) (item : SourcedItem) → items_text rules p (items ++ item ∷ []) ≡ items_text rules p items ++ item_text rules (progress_through rules p items) item
-items_text-push rules p [] item = append-nil (item_text rules p item)
-items_text-push rules p (first ∷ items) item =
-    ap (λ text. item_text rules p first ++ text) (items_text-push rules (progress_after rules p first) items item)
-    ∙ sym (append_assoc (item_text rules p first) (items_text rules (progress_after rules p first) items) (item_text rules (progress_through rules (progress_after rules p first) items) item))
+items_text-push : (terms : Terms) (p : Progress) (items : List SourcedItem) (item : SourcedItem) → items_text terms p (items ++ item ∷ []) ≡ items_text terms p items ++ item_text terms (progress_through terms p items) item
+items_text-push terms p [] item = append-nil (item_text terms p item)
+items_text-push terms p (first ∷ items) item =
+    ap (λ text. item_text terms p first ++ text) (items_text-push terms (progress_after terms p first) items item)
+    ∙ sym (append_assoc (item_text terms p first) (items_text terms (progress_after terms p first) items) (item_text terms (progress_through terms (progress_after terms p first) items) item))
 
 -- ---- steps
 
@@ -45,15 +45,15 @@ CountsBytes-none a None = tt
 CountsBytes-none a (Some xs) = (omega arith, omega arith)
 
 -- these items were decided: they were read, their text was written, and the decisions are as far as they lead
-pub record IsUnderWay (rules : Rules) (left written : Option (List ℕ)) (ended : ℕ) (to_come now : Option (List ℕ)) (p : Progress) : Type 0 where
+pub record IsUnderWay (terms : Terms) (left written : Option (List ℕ)) (ended : ℕ) (to_come now : Option (List ℕ)) (p : Progress) : Type 0 where
   pub done : List Item
   pub read : Yields 0 left ended to_come done
-  pub wrote : Appends written now (items_text rules start (from_source 0 done))
-  pub progress : p ≡ progress_through rules start (from_source 0 done)
+  pub wrote : Appends written now (items_text terms start (from_source 0 done))
+  pub progress : p ≡ progress_through terms start (from_source 0 done)
   pub count : p.decided ≡ length done
 
-pub begins : (rules : Rules) (buffer : LineBuffer) (left written : Option (List ℕ)) (p : Progress) → IsFresh buffer → p ≡ start → IsUnderWay rules left written buffer.lines (bytes_to_come buffer left) written p
-begins rules buffer left written p fresh e = record {
+pub begins : (terms : Terms) (buffer : LineBuffer) (left written : Option (List ℕ)) (p : Progress) → IsFresh buffer → p ≡ start → IsUnderWay terms left written buffer.lines (bytes_to_come buffer left) written p
+begins terms buffer left written p fresh e = record {
   done = [];
   read = fresh_read left;
   wrote = Appends-nil written;
@@ -65,27 +65,27 @@ begins rules buffer left written p fresh e = record {
     fresh_read None = tt
     fresh_read (Some bytes) = ap (λ n. items_after n bytes) (sym fresh.0) ∙ ap (λ held. items_after buffer.lines (held ++ bytes)) (sym fresh.1)
 
-pub decided_one : (rules : Rules) (p : Progress) (item : SourcedItem) → (progress_after rules p item).decided ≡ p.decided + 1
+pub decided_one : (terms : Terms) (p : Progress) (item : SourcedItem) → (progress_after terms p item).decided ≡ p.decided + 1
 unfolding progress_after
-decided_one rules p item = refl
+decided_one terms p item = refl
 
 -- one more item
-pub goes_on : (rules : Rules) (left written : Option (List ℕ)) (n m : ℕ) (a b w v : Option (List ℕ)) (p q : Progress) (item : Item) (text : List ℕ)
-    → IsUnderWay rules left written n a w p → Yields n a m b (item ∷ []) → Appends w v text → text ≡ item_text rules p (sourced 0 item) → q ≡ progress_after rules p (sourced 0 item)
-    → IsUnderWay rules left written m b v q
-goes_on rules left written n m a b w v p q item text way one adds text_is q_is =
+pub goes_on : (terms : Terms) (left written : Option (List ℕ)) (n m : ℕ) (a b w v : Option (List ℕ)) (p q : Progress) (item : Item) (text : List ℕ)
+    → IsUnderWay terms left written n a w p → Yields n a m b (item ∷ []) → Appends w v text → text ≡ item_text terms p (sourced 0 item) → q ≡ progress_after terms p (sourced 0 item)
+    → IsUnderWay terms left written m b v q
+goes_on terms left written n m a b w v p q item text way one adds text_is q_is =
     let push = map_push (sourced 0) way.done item in
-    let through : progress_through rules start (from_source 0 (way.done ++ item ∷ [])) ≡ progress_after rules (progress_through rules start (from_source 0 way.done)) (sourced 0 item) =
-    ap (progress_through rules start) push ∙ progress_through-push rules start (from_source 0 way.done) (sourced 0 item) in
-    let texts : items_text rules start (from_source 0 (way.done ++ item ∷ [])) ≡ items_text rules start (from_source 0 way.done) ++ text =
-    ap (items_text rules start) push ∙ items_text-push rules start (from_source 0 way.done) (sourced 0 item)
-    ∙ ap (λ t. items_text rules start (from_source 0 way.done) ++ t) (ap (λ r. item_text rules r (sourced 0 item)) (sym way.progress) ∙ sym text_is) in
+    let through : progress_through terms start (from_source 0 (way.done ++ item ∷ [])) ≡ progress_after terms (progress_through terms start (from_source 0 way.done)) (sourced 0 item) =
+    ap (progress_through terms start) push ∙ progress_through-push terms start (from_source 0 way.done) (sourced 0 item) in
+    let texts : items_text terms start (from_source 0 (way.done ++ item ∷ [])) ≡ items_text terms start (from_source 0 way.done) ++ text =
+    ap (items_text terms start) push ∙ items_text-push terms start (from_source 0 way.done) (sourced 0 item)
+    ∙ ap (λ t. items_text terms start (from_source 0 way.done) ++ t) (ap (λ r. item_text terms r (sourced 0 item)) (sym way.progress) ∙ sym text_is) in
     record {
       done = way.done ++ item ∷ [];
       read = Yields-then 0 n m left a b way.done (item ∷ []) way.read one;
-      wrote = subst (Appends written v) (sym texts) (Appends-trans written w v (items_text rules start (from_source 0 way.done)) text way.wrote adds);
-      progress = q_is ∙ ap (λ r. progress_after rules r (sourced 0 item)) way.progress ∙ sym through;
-      count = ap (λ r. r.decided) q_is ∙ decided_one rules p (sourced 0 item) ∙ ap (λ k. k + 1) way.count ∙ (let l : length way.done + 1 ≡ length (way.done ++ item ∷ []) = omega (arith, length-append way.done (item ∷ [])) in l);
+      wrote = subst (Appends written v) (sym texts) (Appends-trans written w v (items_text terms start (from_source 0 way.done)) text way.wrote adds);
+      progress = q_is ∙ ap (λ r. progress_after terms r (sourced 0 item)) way.progress ∙ sym through;
+      count = ap (λ r. r.decided) q_is ∙ decided_one terms p (sourced 0 item) ∙ ap (λ k. k + 1) way.count ∙ (let l : length way.done + 1 ≡ length (way.done ++ item ∷ []) = omega (arith, length-append way.done (item ∷ [])) in l);
     }
 
 -- ---- the end
@@ -93,31 +93,31 @@ goes_on rules left written n m a b w v p q item text way one adds text_is q_is =
 all_done : (bytes rest : List ℕ) (m : ℕ) (done : List Item) → items_after 0 bytes ≡ done ++ items_after m rest → rest ≡ [] → items_of bytes ≡ done
 all_done bytes rest m done e none = e ∙ ap (λ r. done ++ items_after m r) none ∙ append-nil done
 
-told : (rules : Rules) (written w v : Option (List ℕ)) (items : List Item) (p : Progress) (status : ExitStatus) (text : List ℕ)
-    → Appends written w (items_text rules start (from_source 0 items)) → p ≡ progress_through rules start (from_source 0 items)
-    → Appends w v text → text ≡ report_at rules p → status ≡ status_at p
-    → Appends written v (output_of rules (from_source 0 items)) × (status ≡ status_of rules (from_source 0 items))
+told : (terms : Terms) (written w v : Option (List ℕ)) (items : List Item) (p : Progress) (status : ExitStatus) (text : List ℕ)
+    → Appends written w (items_text terms start (from_source 0 items)) → p ≡ progress_through terms start (from_source 0 items)
+    → Appends w v text → text ≡ report_at terms p → status ≡ status_at p
+    → Appends written v (output_of terms (from_source 0 items)) × (status ≡ status_of terms (from_source 0 items))
 unfolding output_of status_of
-told rules written w v items p status text wrote progress adds text_is status_is =
-    let before = items_text rules start (from_source 0 items) in (
-      subst (λ t. Appends written v (before ++ t)) (text_is ∙ ap (report_at rules) progress) (Appends-trans written w v before text wrote adds),
+told terms written w v items p status text wrote progress adds text_is status_is =
+    let before = items_text terms start (from_source 0 items) in (
+      subst (λ t. Appends written v (before ++ t)) (text_is ∙ ap (report_at terms) progress) (Appends-trans written w v before text wrote adds),
       status_is ∙ ap status_at progress,
     )
 
-pub ends : (rules : Rules) (left written : Option (List ℕ)) (n m : ℕ) (a b w v : Option (List ℕ)) (p : Progress) (status : ExitStatus) (text : List ℕ)
-    → IsUnderWay rules left written n a w p → Yields n a m b [] → IsAtEnd b → Appends w v text → text ≡ report_at rules p → status ≡ status_at p
-    → WritesOutput rules left written v status
-ends rules None written n m a b w v p status text way none end adds text_is status_is = tt
-ends rules (Some bytes) written n m a b w v p status text way none end adds text_is status_is =
+pub ends : (terms : Terms) (left written : Option (List ℕ)) (n m : ℕ) (a b w v : Option (List ℕ)) (p : Progress) (status : ExitStatus) (text : List ℕ)
+    → IsUnderWay terms left written n a w p → Yields n a m b [] → IsAtEnd b → Appends w v text → text ≡ report_at terms p → status ≡ status_at p
+    → WritesOutput terms left written v status
+ends terms None written n m a b w v p status text way none end adds text_is status_is = tt
+ends terms (Some bytes) written n m a b w v p status text way none end adds text_is status_is =
     let read = Yields-then 0 n m (Some bytes) a b way.done [] way.read none in
     by b read end
   where
-    by : (b : Option (List ℕ)) → Yields 0 (Some bytes) m b (way.done ++ []) → IsAtEnd b → WritesOutput rules (Some bytes) written v status
+    by : (b : Option (List ℕ)) → Yields 0 (Some bytes) m b (way.done ++ []) → IsAtEnd b → WritesOutput terms (Some bytes) written v status
     by None read end = absurd read
     by (Some rest) read end =
         let items : items_of bytes ≡ way.done = all_done bytes rest m (way.done ++ []) read end ∙ append-nil way.done in
-        subst (λ l. Appends written v (output_of rules (from_source 0 l)) × (status ≡ status_of rules (from_source 0 l))) (sym items)
-        (told rules written w v way.done p status text way.wrote way.progress adds text_is status_is)
+        subst (λ l. Appends written v (output_of terms (from_source 0 l)) × (status ≡ status_of terms (from_source 0 l))) (sym items)
+        (told terms written w v way.done p status text way.wrote way.progress adds text_is status_is)
 
 -- ---- an input that is too long
 
@@ -153,9 +153,9 @@ length-numbered number [] = omega arith
 length-numbered number (l ∷ ls) = omega (arith, length-append (item_of number l) (numbered (number + 1) ls), one_item number l, length-numbered (number + 1) ls)
 
 -- so many items have at least as many bytes
-pub many_items : (rules : Rules) (left written : Option (List ℕ)) (n : ℕ) (a w : Option (List ℕ)) (p : Progress) → IsUnderWay rules left written n a w p → 2 ^ 64 - 1 ≤ p.decided → MayBeTooLong left
-many_items rules None written n a w p way most = tt
-many_items rules (Some bytes) written n a w p way most = by a way.read
+pub many_items : (terms : Terms) (left written : Option (List ℕ)) (n : ℕ) (a w : Option (List ℕ)) (p : Progress) → IsUnderWay terms left written n a w p → 2 ^ 64 - 1 ≤ p.decided → MayBeTooLong left
+many_items terms None written n a w p way most = tt
+many_items terms (Some bytes) written n a w p way most = by a way.read
   where
     by : (a : Option (List ℕ)) → Yields 0 (Some bytes) n a way.done → 2 ^ 64 - 1 ≤ length bytes
     by None read = absurd read

@@ -7,16 +7,19 @@ use Rattle.clap.specs.declared.builder.action.ArgAction.TheVariants.{Set, SetTru
 use Rattle.clap.specs.declared.builder.value_parser.ValueParser.TheVariants.{Unsigned}
 use Rattle.clap.specs.declared.error.kind.ErrorKind.TheVariants.{OutOfMemory}
 use Rattle.clap.specs.Words.{App, HasKind, IsUnsignedIn, kind_of, Row, Rule, Text, all_of, fault_of, first_of, new_app, new_rule, one_of, subcommand_of, with_rule, with_subcommand}
+use Rattle.si_model.specs.declared.edits.TheConstants.{MOST_EDITS}
+use Rattle.si_cli.specs.declared.command_lines.TheConstants.{MOST_EVERY}
 use Rattle.si_cli.specs.declared.options.Options.{Options}
+use Rattle.si_cli.specs.declared.settings.TheConstants.{MOST_FILES}
 use Rattle.si_cli.specs.declared.settings.Settings.{Settings}
 use Rattle.si_cli.specs.declared.settings.SettingsFault.{SettingsFault}
 use Rattle.si_cli.specs.declared.settings.SettingsFault.TheVariants.{Line, TooManyFiles}
 
 -- ---- the command
 
--- `--every N`, a number from 1 to 16,777,216
+-- `--every N`, a number from 1 on that isn't too great
 abbrev pub every_rule : Rule
-every_rule = record (new_rule (codes "every")) { long = Some (codes "every"); value_names = 1; action = Some Set; parser = Some (Unsigned 1 16777216) }
+every_rule = record (new_rule (codes "every")) { long = Some (codes "every"); value_names = 1; action = Some Set; parser = Some (Unsigned 1 MOST_EVERY) }
 
 -- `--explain`
 abbrev pub explain_rule : Rule
@@ -62,36 +65,32 @@ files_given rows = unwrap_or (all_of (codes "FILE") rows) []
 
 -- the options that the words ask for, with what holds where they ask for nothing
 abbrev pub options_given : List Row → Options
-options_given rows = record { shards = 4; every = every_given rows; explain = explain_given rows; limit = 16777216 }
+options_given rows = record { shards = 4; every = every_given rows; explain = explain_given rows; limit = MOST_EDITS }
 
--- reports come after a number of items from 1 to 16,777,216, if they come on the way
+-- reports come after a number of items in that range, if they come on the way
 abbrev pub IsEveryInRange : Option ℕ → Type 0
-IsEveryInRange every = IfSome every (λ n. (1 ≤ n) × (n ≤ 16777216))
-
--- how many files are read
-abbrev pub most_files : ℕ
-most_files = 1
+IsEveryInRange every = IfSome every (λ n. (1 ≤ n) × (n ≤ MOST_EVERY))
 
 -- what settings say of the rows
 pub record IsGiven (rows : List Row) (settings : Settings) : Type 0 where
   pub options : settings.options ≡ options_given rows
   pub every : IsEveryInRange settings.options.every
   pub files : map (λ file. file.now) settings.files.items ≡ files_given rows
-  pub few : length (files_given rows) ≤ most_files
+  pub few : length (files_given rows) ≤ MOST_FILES
 
 -- settings come where clap has no fault to tell of the words and they name few enough files; a fault is one of clap's, or
 -- want of memory, or that the files are too many
 abbrev pub IsToldBy : List Text → Result Settings SettingsFault → Type 0
 IsToldBy words (Ok settings) = (fault_of sicheck_app words ≡ []) × IsGiven (rows_given words) settings
 IsToldBy words (Err (Line error)) = HasKind (fault_of sicheck_app words) error
-IsToldBy words (Err TooManyFiles) = (fault_of sicheck_app words ≡ []) × (most_files < length (files_given (rows_given words)))
+IsToldBy words (Err TooManyFiles) = (fault_of sicheck_app words ≡ []) × (MOST_FILES < length (files_given (rows_given words)))
 
 -- the number of `--every` is in its range
 abbrev pub EveryFits : List Row → Type 0
-EveryFits rows = (text : Text) → one_of (codes "every") rows ≡ Some text → IsUnsignedIn 1 16777216 text
+EveryFits rows = (text : Text) → one_of (codes "every") rows ≡ Some text → IsUnsignedIn 1 MOST_EVERY text
 
 -- what reading the rows gives: the settings, too many files, or want of memory
 abbrev pub IsReadOf : List Row → Result Settings SettingsFault → Type 0
 IsReadOf rows (Ok settings) = IsGiven rows settings
 IsReadOf rows (Err (Line error)) = kind_of error ≡ OutOfMemory
-IsReadOf rows (Err TooManyFiles) = most_files < length (files_given rows)
+IsReadOf rows (Err TooManyFiles) = MOST_FILES < length (files_given rows)

@@ -3,27 +3,28 @@ use Rattle.std.specs.Prelude.{◌≡◌, ◌≤◌, ◌⊎◌, ℕ, List, [], Op
 use Rattle.clap.specs.declared.error.Error.{Error}
 use Rattle.clap.specs.declared.error.kind.ErrorKind.TheVariants.{DisplayHelp, DisplayVersion}
 use Rattle.clap.specs.Words.{IsAmong, Text, fault_of, kind_of}
+use Rattle.si_model.specs.declared.edits.TheConstants.{MOST_EDITS}
 use Rattle.si_cli.specs.declared.options.Options.{Options}
 use Rattle.si_cli.specs.declared.statuses.ExitStatus.{ExitStatus}
 use Rattle.si_cli.specs.CommandLines.{every_given, explain_given, files_given, rows_given, sicheck_app}
-use Rattle.si_cli.specs.Outputs.{Rules, exit_code}
+use Rattle.si_cli.specs.Outputs.{Terms, exit_code}
 use Rattle.si_cli.specs.Runs.{WritesOutput}
 
 -- the options are in range
 abbrev pub IsRunnable : Options → Type 0
-IsRunnable options = (1 ≤ options.limit) × (options.limit ≤ 16777216)
+IsRunnable options = (1 ≤ options.limit) × (options.limit ≤ MOST_EDITS)
 
 -- what the options say of the text
-abbrev pub rules_by : Options → Rules
-rules_by options = record { limit = options.limit; every = options.every; explain = options.explain }
+abbrev pub terms_by : Options → Terms
+terms_by options = record { limit = options.limit; every = options.every; explain = options.explain }
 
 -- clap was asked for a text, which is no fault
 abbrev pub IsAskedFor : Error → Type 0
 IsAskedFor error = (kind_of error ≡ DisplayHelp) ⊎ (kind_of error ≡ DisplayVersion)
 
 -- the status of a check: the check couldn't be made, or it is that of a run on the input, of which the text was written
-abbrev pub EndsCheck : Rules → Option (List ℕ) → Option (List ℕ) → Option (List ℕ) → ℕ → Type 0
-EndsCheck rules left old new result = (result ≡ 2) ⊎ ((status : ExitStatus) × (result ≡ exit_code status) × WritesOutput rules left old new status)
+abbrev pub EndsCheck : Terms → Option (List ℕ) → Option (List ℕ) → Option (List ℕ) → ℕ → Type 0
+EndsCheck terms left old new result = (result ≡ 2) ⊎ ((status : ExitStatus) × (result ≡ exit_code status) × WritesOutput terms left old new status)
 
 -- the status of an answer of clap: a fault, or a text that was asked for
 abbrev pub EndsLine : Error → ℕ → Type 0
@@ -36,4 +37,5 @@ EndsProgram words left old new result =
     (result ≡ 2)
     ⊎ (((result ≡ 0) × (IsAmong DisplayHelp (fault_of sicheck_app words) ⊎ IsAmong DisplayVersion (fault_of sicheck_app words)))
     ⊎ ((fault_of sicheck_app words ≡ []) × ((status : ExitStatus) × (result ≡ exit_code status)
-    × (files_given (rows_given words) ≡ [] → WritesOutput (record { limit = 16777216; every = every_given (rows_given words); explain = explain_given (rows_given words) }) left old new status))))
+    × (files_given (rows_given words) ≡ []
+    → WritesOutput (record { limit = MOST_EDITS; every = every_given (rows_given words); explain = explain_given (rows_given words) }) left old new status))))

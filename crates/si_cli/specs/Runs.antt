@@ -5,13 +5,13 @@ use Rattle.si_text.specs.Inputs.{items_of}
 use Rattle.si_cli.specs.declared.statuses.ExitStatus.{ExitStatus}
 use Rattle.si_cli.specs.declared.faults.RunFault.{RunFault}
 use Rattle.si_cli.specs.declared.faults.RunFault.TheVariants as fault
-use Rattle.si_cli.specs.Outputs.{Rules, from_source, output_of, status_of}
+use Rattle.si_cli.specs.Outputs.{Terms, from_source, output_of, status_of}
 
 -- where the input's bytes are known, what was written is the text of its items, as far as the writer tells, and so is the status
-abbrev pub WritesOutput : Rules → Option (List ℕ) → Option (List ℕ) → Option (List ℕ) → ExitStatus → Type 0
-WritesOutput rules None old new status = ⊤
-WritesOutput rules (Some bytes) old new status =
-    Appends old new (output_of rules (from_source 0 (items_of bytes))) × (status ≡ status_of rules (from_source 0 (items_of bytes)))
+abbrev pub WritesOutput : Terms → Option (List ℕ) → Option (List ℕ) → Option (List ℕ) → ExitStatus → Type 0
+WritesOutput terms None old new status = ⊤
+WritesOutput terms (Some bytes) old new status =
+    Appends old new (output_of terms (from_source 0 (items_of bytes))) × (status ≡ status_of terms (from_source 0 (items_of bytes)))
 
 -- an input that may take more reads than are made
 abbrev pub MayBeTooLong : Option (List ℕ) → Type 0

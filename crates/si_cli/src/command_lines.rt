@@ -10,6 +10,9 @@ use std::convert::AsStr;
 /// The id of the option that asks for reports on the way.
 pub const EVERY: &str = "every";
 
+/// The greatest number of lines that may be asked for between two reports.
+pub const MOST_EVERY: u64 = 16_777_216;
+
 /// The id of the flag that asks for evidence.
 pub const EXPLAIN: &str = "explain";
 
@@ -18,21 +21,41 @@ pub const FILE: &str = "FILE";
 
 const ABOUT: &str = "Checks a history of transactions against snapshot isolation.";
 
+const USAGE: &str = "sicheck check [--every N] [--explain] [FILE]";
+
 const INPUT: &str = "\
-The input has one JSON value a line:
-  {\"do\":\"txn\",\"id\":1,\"start\":1,\"status\":\"committed\",\"commit\":5,\"ops\":[[\"r\",\"x\",null],[\"w\",\"x\",1]]}
-      a transaction: its id, the stamp of its snapshot, what became of it (committed, aborted or indoubt),
-      and its reads and writes in their order; a read of null returned the initial version
+The input has one JSON value a line; lines may come late and out of order:
+  {\"do\":\"txn\",\"id\":1,\"start\":2,\"status\":\"committed\",\"commit\":5,\"ops\":[OP,..]}
+      a transaction: the stamp of its snapshot, what became of it (committed,
+      aborted or indoubt; a commit stamp where it committed), and what it did
   {\"do\":\"resolve\",\"id\":1,\"status\":\"committed\",\"commit\":5}
       what became of a transaction in doubt (committed or aborted)
   {\"do\":\"withdraw\",\"id\":1}
       the record of that transaction was false
-Lines may come late and out of order. A pair of key and value is written at most once.
+  {\"do\":\"setup\",\"key\":\"x\",\"value\":7}
+      the key had that value before the run; a key that isn't set up had none
+An OP is [\"r\",\"x\",7], or [\"r\",\"x\",null] where x had no value, or [\"w\",\"x\",7].
+Numbers are whole. No value is written twice to a key. In place of a deletion
+write a value of your own that means \"deleted\".
 
-The output has a line for each refused line, then a line for each finding, and a summary.
-The exit status is 0 where nothing was found, 10 where the verdict is open or a line was refused,
-20 where snapshot isolation is violated, and 2 where the check couldn't be made.
+Stamps are the database's own, no clock's. Where a start at s sees the commit
+at s, write each commit c as 2c + 1 and each start s as 2s + 2; where it
+doesn't, as 2c + 1 and 2s. A transaction that only reads may have one stamp.
 
+The output has a line for each refused line, then the findings and a summary:
+  unknown       no line writes the value that was read: the verdict is open
+  doubt         its writer is in doubt: the verdict is open
+  own           the read doesn't return its own transaction's last write
+  aborted       the value was rolled back
+  intermediate  its writer wrote another value later
+  future        the value was committed after the reader's snapshot
+  stale         the value had been replaced before the reader's snapshot
+  overlap       a version was replaced by a writer whose snapshot lacks it
+The status is the gate: 20 where snapshot isolation is violated; else 10 where
+the verdict is open or a line was refused, so also where it is clean beside
+refused lines; else 0; and 2 where the check couldn't be made.
+
+docs/LOGGING.md tells what to log and what each finding means.
 Try it: sicheck check --every 1000 history.jsonl";
 
 /// Reads the words of a command line, of which the first is the program's name.
@@ -52,7 +75,8 @@ fn command<'a>(alloc: Global) -> Result<Command<'a>, AllocError>
     ensures { IfOk result (λ command. app_of command ≡ sicheck_app) }
 {
     let check = Command::new(alloc, "check")
-        .about("Checks the history in a file, or on standard input where none is named")
+        .about("Checks the history in FILE, or on standard input where none is named")
+        .override_usage(USAGE)
         .after_help(INPUT)
         .arg(every(alloc))?
         .arg(explain(alloc))?
@@ -73,10 +97,8 @@ fn every<'a>(alloc: Global) -> Arg<'a>
         .long("every")
         .value_name("N")
         .action(ArgAction::Set)
-        .value_parser(ValueParser::unsigned(1, 16_777_216))
-        .help(
-            "Reports after each N lines that were accepted or refused, 1 to 16777216, and at the end",
-        )
+        .value_parser(ValueParser::unsigned(1, MOST_EVERY))
+        .help("Reports after each N lines too, 1 to 16777216")
 }
 
 /// The flag that asks for evidence.
@@ -87,17 +109,13 @@ fn explain<'a>(alloc: Global) -> Arg<'a>
     Arg::new(alloc, EXPLAIN)
         .long("explain")
         .action(ArgAction::SetTrue)
-        .help(
-            "Follows each violation with its evidence, a phenomenon of Adya's that can be checked by itself",
-        )
+        .help("Follows each violation with its evidence")
 }
 
-/// The files that are read in place of standard input.
+/// The files that are read in place of standard input. Help would show several; the usage line shows the one that is taken.
 fn file<'a>(alloc: Global) -> Arg<'a>
     ensures rule { rule_of result ≡ file_rule }
     ensures local { result.global ≡ false }
 {
-    Arg::new(alloc, FILE)
-        .action(ArgAction::Append)
-        .help("A file with the history, one at most")
+    Arg::new(alloc, FILE).action(ArgAction::Append).hide(true)
 }

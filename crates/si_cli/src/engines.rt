@@ -8,8 +8,7 @@ ghost use Rattle.si_cli.specs.Outputs.{is_due, reason_after, journal_after};
 
 use crate::Options;
 use si_accept::{AcceptFault, Book};
-use si_model::laws::present_is_history;
-use si_model::{Edit, Finding, OutOfMemory, findings_of};
+use si_model::{Edit, MOST_EDITS, OutOfMemory, findings_of};
 use si_text::{LineFault, LineItem, Reason, Verdict, print_refusal, print_report};
 use std::alloc::{AllocError, Global};
 
@@ -26,15 +25,15 @@ pub struct Engine {
 }
 
 impl Engine {
-    ghost use Rattle.si_cli.specs.Engines.{progress_of, rules_of};
-    ghost use Rattle.si_cli.specs.Outputs.{start, sourced, counted, refusal_line, report_at, report_due, item_text, progress_after, Rules};
+    ghost use Rattle.si_cli.specs.Engines.{progress_of, terms_of};
+    ghost use Rattle.si_cli.specs.Outputs.{start, sourced, counted, refusal_line, report_at, report_due, item_text, progress_after, Terms};
 
     /// An engine that has decided nothing.
     pub fn new(alloc: Global, options: Options) -> Self
         requires some { 1 ≤ options.limit }
-        requires most { options.limit ≤ 16777216 }
+        requires most { options.limit ≤ MOST_EDITS }
         ensures progress { progress_of result ≡ start }
-        ensures rules { rules_of result
+        ensures terms { terms_of result
             ≡ record { limit = options.limit; every = options.every; explain = options.explain } }
     {
         Engine {
@@ -57,10 +56,10 @@ impl Engine {
     ) -> Result<(), OutOfMemory>
         requires { self.old.decided < 2 ^ 64 - 1 }
         ensures text { OnOk result (text.new.items
-            ≡ text.old.items ++ item_text (rules_of self.old) (progress_of self.old) (sourced source item)) }
+            ≡ text.old.items ++ item_text (terms_of self.old) (progress_of self.old) (sourced source item)) }
         ensures progress { OnOk result
-            (progress_of self.new ≡ progress_after (rules_of self.old) (progress_of self.old) (sourced source item)) }
-        ensures rules { rules_of self.new ≡ rules_of self.old }
+            (progress_of self.new ≡ progress_after (terms_of self.old) (progress_of self.old) (sourced source item)) }
+        ensures terms { terms_of self.new ≡ terms_of self.old }
     {
         let (line, answer) = item;
         let reason = self.accept(answer)?;
@@ -111,7 +110,7 @@ impl Engine {
 
     /// Appends the report on the way, where it is due.
     fn report_where_due(&self, text: &mut Vec<u8>) -> Result<(), OutOfMemory>
-        ensures { OnOk result (text.new.items ≡ text.old.items ++ report_due (rules_of self.now) (progress_of self.now)) }
+        ensures { OnOk result (text.new.items ≡ text.old.items ++ report_due (terms_of self.now) (progress_of self.now)) }
     {
         if is_due(self.every, self.decided) {
             self.report(text)?;
@@ -122,22 +121,21 @@ impl Engine {
     /// Appends the report of what is present, and answers its verdict.
     #[tactic(auto, unfolding(crate::specs::Outputs::report_at))]
     pub fn report(&self, text: &mut Vec<u8>) -> Result<Verdict, OutOfMemory>
-        ensures text { OnOk result (text.new.items ≡ text.old.items ++ report_at (rules_of self.now) (progress_of self.now)) }
+        ensures text { OnOk result (text.new.items ≡ text.old.items ++ report_at (terms_of self.now) (progress_of self.now)) }
         ensures verdict { IfOk result (λ verdict. verdict ≡ verdict_of (findings (present self.now.book.journal))) }
     {
-        let present = self.book.present()?;
-        let _journal = self.book.journal();
-        present_is_history();
-        let findings = findings_of(self.alloc, &present)?;
+        let txns = self.book.present()?;
+        let initial = self.book.initial()?;
+        let findings = findings_of(self.alloc, &txns, &initial)?;
         print_report(
             self.alloc,
             text,
-            &present,
+            &txns,
+            &initial,
             &findings,
             self.refused,
             self.explain,
-        )?;
-        Ok(Verdict::of(&findings))
+        )
     }
 
     /// How many items were refused.

@@ -7,6 +7,6 @@ pub struct Options {
     pub every: Option<u64>,
     /// Whether a finding is followed by its evidence.
     pub explain: bool,
-    /// The most edits that are accepted, 1 to 16,777,216.
+    /// The most edits that are accepted, 1 to `MOST_EDITS`.
     pub limit: usize,
 }

@@ -1,5 +1,5 @@
 ghost use Rattle.std.specs.Prelude.{◌≡◌, false, map};
-ghost use Rattle.si_cli.specs.Programs.{EndsCheck, EndsLine, EndsProgram, IsRunnable, rules_by};
+ghost use Rattle.si_cli.specs.Programs.{EndsCheck, EndsLine, EndsProgram, IsRunnable, terms_by};
 
 use crate::settings::{SettingsFault, settings_of};
 use crate::writing::write_all;
@@ -56,7 +56,7 @@ fn check<I: ByteSource, O: ByteSink, E: ByteSink>(
     requires options { IsRunnable options }
     requires source { I.failed source.old ≡ false }
     requires out { O.failed out.old ≡ false }
-    ensures { EndsCheck (rules_by options) (I.left source.old) (O.written out.old) (O.written out.new) result }
+    ensures { EndsCheck (terms_by options) (I.left source.old) (O.written out.old) (O.written out.new) result }
 {
     match run(alloc, source, out, options) {
         Ok(status) => status.code(),

@@ -1,10 +1,11 @@
 ghost use Rattle.std.specs.Prelude.{◌≡◌, ◌<◌, ◌≤◌, ℕ, false, IfOk, IfErr};
 ghost use Rattle.si_cli.specs.Runs.{WritesOutput, IsTrueFault};
-ghost use Rattle.si_cli.specs.Outputs.{Rules};
+ghost use Rattle.si_cli.specs.Outputs.{Terms};
 
 use crate::engines::Engine;
 use crate::writing::write_all;
 use crate::{ExitStatus, Options, RunFault};
+use si_model::MOST_EDITS;
 use si_text::{ByteSink, ByteSource, LineBuffer};
 use std::alloc::Global;
 
@@ -16,7 +17,7 @@ pub fn run<S: ByteSource, W: ByteSink>(
     options: Options,
 ) -> Result<ExitStatus, RunFault>
     requires some { 1 ≤ options.limit }
-    requires most { options.limit ≤ 16777216 }
+    requires most { options.limit ≤ MOST_EDITS }
     requires source { S.failed source.old ≡ false }
     requires writer { W.failed writer.old ≡ false }
     ensures output { IfOk result (λ status. WritesOutput (record { limit = options.limit; every = options.every; explain = options.explain })

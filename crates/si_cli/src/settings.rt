@@ -5,12 +5,10 @@ ghost use Rattle.si_cli.specs.CommandLines.{IsToldBy, IsReadOf, EveryFits, files
 use crate::Options;
 use crate::command_lines::{EVERY, EXPLAIN, FILE, parse};
 use clap::ArgMatches;
+use si_model::MOST_EDITS;
 use std::alloc::{AllocError, Global};
 use std::convert::AsStr;
 use std::fmt;
-
-/// The most edits that the program accepts.
-pub const MOST_EDITS: usize = 16_777_216;
 
 /// The most files that are read.
 pub const MOST_FILES: usize = 1;
@@ -45,7 +43,7 @@ impl std::error::Error for SettingsFault {}
 
 /// What the words of a command line ask for, of which the first is the program's name.
 ///
-/// They are `sicheck check [--every N] [--explain] [FILE]`, with N from 1 to 16,777,216. A fault is one that `clap`'s definition of the
+/// They are `sicheck check [--every N] [--explain] [FILE]`, with N from 1 to `MOST_EVERY`. A fault is one that `clap`'s definition of the
 /// command tells of the words, or want of memory, or that they name too many files.
 pub fn settings_of<'a, S: AsStr>(
     alloc: Global,
@@ -111,7 +109,7 @@ fn is_explained(check: &ArgMatches<'_>) -> bool
 
 /// The program's options, with reports after each so many items, and with evidence or without.
 fn options(every: Option<u64>, explain: bool) -> Options
-    ensures { result ≡ record { shards = 4; every = every; explain = explain; limit = 16777216 } }
+    ensures { result ≡ record { shards = 4; every = every; explain = explain; limit = MOST_EDITS } }
 {
     Options {
         shards: 4,

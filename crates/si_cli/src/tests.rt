@@ -2,8 +2,10 @@
 
 mod evidence;
 mod files;
+mod helps;
 mod programs;
 mod rows;
+mod set_ups;
 
 use crate::{ExitStatus, Options, run};
 use si_text::memory::{MemorySink, MemorySource};

@@ -1,80 +1,61 @@
 -- The tests decide which version of a key is next after another.
-use Rattle.std.proofs.Common.{◌≡◌, ℕ, ◌≤◌, Bool, true, false, ◌&&◌, not, List, Option, Some, None, is_some, refl, sym, ap, ◌∙◌, nat_lt}
-use Rattle.std.specs.List.{Contains, list_all}
-use Rattle.std.proofs.lemmas.Bool.{ltb-false, le-ltb}
+use Rattle.std.proofs.Common.{◌≡◌, ℕ, ◌<◌, ◌≤◌, not, List, Option, Some, None, refl, sym, ap, subst, arith}
+use Rattle.std.specs.Bool.{Decides}
+use Rattle.std.specs.List.{Contains}
+use Rattle.std.proofs.lemmas.Bool.Decides.{Decides-ltb, Decides-not, Decides-and, Decides-like}
 use Rattle.si_model.specs.declared.numbers.Stamp.{Stamp}
-use Rattle.si_model.specs.declared.transactions.Status.{Status}
-use Rattle.si_model.specs.declared.transactions.Status.TheVariants as status
 use Rattle.si_model.specs.declared.transactions.Txn.{Txn}
 use Rattle.si_model.specs.declared.sights.Installer.{Installer}
-use Rattle.si_model.specs.Parts.{parts}
-use Rattle.si_model.specs.Versions.{commit_of, is_after, IsInstaller, IsNext}
-use Rattle.si_graph.specs.EvidenceTests.{install_on, is_between, stays_out, is_next_on, follows, are_neighbours, is_committed}
-use Rattle.si_graph.proofs.Members.{first_true, second_true, both_true, not_true, is_not, all_at, all_from}
+use Rattle.si_model.specs.declared.sights.VersionId.{VersionId}
+use Rattle.si_model.specs.declared.sights.VersionId.TheVariants as version
+use Rattle.si_model.specs.Parts.{Present, on_key}
+use Rattle.si_model.specs.Versions.{IsInstaller, IsAfter, IsNext, is_after}
+use Rattle.si_graph.specs.EvidenceTests.{install_on, is_between, stays_out, is_next_on, follows, are_neighbours}
+use Rattle.si_graph.specs.Laws.{ModelLaws}
+use Rattle.si_lists.proofs.Members.{same_some}
+use Rattle.si_graph.proofs.ListTests.{all_decides}
 use Rattle.si_graph.proofs.OnKeys.{installer_in, installer_from}
 
-pub committed_is : (T : Txn) → is_committed T ≡ true → (c : Stamp) × (T.status ≡ status.Committed c)
-committed_is T e = by T.status refl e
-  where
-    by : (s : Status) → T.status ≡ s → is_some (commit_of s) ≡ true → (c : Stamp) × (T.status ≡ status.Committed c)
-    by (status.Committed c) s f = (c, s)
-    by status.Aborted s f = cc
-    by status.InDoubt s f = cc
+after_decides : (a : VersionId) (c : Stamp) → Decides (is_after a c) (IsAfter a c)
+after_decides version.Initial c = (λ e. tt, λ e. refl)
+after_decides (version.Installed b) c = Decides-ltb b.0 c.0
 
-pub committed_from : (T : Txn) (c : Stamp) → T.status ≡ status.Committed c → is_committed T ≡ true
-committed_from T c e = ap (λ s. is_some (commit_of s)) e
+-- what is installed after the version, if anything, isn't installed before the commit c
+abbrev IsOutside : VersionId → Stamp → Option Installer → Type 0
+IsOutside a c o = (m : Installer) → o ≡ Some m → IsAfter a m.commit → c.0 ≤ m.commit.0
 
--- ---- no version is between
+outside_decides : (a : VersionId) (c : Stamp) (o : Option Installer) → Decides (not (is_between a c o)) (IsOutside a c o)
+outside_decides a c None = (λ e m f. cc, λ f. refl)
+outside_decides a c (Some n) = Decides-like _
+    (λ out m e after. (let same : n.commit.0 ≡ m.commit.0 = ap (λ k. k.commit.0) (same_some e) in let le : (m.commit.0 < c.0 → ⊥) = λ lt. out (subst (λ k. IsAfter a k.commit) (sym (same_some e)) after, omega (arith, same, lt)) in omega (arith, le)))
+    (λ f both. (let far = f n refl both.0 in let near = both.1 in omega (arith, far, near)))
+    (Decides-not _ (Decides-and _ _ (after_decides a n.commit) (Decides-ltb n.commit.0 c.0)))
 
-less_than : (a b : Bool) → (a && b) ≡ false → a ≡ true → b ≡ false
-less_than true b e f = e
-less_than false b e f = cc
+module _ (laws : ModelLaws) (P : Present) where
+  next_decides : (x : List ℕ) (a : VersionId) (n : Installer) → IsInstaller (on_key x P) n → Decides (is_next_on P.txns x a n.commit) (IsNext (on_key x P) a n)
+  next_decides x a n is = Decides-like _
+      (λ both. record { installs = is; after = both.0; first = λ m i after. (let f = installer_from laws x P m i in both.1 f.0 f.1 m f.2 after) })
+      (λ next. (next.after, λ T t m e after. next.first m (installer_in laws x P T m t e) after))
+      (Decides-and _ _ (after_decides a n.commit) (all_decides (stays_out x a n.commit) (λ T. IsOutside a n.commit (install_on x T)) (λ T. outside_decides a n.commit (install_on x T)) P.txns))
 
-not_between_is : (after : Option Stamp) (c : Stamp) (o : Option Installer) (m : Installer) → o ≡ Some m → not (is_between after c o) ≡ true → is_after after m.commit ≡ true → c.0 ≤ m.commit.0
-not_between_is after c o m e f a =
-    let g : (is_after after m.commit && nat_lt m.commit.0 c.0) ≡ false = ap (is_between after c) (sym e) ∙ not_true (is_between after c o) f in
-    ltb-false m.commit.0 c.0 (less_than (is_after after m.commit) (nat_lt m.commit.0 c.0) g a)
+  -- B installs the version next after another
+  abbrev pub Follows : List ℕ → VersionId → Txn → Type 0
+  Follows x a B = (n : Installer) × (install_on x B ≡ Some n) × IsNext (on_key x P) a n
 
-not_between_from : (after : Option Stamp) (c : Stamp) (o : Option Installer) → ((m : Installer) → o ≡ Some m → is_after after m.commit ≡ true → c.0 ≤ m.commit.0) → not (is_between after c o) ≡ true
-not_between_from after c None f = refl
-not_between_from after c (Some m) f = is_not (is_after after m.commit && nat_lt m.commit.0 c.0) (λ e.
-    let far = f m refl (first_true (is_after after m.commit) (nat_lt m.commit.0 c.0) e) in
-    cc (le-ltb m.commit.0 c.0 far, second_true (is_after after m.commit) (nat_lt m.commit.0 c.0) e))
+  pub follows_decides : (x : List ℕ) (a : VersionId) (B : Txn) → Contains P.txns B → Decides (follows P.txns x a (install_on x B)) (Follows x a B)
+  follows_decides x a B b = by (install_on x B) refl
+    where
+      by : (o : Option Installer) → install_on x B ≡ o → Decides (follows P.txns x a o) ((n : Installer) × (o ≡ Some n) × IsNext (on_key x P) a n)
+      by None s = (λ e. cc, λ r. (let f = r.1 in cc))
+      by (Some n) s = Decides-like _ (λ next. (n, refl, next)) (λ r. subst (IsNext (on_key x P) a) (sym (same_some r.1)) r.2) (next_decides x a n (installer_in laws x P B n b s))
 
--- ---- the next version
+  -- A and B install neighbouring versions
+  abbrev pub AreNeighbours : List ℕ → Txn → Txn → Type 0
+  AreNeighbours x A B = (m : Installer) × (install_on x A ≡ Some m) × Follows x (version.Installed m.commit) B
 
-next_is : (x : List ℕ) (P : List Txn) (after : Option Stamp) (n : Installer) → IsInstaller (parts x P) n → is_next_on P x after n.commit ≡ true → IsNext (parts x P) after (Some n)
-next_is x P after n at e =
-    let all = second_true (is_after after n.commit) (list_all (stays_out x after n.commit) P) e in (
-      at,
-      first_true (is_after after n.commit) (list_all (stays_out x after n.commit) P) e,
-      λ m is a.
-          let f = installer_from x P m is in
-          not_between_is after n.commit (install_on x f.0) m f.2 (all_at (stays_out x after n.commit) P f.0 all f.1) a,
-    )
-
-next_from : (x : List ℕ) (P : List Txn) (after : Option Stamp) (n : Installer) → IsNext (parts x P) after (Some n) → is_next_on P x after n.commit ≡ true
-next_from x P after n is = both_true (is_after after n.commit) (list_all (stays_out x after n.commit) P) is.1
-    (all_from (stays_out x after n.commit) P (λ T c. not_between_from after n.commit (install_on x T) (λ m e a. is.2 m (installer_in x P T m c e) a)))
-
--- B installs the version next after another
-pub follows_is : (x : List ℕ) (P : List Txn) (after : Option Stamp) (B : Txn) → Contains P B → follows P x after (install_on x B) ≡ true → (n : Installer) × (install_on x B ≡ Some n) × IsNext (parts x P) after (Some n)
-follows_is x P after B b e = by (install_on x B) refl e
-  where
-    by : (o : Option Installer) → install_on x B ≡ o → follows P x after o ≡ true → (n : Installer) × (install_on x B ≡ Some n) × IsNext (parts x P) after (Some n)
-    by None s f = cc
-    by (Some n) s f = (n, s, next_is x P after n (installer_in x P B n b s) f)
-
-pub follows_from : (x : List ℕ) (P : List Txn) (after : Option Stamp) (B : Txn) (n : Installer) → install_on x B ≡ Some n → IsNext (parts x P) after (Some n) → follows P x after (install_on x B) ≡ true
-follows_from x P after B n e is = ap (follows P x after) e ∙ next_from x P after n is
-
--- A and B install neighbouring versions
-pub neighbours_are : (x : List ℕ) (P : List Txn) (A B : Txn) → Contains P B → are_neighbours P x (install_on x A) (install_on x B) ≡ true → (m : Installer) × (install_on x A ≡ Some m) × (n : Installer) × (install_on x B ≡ Some n) × IsNext (parts x P) (Some m.commit) (Some n)
-neighbours_are x P A B b e = by (install_on x A) refl e
-  where
-    by : (o : Option Installer) → install_on x A ≡ o → are_neighbours P x o (install_on x B) ≡ true → (m : Installer) × (install_on x A ≡ Some m) × (n : Installer) × (install_on x B ≡ Some n) × IsNext (parts x P) (Some m.commit) (Some n)
-    by None s f = cc
-    by (Some m) s f = let r = follows_is x P (Some m.commit) B b f in (m, s, r.0, r.1, r.2)
-
-pub neighbours_from : (x : List ℕ) (P : List Txn) (A B : Txn) (m n : Installer) → install_on x A ≡ Some m → install_on x B ≡ Some n → IsNext (parts x P) (Some m.commit) (Some n) → are_neighbours P x (install_on x A) (install_on x B) ≡ true
-neighbours_from x P A B m n e f is = ap (λ o. are_neighbours P x o (install_on x B)) e ∙ follows_from x P (Some m.commit) B n f is
+  pub neighbours_decide : (x : List ℕ) (A B : Txn) → Contains P.txns B → Decides (are_neighbours P.txns x (install_on x A) (install_on x B)) (AreNeighbours x A B)
+  neighbours_decide x A B b = by (install_on x A)
+    where
+      by : (o : Option Installer) → Decides (are_neighbours P.txns x o (install_on x B)) ((m : Installer) × (o ≡ Some m) × Follows x (version.Installed m.commit) B)
+      by None = (λ e. cc, λ r. (let f = r.1 in cc))
+      by (Some m) = Decides-like _ (λ f. (m, refl, f)) (λ r. subst (λ k. Follows x (version.Installed k.commit) B) (sym (same_some r.1)) r.2) (follows_decides x (version.Installed m.commit) B b)

@@ -1,10 +1,9 @@
 -- What the findings of a history have to do with the phenomena. These laws are this project's.
-use Rattle.std.specs.Prelude.{◌≡◌, ◌↔◌, Bool, true, false, List, []}
+use Rattle.std.specs.Prelude.{◌≡◌, ◌⊎◌, ◌↔◌, ℕ, []}
 use Rattle.std.specs.List.{Contains}
-use Rattle.si_model.specs.declared.transactions.Txn.{Txn}
-use Rattle.si_model.specs.declared.kinds.Kind.{Kind}
-use Rattle.si_model.specs.declared.kinds.Kind.TheVariants as kind
 use Rattle.si_model.specs.declared.findings.Finding.{Finding}
+use Rattle.si_model.specs.Parts.{Present}
+use Rattle.si_model.specs.Order.{number}
 use Rattle.si_model.specs.Findings.{findings}
 use Rattle.si_model.specs.History.{IsHistory}
 use Rattle.si_model.specs.Form.{IsWellFormed}
@@ -12,46 +11,44 @@ use Rattle.si_graph.specs.Phenomena.{HasAbortedRead, HasIntermediateRead, HasCir
 
 -- a history has no finding exactly where it is well formed and PL-SI
 abbrev pub EmptinessIsExact : Type 0
-EmptinessIsExact = (P : List Txn) → IsHistory P → (findings P ≡ []) ↔ (IsWellFormed P × IsPlSi P)
+EmptinessIsExact = (P : Present) → IsHistory P → (findings P ≡ []) ↔ (IsWellFormed P × IsPlSi P)
 
--- a finding is of a kind that passes the test
-abbrev pub HasFinding : List Txn → (Kind → Bool) → Type 0
-HasFinding P test = (f : Finding) × Contains (findings P) f × (test f.kind ≡ true)
+-- a finding is of the kind with that number
+abbrev pub HasFinding : Present → ℕ → Type 0
+HasFinding P n = (f : Finding) × Contains (findings P) f × (number f.kind ≡ n)
 
-abbrev pub is_aborted : Kind → Bool
-is_aborted (kind.Aborted t i v u) = true
-is_aborted _ = false
+-- a finding is an aborted read
+abbrev pub FindsAbortedRead : Present → Type 0
+FindsAbortedRead P = HasFinding P 4
 
-abbrev pub is_intermediate : Kind → Bool
-is_intermediate (kind.Intermediate t i v u) = true
-is_intermediate _ = false
+-- a finding is an intermediate read
+abbrev pub FindsIntermediateRead : Present → Type 0
+FindsIntermediateRead P = HasFinding P 5
 
--- future or overlap
-abbrev pub is_interference : Kind → Bool
-is_interference (kind.Future t i v u) = true
-is_interference (kind.Overlap a b) = true
-is_interference _ = false
+-- a finding is a read of the future, or an overlap
+abbrev pub FindsInterference : Present → Type 0
+FindsInterference P = HasFinding P 6 ⊎ HasFinding P 8
 
-abbrev pub is_stale : Kind → Bool
-is_stale (kind.Stale t i v n) = true
-is_stale _ = false
+-- a finding is a stale read
+abbrev pub FindsMissedEffects : Present → Type 0
+FindsMissedEffects P = HasFinding P 7
 
 -- of a well-formed history: G1a is found as aborted reads
 abbrev pub AbortedReadsAreFound : Type 0
-AbortedReadsAreFound = (P : List Txn) → IsHistory P → IsWellFormed P → HasAbortedRead P ↔ HasFinding P is_aborted
+AbortedReadsAreFound = (P : Present) → IsHistory P → IsWellFormed P → HasAbortedRead P ↔ FindsAbortedRead P
 
 -- without an aborted read, G1b is found as intermediate reads
 abbrev pub IntermediateReadsAreFound : Type 0
-IntermediateReadsAreFound = (P : List Txn) → IsHistory P → IsWellFormed P → (HasFinding P is_aborted → ⊥) → HasIntermediateRead P ↔ HasFinding P is_intermediate
+IntermediateReadsAreFound = (P : Present) → IsHistory P → IsWellFormed P → (FindsAbortedRead P → ⊥) → HasIntermediateRead P ↔ FindsIntermediateRead P
 
--- G-SI(a) is found as future reads and overlaps
+-- G-SI(a) is found as reads of the future and overlaps
 abbrev pub InterferenceIsFound : Type 0
-InterferenceIsFound = (P : List Txn) → IsHistory P → IsWellFormed P → HasInterference P ↔ HasFinding P is_interference
+InterferenceIsFound = (P : Present) → IsHistory P → IsWellFormed P → HasInterference P ↔ FindsInterference P
 
 -- without G-SI(a) there is no G1c
 abbrev pub CircularFlowInterferes : Type 0
-CircularFlowInterferes = (P : List Txn) → IsHistory P → IsWellFormed P → (HasInterference P → ⊥) → HasCircularFlow P → ⊥
+CircularFlowInterferes = (P : Present) → IsHistory P → IsWellFormed P → (HasInterference P → ⊥) → HasCircularFlow P → ⊥
 
 -- without G-SI(a), G-SI(b) is found as stale reads
 abbrev pub MissedEffectsAreFound : Type 0
-MissedEffectsAreFound = (P : List Txn) → IsHistory P → IsWellFormed P → (HasInterference P → ⊥) → HasMissedEffects P ↔ HasFinding P is_stale
+MissedEffectsAreFound = (P : Present) → IsHistory P → IsWellFormed P → (HasInterference P → ⊥) → HasMissedEffects P ↔ FindsMissedEffects P

@@ -1,5 +1,5 @@
 -- The tests that decide what an evidence shows: `Shown` in a form that can be computed, this project's choice.
-use Rattle.std.specs.Prelude.{ℕ, Bool, true, false, not, ◌&&◌, if◌then◌else◌, nat_eq, nat_lt, List, [], ◌∷◌, Some, None, Option, is_some, slice_get}
+use Rattle.std.specs.Prelude.{ℕ, Bool, true, false, not, ◌&&◌, ◌||◌, if◌then◌else◌, nat_eq, nat_lt, List, [], ◌∷◌, Some, None, Option, is_some, slice_get}
 use Rattle.std.specs.List.{list_any, list_all, count_by}
 use Rattle.std.specs.Option.{option_eq, option_or}
 use Rattle.si_model.specs.declared.numbers.TxnId.{TxnId}
@@ -12,21 +12,24 @@ use Rattle.si_model.specs.declared.transactions.Status.TheVariants as status
 use Rattle.si_model.specs.declared.transactions.Txn.{Txn}
 use Rattle.si_model.specs.declared.parts.Part.{Part}
 use Rattle.si_model.specs.declared.sights.Installer.{Installer}
-use Rattle.si_model.specs.Parts.{key_of, access_of, same_key, accesses}
-use Rattle.si_model.specs.Versions.{same_value, written, commit_of, last_write, is_after}
+use Rattle.si_model.specs.declared.sights.VersionId.{VersionId}
+use Rattle.si_model.specs.declared.sights.VersionId.TheVariants as version
+use Rattle.si_model.specs.declared.evidence.Label.{Label}
+use Rattle.si_model.specs.declared.evidence.Label.TheVariants as label
+use Rattle.si_model.specs.declared.evidence.Edge.{Edge}
+use Rattle.si_model.specs.declared.evidence.Evidence.{Evidence}
+use Rattle.si_model.specs.declared.evidence.Evidence.TheVariants as evidence
+use Rattle.si_model.specs.Operations.{key_of, access_of, same_value, same_key}
+use Rattle.si_model.specs.Parts.{Present, writes_pair_of, accesses, set_up_value}
+use Rattle.si_model.specs.Versions.{written, commit_of, last_write, install_with, is_after}
 use Rattle.si_model.specs.Edits.{same_id, with_id}
-use Rattle.si_graph.specs.declared.edges.Label.{Label}
-use Rattle.si_graph.specs.declared.edges.Label.TheVariants as label
-use Rattle.si_graph.specs.declared.edges.Edge.{Edge}
-use Rattle.si_graph.specs.declared.evidence.Evidence.{Evidence}
-use Rattle.si_graph.specs.declared.evidence.Evidence.TheVariants as evidence
 use Rattle.si_graph.specs.Walks.{is_rw_edge}
 
 -- ---- one key
 
 -- what T does on the key, perhaps nothing
-abbrev pub on_key : List ℕ → Txn → Part
-on_key x T = record { id = T.id; start = T.start; status = T.status; accesses = accesses x T.ops }
+abbrev pub part_on : List ℕ → Txn → Part
+part_on x T = record { id = T.id; start = T.start; status = T.status; accesses = accesses x T.ops }
 
 -- the value of T's last write of the key
 unfoldable pub last_on : List ℕ → Txn → Option Value
@@ -36,53 +39,38 @@ last_on x T = last_write (accesses x T.ops)
 abbrev pub last_after : List ℕ → Option Value → Op → Option Value
 last_after x last p = if same_key (key_of p) x then option_or (written (access_of p)) last else last
 
--- the installer of a version, where there are a commit stamp and a last write
-abbrev pub install_by : Txn → Option Stamp → Option Value → Option Installer
-install_by T (Some c) (Some v) = Some (record { txn = T.id; start = T.start; commit = c })
-install_by T (Some c) None = None
-install_by T None v = None
-
 -- T as the installer of a version of the key
 abbrev pub install_on : List ℕ → Txn → Option Installer
-install_on x T = install_by T (commit_of T.status) (last_on x T)
+install_on x T = install_with (part_on x T) (commit_of T.status) (last_on x T)
 
 -- whether T's last write of the key is of the value
 abbrev pub is_last_on : List ℕ → Value → Txn → Bool
 is_last_on x v T = option_eq same_value (last_on x T) (Some v)
 
--- whether the operation writes the value to the key
-abbrev pub is_write_on : List ℕ → Value → Op → Bool
-is_write_on x v (op.Read y w) = false
-is_write_on x v (op.Write y w) = same_value w v && same_key y x
-
--- whether T writes the value to the key
-abbrev pub writes_on : List ℕ → Value → Txn → Bool
-writes_on x v T = list_any (is_write_on x v) T.ops
-
 -- ---- versions
 
 -- whether a version comes after another and before the commit stamp c
-abbrev pub is_between : Option Stamp → Stamp → Option Installer → Bool
-is_between after c None = false
-is_between after c (Some m) = is_after after m.commit && nat_lt m.commit.0 c.0
+abbrev pub is_between : VersionId → Stamp → Option Installer → Bool
+is_between a c None = false
+is_between a c (Some m) = is_after a m.commit && nat_lt m.commit.0 c.0
 
 -- whether T installs no version of the key between two
-abbrev pub stays_out : List ℕ → Option Stamp → Stamp → Txn → Bool
-stays_out x after c T = not (is_between after c (install_on x T))
+abbrev pub stays_out : List ℕ → VersionId → Stamp → Txn → Bool
+stays_out x a c T = not (is_between a c (install_on x T))
 
 -- whether the version of the commit stamp c is next after another
-abbrev pub is_next_on : List Txn → List ℕ → Option Stamp → Stamp → Bool
-is_next_on P x after c = is_after after c && list_all (stays_out x after c) P
+abbrev pub is_next_on : List Txn → List ℕ → VersionId → Stamp → Bool
+is_next_on txns x a c = is_after a c && list_all (stays_out x a c) txns
 
 -- whether there is an installer, of the version next after another
-abbrev pub follows : List Txn → List ℕ → Option Stamp → Option Installer → Bool
-follows P x after None = false
-follows P x after (Some n) = is_next_on P x after n.commit
+abbrev pub follows : List Txn → List ℕ → VersionId → Option Installer → Bool
+follows txns x a None = false
+follows txns x a (Some n) = is_next_on txns x a n.commit
 
 -- whether there are two installers, of neighbouring versions
 abbrev pub are_neighbours : List Txn → List ℕ → Option Installer → Option Installer → Bool
-are_neighbours P x None n = false
-are_neighbours P x (Some m) n = follows P x (Some m.commit) n
+are_neighbours txns x None n = false
+are_neighbours txns x (Some m) n = follows txns x (version.Installed m.commit) n
 
 -- ---- edges
 
@@ -92,11 +80,11 @@ is_committed T = is_some (commit_of T.status)
 
 -- whether A and B install neighbouring versions of the key
 abbrev pub write_depends_on : List Txn → Txn → Txn → List ℕ → Bool
-write_depends_on P A B x = are_neighbours P x (install_on x A) (install_on x B)
+write_depends_on txns A B x = are_neighbours txns x (install_on x A) (install_on x B)
 
 -- whether A and B install neighbouring versions of the operation's key
 abbrev pub write_depends_at : List Txn → Txn → Txn → Op → Bool
-write_depends_at P A B p = write_depends_on P A B (key_of p)
+write_depends_at txns A B p = write_depends_on txns A B (key_of p)
 
 -- whether the operation is a read that returned A's last write of its key
 abbrev pub reads_last_of : Txn → Op → Bool
@@ -106,12 +94,20 @@ reads_last_of A (op.Write x v) = false
 
 -- whether T installs the value, and the next version is the other's
 abbrev pub precedes : List Txn → List ℕ → Value → Option Installer → Txn → Bool
-precedes P x v n T = is_last_on x v T && are_neighbours P x (install_on x T) n
+precedes txns x v n T = is_last_on x v T && are_neighbours txns x (install_on x T) n
+
+-- whether a transaction installs what was read, and the next version is the other's
+abbrev pub one_precedes : List Txn → List ℕ → Option Value → Option Installer → Bool
+one_precedes txns x None n = false
+one_precedes txns x (Some v) n = list_any (precedes txns x v n) txns
+
+-- whether the initial version returns what was read, and the next version is the other's
+abbrev pub initial_precedes : Present → List ℕ → Option Value → Option Installer → Bool
+initial_precedes P x v n = option_eq same_value v (set_up_value x P.initial) && follows P.txns x version.Initial n
 
 -- whether the operation is a read that returned the version before B's
-abbrev pub reads_before : List Txn → Txn → Op → Bool
-reads_before P B (op.Read x None) = follows P x None (install_on x B)
-reads_before P B (op.Read x (Some v)) = list_any (precedes P x v (install_on x B)) P
+abbrev pub reads_before : Present → Txn → Op → Bool
+reads_before P B (op.Read x v) = initial_precedes P x v (install_on x B) || one_precedes P.txns x v (install_on x B)
 reads_before P B (op.Write x v) = false
 
 -- whether there is a commit stamp, less than the start stamp
@@ -124,26 +120,26 @@ abbrev pub is_not_before : Option Stamp → Stamp → Bool
 is_not_before None s = false
 is_not_before (Some c) s = not (nat_lt c.0 s.0)
 
--- whether a dependency of that label leads from A to B
-abbrev pub leads : List Txn → Label → Txn → Txn → Bool
-leads P label.Ww A B = list_any (write_depends_at P A B) A.ops
-leads P label.Wr A B = is_committed A && (is_committed B && list_any (reads_last_of A) B.ops)
-leads P label.Rw A B = is_committed A && list_any (reads_before P B) A.ops
-leads P label.St A B = is_before (commit_of A.status) B.start && is_committed B
+-- whether a dependency of that label connects A to B
+abbrev pub connects : Present → Label → Txn → Txn → Bool
+connects P label.Ww A B = list_any (write_depends_at P.txns A B) A.ops
+connects P label.Wr A B = is_committed A && (is_committed B && list_any (reads_last_of A) B.ops)
+connects P label.Rw A B = is_committed A && list_any (reads_before P B) A.ops
+connects P label.St A B = is_before (commit_of A.status) B.start && is_committed B
 
 -- whether A commits at the start of B or later, and B commits
 abbrev pub commits_late : Txn → Txn → Bool
 commits_late A B = is_not_before (commit_of A.status) B.start && is_committed B
 
 -- whether there are two transactions that pass the test
-abbrev pub both : (Txn → Txn → Bool) → Option Txn → Option Txn → Bool
-both test None o = false
-both test (Some A) None = false
-both test (Some A) (Some B) = test A B
+abbrev pub both_pass : (Txn → Txn → Bool) → Option Txn → Option Txn → Bool
+both_pass test None o = false
+both_pass test (Some A) None = false
+both_pass test (Some A) (Some B) = test A B
 
 -- whether e is an edge of the graph
-abbrev pub is_edge : List Txn → Edge → Bool
-is_edge P e = not (same_id e.from e.to) && both (leads P e.label) (with_id P e.from) (with_id P e.to)
+abbrev pub is_edge : Present → Edge → Bool
+is_edge P e = not (same_id e.from e.to) && both_pass (connects P e.label) (with_id P.txns e.from) (with_id P.txns e.to)
 
 -- whether the label is that of a ww or wr edge
 abbrev pub is_dependency : Label → Bool
@@ -175,41 +171,41 @@ is_aborted status.InDoubt = false
 -- whether the operation is a read that returned a value which W writes to its key
 abbrev pub reads_write_of : Txn → Op → Bool
 reads_write_of W (op.Read x None) = false
-reads_write_of W (op.Read x (Some v)) = writes_on x v W
+reads_write_of W (op.Read x (Some v)) = writes_pair_of (op.Write x v) W
 reads_write_of W (op.Write x v) = false
 
 -- the same, and the value isn't W's last write of that key
 abbrev pub reads_earlier_of : Txn → Op → Bool
 reads_earlier_of W (op.Read x None) = false
-reads_earlier_of W (op.Read x (Some v)) = writes_on x v W && not (is_last_on x v W)
+reads_earlier_of W (op.Read x (Some v)) = writes_pair_of (op.Write x v) W && not (is_last_on x v W)
 reads_earlier_of W (op.Write x v) = false
 
 -- whether there is an operation, and it passes the test
-abbrev pub is_there : (Op → Bool) → Option Op → Bool
-is_there test None = false
-is_there test (Some p) = test p
+abbrev pub passes_there : (Op → Bool) → Option Op → Bool
+passes_there test None = false
+passes_there test (Some p) = test p
 
 -- whether T, which committed, read at the place i what W writes, which aborted
 abbrev pub is_aborted_read : ℕ → Txn → Txn → Bool
-is_aborted_read i T W = is_committed T && (is_aborted W.status && is_there (reads_write_of W) (slice_get T.ops i))
+is_aborted_read i T W = is_committed T && (is_aborted W.status && passes_there (reads_write_of W) (slice_get T.ops i))
 
 -- whether T, which committed, read at the place i what W, another one, writes before its last write
 abbrev pub is_intermediate_read : ℕ → Txn → Txn → Bool
-is_intermediate_read i T W = is_committed T && (not (same_id W.id T.id) && is_there (reads_earlier_of W) (slice_get T.ops i))
+is_intermediate_read i T W = is_committed T && (not (same_id W.id T.id) && passes_there (reads_earlier_of W) (slice_get T.ops i))
 
 -- ---- evidence
 
 -- whether the edge is of interference
-abbrev pub is_interference : List Txn → Edge → Bool
-is_interference P e = is_dependency e.label && (is_edge P e && both commits_late (with_id P e.from) (with_id P e.to))
+abbrev pub is_interference : Present → Edge → Bool
+is_interference P e = is_dependency e.label && (is_edge P e && both_pass commits_late (with_id P.txns e.from) (with_id P.txns e.to))
 
 -- whether the edges are of missed effects
-abbrev pub are_missed : List Txn → List Edge → Bool
+abbrev pub are_missed : Present → List Edge → Bool
 are_missed P es = is_closed es && (nat_eq (count_by is_rw_edge es) 1 && list_all (is_edge P) es)
 
--- whether the evidence holds of these transactions
-abbrev pub holds : List Txn → Evidence → Bool
-holds P (evidence.AbortedRead t i w) = both (is_aborted_read i) (with_id P t) (with_id P w)
-holds P (evidence.IntermediateRead t i w) = both (is_intermediate_read i) (with_id P t) (with_id P w)
+-- whether the evidence holds of what is present
+abbrev pub holds : Present → Evidence → Bool
+holds P (evidence.AbortedRead t i w) = both_pass (is_aborted_read i) (with_id P.txns t) (with_id P.txns w)
+holds P (evidence.IntermediateRead t i w) = both_pass (is_intermediate_read i) (with_id P.txns t) (with_id P.txns w)
 holds P (evidence.Interference e) = is_interference P e
-holds P (evidence.Missed es) = are_missed P es.items
+holds P (evidence.Missed es) = are_missed P es

@@ -1,17 +1,29 @@
 -- The laws of the definitions, each the contract of a public function of `laws` with an empty body. They are this project's.
-use Rattle.std.specs.Prelude.{List}
-use Rattle.si_model.specs.declared.transactions.Txn.{Txn}
+use Rattle.std.specs.Prelude.{◌≡◌, ◌↔◌, List, Some}
 use Rattle.si_model.specs.declared.findings.Finding.{Finding}
+use Rattle.si_model.specs.declared.evidence.Edge.{Edge}
+use Rattle.si_model.specs.declared.evidence.Evidence.{Evidence}
+use Rattle.si_model.specs.declared.evidence.Evidence.TheVariants as evidence
+use Rattle.si_model.specs.Parts.{Present}
 use Rattle.si_model.specs.Findings.{IsFinding}
 use Rattle.si_model.specs.History.{IsHistory}
-use Rattle.si_graph.specs.declared.evidence.Evidence.{Evidence}
-use Rattle.si_graph.specs.declared.evidence.Evidence.TheVariants as evidence
-use Rattle.si_graph.specs.Phenomena.{HasAbortedRead, HasIntermediateRead, HasInterference, HasMissedEffects, IsPlSi}
+use Rattle.si_model.specs.Evidence.{evidence_of}
+use Rattle.si_model.specs.Laws.{FindingsAreExact, FormIsFound, KeysAreOfHistory, PartsAreOfTransactions, AccessesAreOperations, PartsDiffer, TestsDecide}
+use Rattle.si_model.specs.Laws.{LastWriteIsFinal, OwnValueIsLast, LaterIsLater, IdIsFound, InstallIsExact, SourceIsExact, SightIsExact}
+use Rattle.si_graph.specs.Walks.{IsClosedWalk, AreDependencies, HasOneRw}
+use Rattle.si_graph.specs.Phenomena.{HasAbortedRead, HasIntermediateRead, HasCircularFlow, HasInterference, HasMissedEffects, IsPlSi}
 use Rattle.si_graph.specs.Shown.{Shows}
-use Rattle.si_graph.specs.Explanations.{Explains}
+
+-- a closed walk of ww and wr edges is there exactly where a cycle of them is
+abbrev pub CircularWalksHaveCycles : Type 0
+CircularWalksHaveCycles = (P : Present) → ((es : List Edge) × IsClosedWalk P es × AreDependencies es) ↔ HasCircularFlow P
+
+-- a closed walk with exactly one rw edge is there exactly where a cycle with exactly one is
+abbrev pub MissedWalksHaveCycles : Type 0
+MissedWalksHaveCycles = (P : Present) → ((es : List Edge) × IsClosedWalk P es × HasOneRw es) ↔ HasMissedEffects P
 
 -- the phenomenon that an evidence is of
-abbrev pub HasPhenomenonOf : List Txn → Evidence → Type 0
+abbrev pub HasPhenomenonOf : Present → Evidence → Type 0
 HasPhenomenonOf P (evidence.AbortedRead t i w) = HasAbortedRead P
 HasPhenomenonOf P (evidence.IntermediateRead t i w) = HasIntermediateRead P
 HasPhenomenonOf P (evidence.Interference e) = HasInterference P
@@ -19,12 +31,29 @@ HasPhenomenonOf P (evidence.Missed es) = HasMissedEffects P
 
 -- an evidence that holds of a history is of a phenomenon that is there
 abbrev pub ShownIsThere : Type 0
-ShownIsThere = (P : List Txn) (e : Evidence) → IsHistory P → Shows P e → HasPhenomenonOf P e
+ShownIsThere = (P : Present) (e : Evidence) → IsHistory P → Shows P e → HasPhenomenonOf P e
 
 -- no evidence holds of a history of snapshot isolation
 abbrev pub NothingIsShown : Type 0
-NothingIsShown = (P : List Txn) (e : Evidence) → IsHistory P → IsPlSi P → Shows P e → ⊥
+NothingIsShown = (P : Present) (e : Evidence) → IsHistory P → IsPlSi P → Shows P e → ⊥
 
--- an evidence that explains a finding of a history holds of it
+-- the evidence for a finding of a history holds of it
 abbrev pub ExplainedIsShown : Type 0
-ExplainedIsShown = (P : List Txn) (f : Finding) (e : Evidence) → IsHistory P → IsFinding P f → Explains f.kind e → Shows P e
+ExplainedIsShown = (P : Present) (f : Finding) (e : Evidence) → IsHistory P → IsFinding P f → evidence_of f.kind ≡ Some e → Shows P e
+
+-- the laws of `si_model` that these rest on, as one fact
+pub record ModelLaws : Type 0 where
+  pub findings : FindingsAreExact
+  pub form : FormIsFound
+  pub keys : KeysAreOfHistory
+  pub parts : PartsAreOfTransactions
+  pub accesses : AccessesAreOperations
+  pub differ : PartsDiffer
+  pub tests : TestsDecide
+  pub last : LastWriteIsFinal
+  pub own : OwnValueIsLast
+  pub later : LaterIsLater
+  pub ids : IdIsFound
+  pub installs : InstallIsExact
+  pub sources : SourceIsExact
+  pub sights : SightIsExact

@@ -1,8 +1,8 @@
 pub mod Edges
 pub mod Walks
 pub mod Phenomena
+pub mod Emptiness
 pub mod Shown
-pub mod EvidenceTests
 pub mod Explanations
 pub mod Laws
-pub mod Emptiness
+pub mod EvidenceTests

@@ -4,24 +4,25 @@ use Rattle.si_model.specs.declared.numbers.TxnId.{TxnId}
 use Rattle.si_model.specs.declared.numbers.Stamp.{Stamp}
 use Rattle.si_model.specs.declared.transactions.Txn.{Txn}
 use Rattle.si_model.specs.declared.parts.Part.{Part}
-use Rattle.si_model.specs.Parts.{parts}
-use Rattle.si_graph.specs.declared.evidence.Evidence.{Evidence}
-use Rattle.si_graph.specs.declared.evidence.Evidence.TheVariants as evidence
+use Rattle.si_model.specs.declared.parts.OnKey.{OnKey}
+use Rattle.si_model.specs.Parts.{Present, on_key}
+use Rattle.si_model.specs.declared.evidence.Evidence.{Evidence}
+use Rattle.si_model.specs.declared.evidence.Evidence.TheVariants as evidence
 use Rattle.si_graph.specs.Edges.{IsNode, IsEdge, IsDependency}
 use Rattle.si_graph.specs.Walks.{IsClosedWalk, HasOneRw}
 use Rattle.si_graph.specs.Phenomena.{IsAbortedRead, IsIntermediateRead}
 
 -- the read at the place i of the transaction of id t, and the writer of id w, are so related on some key
-pub record IsReadFrom (P : List Txn) (R : List Part → Part → ℕ → Part → Type 0) (t : TxnId) (i : ℕ) (w : TxnId) : Type 0 where
+pub record IsReadFrom (P : Present) (R : OnKey → Part → ℕ → Part → Type 0) (t : TxnId) (i : ℕ) (w : TxnId) : Type 0 where
   pub key : List ℕ
   pub reader : Part
   pub writer : Part
-  pub related : R (parts key P) reader i writer
+  pub related : R (on_key key P) reader i writer
   pub reads : reader.id ≡ t
   pub writes : writer.id ≡ w
 
 -- the commit stamp of a isn't less than the start stamp of b
-pub record IsNotBefore (P : List Txn) (a b : TxnId) : Type 0 where
+pub record IsNotBefore (P : Present) (a b : TxnId) : Type 0 where
   pub first : Txn
   pub second : Txn
   pub commit : Stamp
@@ -31,8 +32,8 @@ pub record IsNotBefore (P : List Txn) (a b : TxnId) : Type 0 where
   pub not_before : second.start.0 ≤ commit.0
 
 -- the evidence holds of these transactions
-abbrev pub Shows : List Txn → Evidence → Type 0
+abbrev pub Shows : Present → Evidence → Type 0
 Shows P (evidence.AbortedRead t i w) = IsReadFrom P IsAbortedRead t i w
 Shows P (evidence.IntermediateRead t i w) = IsReadFrom P IsIntermediateRead t i w
 Shows P (evidence.Interference e) = IsEdge P e × IsDependency e.label × IsNotBefore P e.from e.to
-Shows P (evidence.Missed es) = IsClosedWalk P es.items × HasOneRw es.items
+Shows P (evidence.Missed es) = IsClosedWalk P es × HasOneRw es

@@ -2,45 +2,48 @@
 
 ghost use Rattle.std.specs.Prelude.{◌≡◌, ◌↔◌, IsTrue};
 ghost use Rattle.std.specs.List.{list_all, count_by};
+ghost use Rattle.si_model.specs.Parts.{Present};
 ghost use Rattle.si_model.specs.History.{IsHistory};
-ghost use Rattle.si_model.specs.Edits.{with_id};
 ghost use Rattle.si_graph.specs.Shown.{Shows};
 ghost use Rattle.si_graph.specs.EvidenceTests.{is_edge, is_aborted, reads_write_of, reads_earlier_of, is_aborted_read, is_intermediate_read, is_interference, commits_late, is_not_before, is_dependency, is_walk, is_closed, are_missed, holds};
 ghost use Rattle.si_graph.specs.Walks.{is_rw_edge};
 
+use crate::dependencies::{is_committed, is_edge};
 use crate::keys::{is_last_on, writes_on};
-use crate::leads::{is_committed, is_edge, with_id};
+use crate::laws::model_laws;
 use crate::{Edge, Evidence, Label};
-use si_model::{Op, Stamp, Status, Txn, TxnId};
+use si_model::plain::find_with_id;
+use si_model::{Key, Op, Stamp, Status, Txn, TxnId, Value};
 
-/// Whether the evidence holds of these transactions. A yes means that the phenomenon is there.
+/// Whether the evidence holds of these transactions and set-up values. A yes means that the phenomenon is there.
 ///
 /// It takes no memory. For each edge it walks all transactions for each operation of its ends.
-pub fn check_evidence(txns: &[Txn], evidence: &Evidence) -> bool
-    requires { IsHistory txns.now }
-    ensures { IsTrue result ↔ Shows txns.now evidence.now }
+pub fn check_evidence(txns: &[Txn], initial: &[(Key, Value)], evidence: &Evidence) -> bool
+    requires { IsHistory (record { txns = txns.now; initial = initial.now }) }
+    ensures { IsTrue result ↔ Shows (record { txns = txns.now; initial = initial.now }) evidence.now }
 {
-    holds(txns, evidence)
+    model_laws();
+    holds(txns, initial, evidence)
 }
 
-fn holds(txns: &[Txn], evidence: &Evidence) -> bool
-    ensures { result ≡ holds txns.now evidence.now }
+fn holds(txns: &[Txn], initial: &[(Key, Value)], evidence: &Evidence) -> bool
+    ensures { result ≡ holds (record { txns = txns.now; initial = initial.now }) evidence.now }
 {
     match evidence {
         Evidence::AbortedRead { reader, op, writer } => {
-            match (with_id(txns, *reader), with_id(txns, *writer)) {
+            match (find_with_id(txns, *reader), find_with_id(txns, *writer)) {
                 (Some(reader), Some(writer)) => is_aborted_read(*op, reader, writer),
                 _ => false,
             }
         }
         Evidence::IntermediateRead { reader, op, writer } => {
-            match (with_id(txns, *reader), with_id(txns, *writer)) {
+            match (find_with_id(txns, *reader), find_with_id(txns, *writer)) {
                 (Some(reader), Some(writer)) => is_intermediate_read(*op, reader, writer),
                 _ => false,
             }
         }
-        Evidence::Interference(edge) => is_interference(txns, *edge),
-        Evidence::Missed(edges) => are_missed(txns, edges),
+        Evidence::Interference(edge) => is_interference(txns, initial, *edge),
+        Evidence::Missed(walk) => are_missed(txns, initial, walk.as_slice()),
     }
 }
 
@@ -95,12 +98,12 @@ fn reads_earlier_of(writer: &Txn, op: &Op) -> bool
     }
 }
 
-fn is_interference(txns: &[Txn], edge: Edge) -> bool
-    ensures { result ≡ is_interference txns.now edge }
+fn is_interference(txns: &[Txn], initial: &[(Key, Value)], edge: Edge) -> bool
+    ensures { result ≡ is_interference (record { txns = txns.now; initial = initial.now }) edge }
 {
     is_dependency(edge.label)
-        && is_edge(txns, edge)
-        && match (with_id(txns, edge.from), with_id(txns, edge.to)) {
+        && is_edge(txns, initial, edge)
+        && match (find_with_id(txns, edge.from), find_with_id(txns, edge.to)) {
             (Some(from), Some(to)) => commits_late(from, to),
             _ => false,
         }
@@ -130,10 +133,10 @@ fn is_not_before(commit: Option<Stamp>, start: Stamp) -> bool
     }
 }
 
-fn are_missed(txns: &[Txn], edges: &[Edge]) -> bool
-    ensures { result ≡ are_missed txns.now edges.now }
+fn are_missed(txns: &[Txn], initial: &[(Key, Value)], edges: &[Edge]) -> bool
+    ensures { result ≡ are_missed (record { txns = txns.now; initial = initial.now }) edges.now }
 {
-    is_closed(edges) && count_of_rw(edges) == 1 && are_edges(txns, edges)
+    is_closed(edges) && count_of_rw(edges) == 1 && are_edges(txns, initial, edges)
 }
 
 fn count_of_rw(edges: &[Edge]) -> usize
@@ -142,10 +145,10 @@ fn count_of_rw(edges: &[Edge]) -> usize
     edges.iter().filter(|edge| is_rw_edge(edge)).count()
 }
 
-fn are_edges(txns: &[Txn], edges: &[Edge]) -> bool
-    ensures { result ≡ list_all (is_edge txns.now) edges.now }
+fn are_edges(txns: &[Txn], initial: &[(Key, Value)], edges: &[Edge]) -> bool
+    ensures { result ≡ list_all (is_edge (record { txns = txns.now; initial = initial.now })) edges.now }
 {
-    edges.iter().all(|edge| is_edge(txns, *edge))
+    edges.iter().all(|edge| is_edge(txns, initial, *edge))
 }
 
 fn is_rw_edge(edge: &Edge) -> bool

@@ -1,7 +1,9 @@
 //! What a transaction does on one key, found by walking its operations.
 
 ghost use Rattle.std.specs.Prelude.{◌≡◌, None, fold};
-ghost use Rattle.si_graph.specs.EvidenceTests.{last_on, last_after, install_on, is_last_on, is_write_on, writes_on};
+ghost use Rattle.si_model.specs.Operations.{same_write};
+ghost use Rattle.si_model.specs.Parts.{writes_pair_of};
+ghost use Rattle.si_graph.specs.EvidenceTests.{last_on, last_after, install_on, is_last_on};
 
 use si_model::{Installer, Key, Op, Txn, Value};
 
@@ -50,7 +52,7 @@ pub fn is_last_on(key: &Key, value: Value, txn: &Txn) -> bool
 
 /// Whether the transaction writes the value to the key.
 pub fn writes_on(key: &Key, value: Value, txn: &Txn) -> bool
-    ensures { result ≡ writes_on key.now value txn.now }
+    ensures { result ≡ writes_pair_of (Op.Write key.now value) txn.now }
 {
     txn.ops
         .as_slice()
@@ -59,10 +61,10 @@ pub fn writes_on(key: &Key, value: Value, txn: &Txn) -> bool
 }
 
 fn is_write_on(key: &Key, value: Value, op: &Op) -> bool
-    ensures { result ≡ is_write_on key.now value op.now }
+    ensures { result ≡ same_write (Op.Write key.now value) op.now }
 {
     match op {
         Op::Read(..) => false,
-        Op::Write(written_key, written) => *written == value && written_key == key,
+        Op::Write(other_key, other) => value == *other && key == other_key,
     }
 }

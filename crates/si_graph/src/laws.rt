@@ -2,75 +2,101 @@
 //! call the laws of `si_model` that they rest on.
 
 ghost use Rattle.si_graph.specs.Emptiness.{AbortedReadsAreFound, CircularFlowInterferes, EmptinessIsExact, InterferenceIsFound, IntermediateReadsAreFound, MissedEffectsAreFound};
-ghost use Rattle.si_graph.specs.Laws.{ShownIsThere, NothingIsShown, ExplainedIsShown};
+ghost use Rattle.si_graph.specs.Laws.{CircularWalksHaveCycles, MissedWalksHaveCycles, ShownIsThere, NothingIsShown, ExplainedIsShown, ModelLaws};
 
-use si_model::laws::{findings_are_exact, form_is_found, parts_are_of_history};
+use si_model::laws::{
+    accesses_are_operations, findings_are_exact, form_is_found, id_is_found, install_is_exact,
+    keys_are_of_history, last_write_is_final, later_is_later, own_value_is_last,
+    parts_are_of_transactions, parts_differ, sight_is_exact, source_is_exact, tests_decide,
+};
 
 /// A history has no finding exactly where it is well formed and PL-SI.
 pub fn emptiness_is_exact()
     ensures { EmptinessIsExact }
 {
-    findings_are_exact();
-    form_is_found();
-    parts_are_of_history();
+    model_laws();
 }
 
 /// Of a well-formed history, G1a is there exactly where a finding is an aborted read.
 pub fn aborted_reads_are_found()
     ensures { AbortedReadsAreFound }
 {
-    findings_are_exact();
-    form_is_found();
-    parts_are_of_history();
+    model_laws();
 }
 
 /// Without an aborted read, G1b is there exactly where a finding is an intermediate read.
 pub fn intermediate_reads_are_found()
     ensures { IntermediateReadsAreFound }
 {
-    findings_are_exact();
-    form_is_found();
-    parts_are_of_history();
+    model_laws();
 }
 
-/// G-SI(a) is there exactly where a finding is a future read or an overlap.
+/// G-SI(a) is there exactly where a finding is a read of the future or an overlap.
 pub fn interference_is_found()
     ensures { InterferenceIsFound }
 {
-    findings_are_exact();
-    form_is_found();
-    parts_are_of_history();
+    model_laws();
 }
 
 /// Without G-SI(a), G1c is not there.
 pub fn circular_flow_interferes()
     ensures { CircularFlowInterferes }
 {
-    findings_are_exact();
-    form_is_found();
-    parts_are_of_history();
+    model_laws();
 }
 
 /// Without G-SI(a), G-SI(b) is there exactly where a finding is a stale read.
 pub fn missed_effects_are_found()
     ensures { MissedEffectsAreFound }
 {
-    findings_are_exact();
-    form_is_found();
-    parts_are_of_history();
+    model_laws();
 }
 
+/// A closed walk of ww and wr edges is there exactly where a cycle of them is, G1c.
+pub fn circular_walks_have_cycles()
+    ensures { CircularWalksHaveCycles }
+{}
+
+/// A closed walk with exactly one rw edge is there exactly where a cycle with exactly one is, G-SI(b).
+pub fn missed_walks_have_cycles()
+    ensures { MissedWalksHaveCycles }
+{}
+
 /// An evidence that holds of a history is of a phenomenon that is there.
+#[tactic(auto, using(crate::proofs::Phenomena::shown_is_there))]
 pub fn shown_is_there()
     ensures { ShownIsThere }
 {}
 
 /// No evidence holds of a history of snapshot isolation.
+#[tactic(auto, using(crate::proofs::Phenomena::nothing_is_shown))]
 pub fn nothing_is_shown()
     ensures { NothingIsShown }
 {}
 
-/// An evidence that explains a finding of a history holds of it.
+/// The evidence for a finding of a history holds of it.
 pub fn explained_is_shown()
     ensures { ExplainedIsShown }
-{}
+{
+    model_laws();
+}
+
+/// The laws of `si_model` that these rest on.
+pub(crate) fn model_laws()
+    ensures { ModelLaws }
+{
+    findings_are_exact();
+    form_is_found();
+    keys_are_of_history();
+    parts_are_of_transactions();
+    accesses_are_operations();
+    parts_differ();
+    tests_decide();
+    last_write_is_final();
+    own_value_is_last();
+    later_is_later();
+    id_is_found();
+    install_is_exact();
+    source_is_exact();
+    sight_is_exact();
+}

@@ -1,25 +1,23 @@
-//! The start-ordered serialization graph of a history: its edges, its walks, the phenomena that snapshot isolation forbids,
+//! The start-ordered serialization graph of a history: its edges, its cycles, the phenomena that snapshot isolation forbids,
 //! and the evidence that a finding stands for one of them.
 //!
 //! It carries the promise that each finding that breaks snapshot isolation is explained by an evidence, that an evidence is
-//! checked by itself and without memory, and that a checked one is a phenomenon. It stands on `si_model` and `thiserror`.
+//! checked by itself and without memory, and that a checked one is a phenomenon. It stands on `si_model` and `thiserror`,
+//! and its proofs on `si_lists`.
 #![tactic(auto)]
 
 pub mod checks;
-pub mod edges;
-pub mod evidence;
+mod dependencies;
 pub mod explanations;
 pub mod faults;
 mod keys;
 pub mod laws;
-mod leads;
 mod versions;
 
 pub use checks::check_evidence;
-pub use edges::{Edge, Label};
-pub use evidence::Evidence;
-pub use explanations::{evidence_of, explain};
+pub use explanations::explain;
 pub use faults::ExplainFault;
+pub use si_model::{Edge, Evidence, Label, Walk, evidence_of};
 
 #[cfg(test)]
 mod tests;

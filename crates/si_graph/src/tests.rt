@@ -1,10 +1,11 @@
 //! Small histories with the evidence for their findings, worked out by hand.
 
 ghost use Rattle.std.specs.Prelude.{IsTrue};
+ghost use Rattle.si_model.specs.Parts.{Present};
 ghost use Rattle.si_model.specs.History.{IsHistory};
 
 use crate::Label::{Rw, St, Wr, Ww};
-use crate::{Edge, Evidence, ExplainFault, Label, check_evidence, explain};
+use crate::{Edge, Evidence, ExplainFault, Label, Walk, check_evidence, explain};
 use si_model::operations::MOST_OPS;
 use si_model::{
     Finding, Key, Kind, Op, Ops, OutOfMemory, Stamp, Status, Txn, TxnId, Value, findings_of,
@@ -25,6 +26,9 @@ use Do::{R, W};
 
 /// A transaction, as a history is written down here: its id, start, status and operations.
 type Row<'a> = (u64, u64, Status, &'a [Do]);
+
+/// A key and the value that it was set up with.
+type SetUp = (&'static str, u64);
 
 fn committed(stamp: u64) -> Status {
     Status::Committed(Stamp(stamp))
@@ -69,6 +73,18 @@ fn txns(rt: &impl Abort, alloc: Global, rows: &[Row]) -> Result<Vec<Txn>, OutOfM
     Ok(txns)
 }
 
+fn set_up(
+    rt: &impl Abort,
+    alloc: Global,
+    pairs: &[SetUp],
+) -> Result<Vec<(Key, Value)>, OutOfMemory> {
+    let mut initial = Vec::new(alloc);
+    for pair in pairs {
+        initial.push((key(rt, alloc, pair.0)?, Value(pair.1)))?;
+    }
+    Ok(initial)
+}
+
 fn edge(from: u64, label: Label, to: u64) -> Edge {
     Edge {
         from: TxnId(from),
@@ -82,7 +98,7 @@ fn missed(alloc: Global, edges: &[Edge]) -> Result<Evidence, OutOfMemory> {
     for edge in edges {
         walk.push(*edge)?;
     }
-    Ok(Evidence::Missed(walk))
+    Ok(Evidence::Missed(Walk::from_vec(walk)))
 }
 
 fn aborted_read(reader: u64, op: usize, writer: u64) -> Evidence {
@@ -108,12 +124,24 @@ fn holds(
     rows: &[Row],
     evidence: &Evidence,
 ) -> Result<bool, OutOfMemory> {
+    holds_after(rt, alloc, &[], rows, evidence)
+}
+
+/// The same where keys are set up.
+fn holds_after(
+    rt: &impl Abort,
+    alloc: Global,
+    pairs: &[SetUp],
+    rows: &[Row],
+    evidence: &Evidence,
+) -> Result<bool, OutOfMemory> {
     let mut txns = txns(rt, alloc, rows)?;
-    assert!(rt; is_history(&txns));
-    let answer = check_evidence(&txns, evidence);
+    let initial = set_up(rt, alloc, pairs)?;
+    assert!(rt; is_history(&txns, &initial));
+    let answer = check_evidence(&txns, &initial, evidence);
     txns.reverse();
-    assert!(rt; is_history(&txns));
-    assert_eq!(rt; check_evidence(&txns, evidence), answer);
+    assert!(rt; is_history(&txns, &initial));
+    assert_eq!(rt; check_evidence(&txns, &initial, evidence), answer);
     Ok(answer)
 }
 
@@ -124,25 +152,37 @@ fn explained(
     rows: &[Row],
     kind: Kind,
 ) -> Result<Result<Evidence, ExplainFault>, OutOfMemory> {
+    explained_after(rt, alloc, &[], rows, kind)
+}
+
+/// The same where keys are set up.
+fn explained_after(
+    rt: &impl Abort,
+    alloc: Global,
+    pairs: &[SetUp],
+    rows: &[Row],
+    kind: Kind,
+) -> Result<Result<Evidence, ExplainFault>, OutOfMemory> {
     let txns = txns(rt, alloc, rows)?;
-    assert!(rt; is_history(&txns));
-    let found = findings_of(alloc, &txns)?;
+    let initial = set_up(rt, alloc, pairs)?;
+    assert!(rt; is_history(&txns, &initial));
+    let found = findings_of(alloc, &txns, &initial)?;
     assert_eq!(rt; found.len(), 1);
     let finding = Finding {
         key: key(rt, alloc, "x")?,
         kind,
     };
-    assert!(rt; explained_holds(alloc, &txns, &finding));
-    Ok(explain(alloc, &txns, &finding))
+    assert!(rt; explained_holds(alloc, &txns, &initial, &finding));
+    Ok(explain(alloc, &txns, &initial, &finding))
 }
 
 /// Whatever explains a finding is found to hold: this is proved, by the two contracts.
-fn explained_holds(alloc: Global, txns: &[Txn], finding: &Finding) -> bool
-    requires { IsHistory txns.now }
+fn explained_holds(alloc: Global, txns: &[Txn], initial: &[(Key, Value)], finding: &Finding) -> bool
+    requires { IsHistory (record { txns = txns.now; initial = initial.now }) }
     ensures { IsTrue result }
 {
-    match explain(alloc, txns, finding) {
-        Ok(evidence) => check_evidence(txns, &evidence),
+    match explain(alloc, txns, initial, finding) {
+        Ok(evidence) => check_evidence(txns, initial, &evidence),
         Err(_) => true,
     }
 }
@@ -368,5 +408,76 @@ fn an_own_version_is_read_before_the_next(rt: HostRuntime) -> Result<(), Fail> {
     assert!(rt; !holds(&rt, alloc, &rows, &alone)?);
     let without = missed(alloc, &[edge(1, Ww, 2), edge(2, Wr, 1)])?;
     assert!(rt; !holds(&rt, alloc, &rows, &without)?);
+    Ok(())
+}
+
+#[test]
+fn readers_with_one_stamp_are_nodes(rt: HostRuntime) -> Result<(), Fail> {
+    let alloc = rt.alloc();
+    let rows: [Row; 4] = [
+        (1, 1, committed(2), &[W("x", 1)]),
+        (2, 3, committed(3), &[R("x", Some(1))]),
+        (3, 4, committed(4), &[R("x", None)]),
+        (5, 3, committed(3), &[R("x", Some(1))]),
+    ];
+    let back = missed(alloc, &[edge(3, Rw, 1), edge(1, St, 3)])?;
+    assert_eq!(rt;
+        explained(&rt, alloc, &rows, stale(3, 0, None, 1))?,
+        Ok(back)
+    );
+    let over_a_reader = missed(alloc, &[edge(3, Rw, 1), edge(1, Wr, 2), edge(2, St, 3)])?;
+    assert!(rt; holds(&rt, alloc, &rows, &over_a_reader)?);
+    let over_both = missed(
+        alloc,
+        &[
+            edge(3, Rw, 1),
+            edge(1, Wr, 2),
+            edge(2, St, 5),
+            edge(5, St, 3),
+        ],
+    )?;
+    assert!(rt; !holds(&rt, alloc, &rows, &over_both)?);
+    Ok(())
+}
+
+#[test]
+fn a_stale_read_of_a_set_up_value(rt: HostRuntime) -> Result<(), Fail> {
+    let alloc = rt.alloc();
+    let pairs = [("x", 5)];
+    let rows: [Row; 3] = [
+        (1, 1, committed(2), &[R("x", Some(5))]),
+        (3, 5, committed(6), &[W("x", 7)]),
+        (4, 7, committed(8), &[R("x", Some(5))]),
+    ];
+    let walk = missed(alloc, &[edge(4, Rw, 3), edge(3, St, 4)])?;
+    assert!(rt; holds_after(&rt, alloc, &pairs, &rows, &walk)?);
+    assert_eq!(rt;
+        explained_after(&rt, alloc, &pairs, &rows, stale(4, 0, Some(5), 3))?,
+        Ok(walk)
+    );
+    let early = missed(alloc, &[edge(1, Rw, 3), edge(3, St, 1)])?;
+    assert!(rt; !holds_after(&rt, alloc, &pairs, &rows, &early)?);
+    Ok(())
+}
+
+#[test]
+fn null_is_no_version_of_a_key_that_was_set_up(rt: HostRuntime) -> Result<(), Fail> {
+    let alloc = rt.alloc();
+    let rows: [Row; 2] = [
+        (3, 5, committed(6), &[W("x", 7)]),
+        (4, 7, committed(8), &[R("x", None)]),
+    ];
+    let walk = missed(alloc, &[edge(4, Rw, 3), edge(3, St, 4)])?;
+    assert!(rt; holds_after(&rt, alloc, &[("y", 5)], &rows, &walk)?);
+    assert!(rt; !holds_after(&rt, alloc, &[("x", 5)], &rows, &walk)?);
+    let unknown = Kind::Unknown {
+        txn: TxnId(4),
+        op: 0,
+        read: None,
+    };
+    assert_eq!(rt;
+        explained_after(&rt, alloc, &[("x", 5)], &rows, unknown)?,
+        Err(ExplainFault::FormFinding)
+    );
     Ok(())
 }

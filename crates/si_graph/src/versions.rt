@@ -6,7 +6,7 @@ ghost use Rattle.si_model.specs.Versions.{is_after};
 ghost use Rattle.si_graph.specs.EvidenceTests.{is_between, stays_out, is_next_on, follows, are_neighbours};
 
 use crate::keys::install_on;
-use si_model::{Installer, Key, Stamp, Txn};
+use si_model::{Installer, Key, Stamp, Txn, VersionId};
 
 /// Whether both are installers, of neighbouring versions of the key.
 pub fn are_neighbours(
@@ -19,12 +19,12 @@ pub fn are_neighbours(
 {
     match first {
         None => false,
-        Some(first) => follows(txns, key, Some(first.commit), second),
+        Some(first) => follows(txns, key, VersionId::Installed(first.commit), second),
     }
 }
 
 /// Whether there is an installer, of the version of the key next after another.
-pub fn follows(txns: &[Txn], key: &Key, after: Option<Stamp>, second: Option<Installer>) -> bool
+pub fn follows(txns: &[Txn], key: &Key, after: VersionId, second: Option<Installer>) -> bool
     ensures { result ≡ follows txns.now key.now after second }
 {
     match second {
@@ -33,25 +33,25 @@ pub fn follows(txns: &[Txn], key: &Key, after: Option<Stamp>, second: Option<Ins
     }
 }
 
-fn is_next_on(txns: &[Txn], key: &Key, after: Option<Stamp>, commit: Stamp) -> bool
+fn is_next_on(txns: &[Txn], key: &Key, after: VersionId, commit: Stamp) -> bool
     ensures { result ≡ is_next_on txns.now key.now after commit }
 {
     is_after(after, commit) && all_stay_out(txns, key, after, commit)
 }
 
-fn all_stay_out(txns: &[Txn], key: &Key, after: Option<Stamp>, commit: Stamp) -> bool
+fn all_stay_out(txns: &[Txn], key: &Key, after: VersionId, commit: Stamp) -> bool
     ensures { result ≡ list_all (stays_out key.now after commit) txns.now }
 {
     txns.iter().all(|txn| stays_out(key, after, commit, txn))
 }
 
-fn stays_out(key: &Key, after: Option<Stamp>, commit: Stamp, txn: &Txn) -> bool
+fn stays_out(key: &Key, after: VersionId, commit: Stamp, txn: &Txn) -> bool
     ensures { result ≡ stays_out key.now after commit txn.now }
 {
     !is_between(after, commit, install_on(key, txn))
 }
 
-fn is_between(after: Option<Stamp>, commit: Stamp, other: Option<Installer>) -> bool
+fn is_between(after: VersionId, commit: Stamp, other: Option<Installer>) -> bool
     ensures { result ≡ is_between after commit other }
 {
     match other {
@@ -60,11 +60,11 @@ fn is_between(after: Option<Stamp>, commit: Stamp, other: Option<Installer>) -> 
     }
 }
 
-fn is_after(after: Option<Stamp>, commit: Stamp) -> bool
+fn is_after(after: VersionId, commit: Stamp) -> bool
     ensures { result ≡ is_after after commit }
 {
     match after {
-        None => true,
-        Some(after) => after < commit,
+        VersionId::Initial => true,
+        VersionId::Installed(after) => after < commit,
     }
 }

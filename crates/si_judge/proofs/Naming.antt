@@ -8,7 +8,7 @@ use Rattle.si_model.specs.declared.sights.Source.TheVariants as source
 use Rattle.si_model.specs.declared.sights.Sight.{Sight}
 use Rattle.si_model.specs.declared.kinds.Kind.{Kind}
 use Rattle.si_model.specs.declared.kinds.Kind.TheVariants as kind
-use Rattle.si_model.specs.Versions.{same_value}
+use Rattle.si_model.specs.Operations.{same_value}
 use Rattle.si_model.specs.Reads.{kind_of, judged_by_own, judged_by_source, judged_by_next}
 use Rattle.si_judge.specs.Judges.{NamesRead}
 
@@ -30,7 +30,7 @@ either s false o p x y = y
 
 by_next : (s : Sight) (n : Option Installer) → Said s (judged_by_next s n)
 by_next s None = nothing s
-by_next s (Some n) = either s (nat_lt n.commit.0 s.start.0) _ _ (given s (kind.Stale s.txn s.op s.read n.txn) (refl, refl)) (nothing s)
+by_next s (Some n) = given s (kind.Stale s.txn s.op s.read n.txn) (refl, refl)
 
 by_source : (s : Sight) (from : Source) → Said s (judged_by_source s from)
 by_source s source.Missing = given s (kind.Unknown s.txn s.op s.read) (refl, refl)

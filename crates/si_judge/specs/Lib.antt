@@ -1,2 +1,7 @@
+pub mod Indexes
 pub mod Judges
+pub mod Maps
+pub mod Mending
+pub mod Sights
+pub mod States
 pub mod Touched

@@ -1,13 +1,19 @@
 //! The judges of what is found on one key, and which reads an edit can change.
 //!
 //! It carries the promise that a judge's answers are functions of what it looks at and are counted, and that an edit changes
-//! what is seen at the reads that it touches alone. It stands on `si_model`.
+//! what is seen at the reads that it touches alone. It stands on `si_model`, and its proofs on `si_lists`.
 #![tactic(auto)]
 
+mod indexes;
+mod judgements;
 pub mod judges;
 pub mod laws;
+mod maps;
+mod reads;
+pub mod states;
 
 pub use judges::{Cases, Judge};
+pub use states::{KeyFault, KeyState};
 
 #[cfg(test)]
 mod tests;

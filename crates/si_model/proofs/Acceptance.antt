@@ -1,6 +1,5 @@
 -- What the searches of acceptance find, and how journals grow.
-use Rattle.std.proofs.Common.{◌≡◌, ◌⊎◌, inl, inr, ℕ, ◌+◌, ◌<◌, ◌≤◌, Bool, true, false, nat_lt, List, [], ◌∷◌, ◌++◌, Option, Some, None, zero, suc, refl, sym, ap, subst, ◌∙◌, arith, cond, ◌↔◌, slice_get, append_assoc}
-use Rattle.std.specs.List.{fold}
+use Rattle.std.proofs.Common.{◌≡◌, inl, inr, ℕ, ◌+◌, ◌<◌, ◌≤◌, Bool, true, false, nat_lt, List, [], ◌∷◌, ◌++◌, Option, Some, None, zero, suc, refl, sym, ap, subst, ◌∙◌, arith, cond, ◌↔◌, slice_get, append_assoc}
 use Rattle.std.specs.Option.{option_or}
 use Rattle.std.proofs.lemmas.Bool.Decides.{nat_tests}
 use Rattle.std.proofs.lemmas.List.{same_from_push}
@@ -11,10 +10,9 @@ use Rattle.si_model.specs.declared.transactions.Txn.{Txn}
 use Rattle.si_model.specs.declared.edits.Edit.{Edit}
 use Rattle.si_model.specs.declared.refusals.Refusal.{Refusal}
 use Rattle.si_model.specs.Edits.{lesser, least_id, IsLeastId, first_at, IsFirst, IsAcceptable, after}
-use Rattle.si_model.specs.Journals.{present, IsAccepted}
-use Rattle.si_model.proofs.Members.{Contains-nil}
-use Rattle.si_model.proofs.Histories.{same_some}
-use Rattle.si_model.proofs.Nearest.{push_cases, push_last, fold_keeps}
+use Rattle.si_model.specs.Journals.{nothing, present, IsAccepted}
+use Rattle.si_lists.proofs.Members.{same_some, Contains-nil}
+use Rattle.si_lists.proofs.Pushes.{push_cases, push_last, fold_keeps, fold_push, last_cases}
 
 -- ---- the least id
 
@@ -96,24 +94,12 @@ first_found f ps = from_zero f ps (first_at f 0 ps) (first_from f 0 ps)
 
 -- ---- journals
 
-fold_push : {X B : Type 0} (f : B → X → B) (b : B) (xs : List X) (x : X) → fold f b (xs ++ x ∷ []) ≡ f (fold f b xs) x
-fold_push f b [] x = refl
-fold_push f b (y ∷ xs) x = fold_push f (f b y) xs x
-
 pub present_push : (J : List Edit) (e : Edit) → present (J ++ e ∷ []) ≡ after e (present J)
 unfolding present
-present_push J e = fold_push (λ P d. after d P) [] J e
+present_push J e = fold_push (λ P d. after d P) nothing J e
 
 pub accepted_begins : (J K : List Edit) → IsAccepted (J ++ K) → IsAccepted J
 accepted_begins J K h = λ before e rest s. h before e (rest ++ K) (ap (λ L. L ++ K) s ∙ append_assoc before (e ∷ rest) K)
-
--- a list is empty, or has a last element
-last_cases : {X : Type 0} (xs : List X) → (xs ≡ []) ⊎ ((ys : List X) × (y : X) × (xs ≡ ys ++ y ∷ []))
-last_cases [] = inl refl
-last_cases (x ∷ xs) = inr (elim (last_cases xs) [
-  | inl e ↦ ([], x, ap (λ ys. x ∷ ys) e)
-  | inr r ↦ (x ∷ r.0, r.1, ap (λ ys. x ∷ ys) r.2)
-])
 
 pub accepted_push : (J : List Edit) (e : Edit) → IsAccepted (J ++ e ∷ []) ↔ (IsAccepted J × IsAcceptable (present J) e)
 accepted_push J e = (λ h. (accepted_begins J (e ∷ []) h, h J e [] refl), λ h. grows h.0 h.1)

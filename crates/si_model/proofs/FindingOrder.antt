@@ -12,7 +12,7 @@ use Rattle.si_model.specs.declared.numbers.TxnId.{TxnId}
 use Rattle.si_model.specs.declared.kinds.Kind.{Kind}
 use Rattle.si_model.specs.declared.kinds.Kind.TheVariants as kind
 use Rattle.si_model.specs.declared.findings.Finding.{Finding}
-use Rattle.si_model.specs.Order.{presence, number_of, fields, finding_cmp}
+use Rattle.si_model.specs.Order.{presence, value_or_zero, fields, finding_cmp}
 
 -- bytes that tie are equal
 pub exact_bytes : (xs ys : List ℕ) → slice_cmp nat_cmp xs ys ≡ Equal → xs ≡ ys
@@ -23,7 +23,7 @@ value_from : ℕ → ℕ → Option Value
 value_from zero v = None
 value_from (suc n) v = Some (record { 0 = v })
 
-value_again : (o : Option Value) → value_from (presence o) (number_of o) ≡ o
+value_again : (o : Option Value) → value_from (presence o) (value_or_zero o) ≡ o
 unfolding value_from
 value_again None = refl
 value_again (Some v) = refl
@@ -48,10 +48,10 @@ kind_from (n ∷ t ∷ i ∷ p ∷ v ∷ x ∷ y ∷ zs) = numbered n t i p v x 
 kind_from _ = kind.Overlap (id 0) (id 0)
 
 kind_again : (k : Kind) → kind_from (fields k) ≡ k
-unfolding kind_from numbered id
+unfolding kind_from numbered id fields
 kind_again (kind.Unknown t i v) = ap (kind.Unknown t i) (value_again v)
 kind_again (kind.Doubt t i v u) = ap (λ o. kind.Doubt t i o u) (value_again v)
-kind_again (kind.Own t i v w) = ap (λ o. kind.Own t i o (value_from (presence w) (number_of w))) (value_again v) ∙ ap (kind.Own t i v) (value_again w)
+kind_again (kind.Own t i v w) = ap (λ o. kind.Own t i o (value_from (presence w) (value_or_zero w))) (value_again v) ∙ ap (kind.Own t i v) (value_again w)
 kind_again (kind.Aborted t i v u) = ap (λ o. kind.Aborted t i o u) (value_again v)
 kind_again (kind.Intermediate t i v u) = ap (λ o. kind.Intermediate t i o u) (value_again v)
 kind_again (kind.Future t i v u) = ap (λ o. kind.Future t i o u) (value_again v)

@@ -9,17 +9,8 @@ use Rattle.std.specs.Cmp.{IsTotalOrder, IsEquivalence}
 use Rattle.std.proofs.lemmas.Cmp.{tied_itself}
 use Rattle.std.proofs.lemmas.List.Kept.{IsStrictlySortedBy-dedup, Contains-dedup, Contains-from_dedup}
 use Rattle.std.proofs.lemmas.List.Sorted.{Contains-permutation, IsPermutation-sym}
-use Rattle.si_model.specs.Order.{by_order, placed, in_order}
-use Rattle.si_model.proofs.Members.{Contains-nil, here, there, Contains-cons_cases}
-
--- each element of a list for which that holds of all
-pub at_each : {K : Type 0} (P : K → Type 0) (xs : List K) (x : K) → AllByRecursion P xs → Contains xs x → P x
-at_each P [] x a c = absurd (Contains-nil x c)
-at_each P (y ∷ xs) x a c = elim (Contains-cons_cases y xs x c) [ inl e ↦ subst P e a.0 | inr c ↦ at_each P xs x a.1 c ]
-
-pub from_each : {K : Type 0} (P : K → Type 0) (xs : List K) → ((x : K) → Contains xs x → P x) → AllByRecursion P xs
-from_each P [] f = tt
-from_each P (y ∷ xs) f = (f y (here y xs), from_each P xs (λ x c. f x (there y xs x c)))
+use Rattle.si_model.specs.Order.{by_order, with_one, in_order}
+use Rattle.si_lists.proofs.Members.{Contains-nil, here, there, Contains-cons_cases, at_each}
 
 weaker : {K : Type 0} (P Q : K → Type 0) (xs : List K) → ((x : K) → P x → Q x) → AllByRecursion P xs → AllByRecursion Q xs
 weaker P Q [] f a = tt
@@ -46,38 +37,38 @@ module _ {K : Type 0} {R : K → K → Ordering} (o : IsTotalOrder R) where
   flipped : (x y : K) → R x y ≡ Greater → R y x ≡ Less
   flipped x y e = o.antisymm y x ∙ ap ordering_reverse e
 
-  below_placed : (k x : K) (xs : List K) → R x k ≡ Less → AllByRecursion (λ y. R x y ≡ Less) xs → AllByRecursion (λ y. R x y ≡ Less) (placed R k xs)
-  below_placed k x [] e a = (e, tt)
-  below_placed k x (z ∷ xs) e a = elim (R k z) as (λ r. AllByRecursion (λ y. R x y ≡ Less) (by_order r (k ∷ z ∷ xs) (z ∷ xs) (z ∷ placed R k xs))) [
+  below_with_one : (k x : K) (xs : List K) → R x k ≡ Less → AllByRecursion (λ y. R x y ≡ Less) xs → AllByRecursion (λ y. R x y ≡ Less) (with_one R k xs)
+  below_with_one k x [] e a = (e, tt)
+  below_with_one k x (z ∷ xs) e a = elim (R k z) as (λ r. AllByRecursion (λ y. R x y ≡ Less) (by_order r (k ∷ z ∷ xs) (z ∷ xs) (z ∷ with_one R k xs))) [
     | Less ↦ (e, a)
     | Equal ↦ a
-    | Greater ↦ (a.0, below_placed k x xs e a.1)
+    | Greater ↦ (a.0, below_with_one k x xs e a.1)
   ]
 
-  sorted-placed : (k : K) (xs : List K) → IsStrictlySortedBy R xs → IsStrictlySortedBy R (placed R k xs)
-  sorted-placed k [] s = sorted-cons R k [] tt s
-  sorted-placed k (x ∷ xs) s = elim (R k x) as (λ r. R k x ≡ r → IsStrictlySortedBy R (by_order r (k ∷ x ∷ xs) (x ∷ xs) (x ∷ placed R k xs))) [
+  sorted-with_one : (k : K) (xs : List K) → IsStrictlySortedBy R xs → IsStrictlySortedBy R (with_one R k xs)
+  sorted-with_one k [] s = sorted-cons R k [] tt s
+  sorted-with_one k (x ∷ xs) s = elim (R k x) as (λ r. R k x ≡ r → IsStrictlySortedBy R (by_order r (k ∷ x ∷ xs) (x ∷ xs) (x ∷ with_one R k xs))) [
     | Less ↦ λ e. sorted-cons R k (x ∷ xs) (e, weaker (λ y. R x y ≡ Less) (λ y. R k y ≡ Less) xs (λ y l. o.trans k x y e l) (below_rest R x xs s)) s
     | Equal ↦ λ e. s
-    | Greater ↦ λ e. sorted-cons R x (placed R k xs) (below_placed k x xs (flipped k x e) (below_rest R x xs s)) (sorted-placed k xs (rest_sorted R x xs s))
+    | Greater ↦ λ e. sorted-cons R x (with_one R k xs) (below_with_one k x xs (flipped k x e) (below_rest R x xs s)) (sorted-with_one k xs (rest_sorted R x xs s))
   ] refl
 
   pub sorted-in_order : (xs : List K) → IsStrictlySortedBy R (in_order R xs)
   unfolding in_order
   sorted-in_order [] = sorted-nil R
-  sorted-in_order (x ∷ xs) = sorted-placed x (in_order R xs) (sorted-in_order xs)
+  sorted-in_order (x ∷ xs) = sorted-with_one x (in_order R xs) (sorted-in_order xs)
 
   not_below_itself : (x : K) → R x x ≡ Less → ⊥
   not_below_itself x e = cc (tied_itself o x)
 
-  Contains-from_placed : (k : K) (xs : List K) (y : K) → Contains (placed R k xs) y → (k ≡ y) ⊎ Contains xs y
-  Contains-from_placed k [] y c = Contains-cons_cases k [] y c
-  Contains-from_placed k (x ∷ xs) y c = elim (R k x) as (λ r. Contains (by_order r (k ∷ x ∷ xs) (x ∷ xs) (x ∷ placed R k xs)) y → (k ≡ y) ⊎ Contains (x ∷ xs) y) [
+  Contains-from_with_one : (k : K) (xs : List K) (y : K) → Contains (with_one R k xs) y → (k ≡ y) ⊎ Contains xs y
+  Contains-from_with_one k [] y c = Contains-cons_cases k [] y c
+  Contains-from_with_one k (x ∷ xs) y c = elim (R k x) as (λ r. Contains (by_order r (k ∷ x ∷ xs) (x ∷ xs) (x ∷ with_one R k xs)) y → (k ≡ y) ⊎ Contains (x ∷ xs) y) [
     | Less ↦ λ d. Contains-cons_cases k (x ∷ xs) y d
     | Equal ↦ λ d. inr d
-    | Greater ↦ λ d. elim (Contains-cons_cases x (placed R k xs) y d) [
+    | Greater ↦ λ d. elim (Contains-cons_cases x (with_one R k xs) y d) [
       | inl e ↦ inr (subst (λ w. Contains (x ∷ xs) w) e (here x xs))
-      | inr d ↦ elim (Contains-from_placed k xs y d) [ inl e ↦ inl e | inr f ↦ inr (there x xs y f) ]
+      | inr d ↦ elim (Contains-from_with_one k xs y d) [ inl e ↦ inl e | inr f ↦ inr (there x xs y f) ]
     ]
   ] c
 
@@ -85,28 +76,28 @@ module _ {K : Type 0} {R : K → K → Ordering} (o : IsTotalOrder R) where
   pub Contains-from_in_order : (xs : List K) (y : K) → Contains (in_order R xs) y → Contains xs y
   unfolding in_order
   Contains-from_in_order [] y c = c
-  Contains-from_in_order (x ∷ xs) y c = elim (Contains-from_placed x (in_order R xs) y c) [
+  Contains-from_in_order (x ∷ xs) y c = elim (Contains-from_with_one x (in_order R xs) y c) [
     | inl e ↦ subst (λ w. Contains (x ∷ xs) w) e (here x xs)
     | inr d ↦ there x xs y (Contains-from_in_order xs y d)
   ]
 
   module _ (exact : (a b : K) → R a b ≡ Equal → a ≡ b) where
-    Contains-placed : (k : K) (xs : List K) → Contains (placed R k xs) k
-    Contains-placed k [] = here k []
-    Contains-placed k (x ∷ xs) = elim (R k x) as (λ r. R k x ≡ r → Contains (by_order r (k ∷ x ∷ xs) (x ∷ xs) (x ∷ placed R k xs)) k) [
+    Contains-with_one : (k : K) (xs : List K) → Contains (with_one R k xs) k
+    Contains-with_one k [] = here k []
+    Contains-with_one k (x ∷ xs) = elim (R k x) as (λ r. R k x ≡ r → Contains (by_order r (k ∷ x ∷ xs) (x ∷ xs) (x ∷ with_one R k xs)) k) [
       | Less ↦ λ e. here k (x ∷ xs)
       | Equal ↦ λ e. subst (λ w. Contains (x ∷ xs) w) (sym (exact k x e)) (here x xs)
-      | Greater ↦ λ e. there x (placed R k xs) k (Contains-placed k xs)
+      | Greater ↦ λ e. there x (with_one R k xs) k (Contains-with_one k xs)
     ] refl
 
-    Contains-placed_more : (k : K) (xs : List K) (y : K) → Contains xs y → Contains (placed R k xs) y
-    Contains-placed_more k [] y c = absurd (Contains-nil y c)
-    Contains-placed_more k (x ∷ xs) y c = elim (R k x) as (λ r. Contains (by_order r (k ∷ x ∷ xs) (x ∷ xs) (x ∷ placed R k xs)) y) [
+    Contains-with_one_more : (k : K) (xs : List K) (y : K) → Contains xs y → Contains (with_one R k xs) y
+    Contains-with_one_more k [] y c = absurd (Contains-nil y c)
+    Contains-with_one_more k (x ∷ xs) y c = elim (R k x) as (λ r. Contains (by_order r (k ∷ x ∷ xs) (x ∷ xs) (x ∷ with_one R k xs)) y) [
       | Less ↦ there k (x ∷ xs) y c
       | Equal ↦ c
       | Greater ↦ elim (Contains-cons_cases x xs y c) [
-        | inl e ↦ subst (λ w. Contains (x ∷ placed R k xs) w) e (here x (placed R k xs))
-        | inr d ↦ there x (placed R k xs) y (Contains-placed_more k xs y d)
+        | inl e ↦ subst (λ w. Contains (x ∷ with_one R k xs) w) e (here x (with_one R k xs))
+        | inr d ↦ there x (with_one R k xs) y (Contains-with_one_more k xs y d)
       ]
     ]
 
@@ -115,8 +106,8 @@ module _ {K : Type 0} {R : K → K → Ordering} (o : IsTotalOrder R) where
     unfolding in_order
     Contains-in_order [] y c = c
     Contains-in_order (x ∷ xs) y c = elim (Contains-cons_cases x xs y c) [
-      | inl e ↦ subst (λ w. Contains (placed R x (in_order R xs)) w) e (Contains-placed x (in_order R xs))
-      | inr d ↦ Contains-placed_more x (in_order R xs) y (Contains-in_order xs y d)
+      | inl e ↦ subst (λ w. Contains (with_one R x (in_order R xs)) w) e (Contains-with_one x (in_order R xs))
+      | inr d ↦ Contains-with_one_more x (in_order R xs) y (Contains-in_order xs y d)
     ]
 
   -- the heads of two such lists with the same elements are one

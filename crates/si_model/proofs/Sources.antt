@@ -1,183 +1,168 @@
 -- What the program sees at a read is what is seen there, and nothing else is.
-use Rattle.std.proofs.Common.{◌≡◌, ◌≢◌, inl, inr, ℕ, Bool, true, false, ◌||◌, List, [], ◌∷◌, Option, Some, None, refl, sym, ap, subst, ◌∙◌, cond}
-use Rattle.std.specs.List.{Contains, find, list_any}
+use Rattle.std.proofs.Common.{◌≡◌, ◌≢◌, ◌↔◌, ℕ, ◌≤◌, Bool, true, false, nat_lt, Option, Some, None, refl, sym, ap, subst, ◌∙◌, cond, arith}
+use Rattle.std.specs.List.{Contains, find}
 use Rattle.std.specs.Option.{option_eq}
-use Rattle.std.proofs.lemmas.Bool.Decides.{Decides-eqb}
-use Rattle.si_model.specs.declared.numbers.TxnId.{TxnId}
+use Rattle.std.proofs.lemmas.Bool.{ltb-true, ltb-false}
 use Rattle.si_model.specs.declared.numbers.Stamp.{Stamp}
 use Rattle.si_model.specs.declared.numbers.Value.{Value}
 use Rattle.si_model.specs.declared.transactions.Status.{Status}
 use Rattle.si_model.specs.declared.transactions.Status.TheVariants as status
-use Rattle.si_model.specs.declared.parts.Access.{Access}
-use Rattle.si_model.specs.declared.parts.Access.TheVariants as access
 use Rattle.si_model.specs.declared.parts.Part.{Part}
+use Rattle.si_model.specs.declared.parts.OnKey.{OnKey}
 use Rattle.si_model.specs.declared.sights.Installer.{Installer}
+use Rattle.si_model.specs.declared.sights.VersionId.{VersionId}
 use Rattle.si_model.specs.declared.sights.Source.{Source}
 use Rattle.si_model.specs.declared.sights.Source.TheVariants as source
 use Rattle.si_model.specs.declared.sights.Sight.{Sight}
-use Rattle.si_model.specs.Versions.{same_value, is_write_of, part_writes, last_write, Writes, next_after}
-use Rattle.si_model.specs.Reads.{IsWriter, IsSource, version_of, IsNextOf, IsNextAt, IsSight, source_by, source_from, source_of, next_of, next_at, sight_of}
-use Rattle.si_model.specs.History.{ArePartsOfHistory}
-use Rattle.si_model.proofs.Members.{Contains-nil, here, there, Contains-cons_cases}
-use Rattle.si_model.proofs.Histories.{same_some, same_named}
-use Rattle.si_model.proofs.Nearest.{next_is, same_next}
+use Rattle.si_model.specs.Operations.{same_value}
+use Rattle.si_model.specs.Versions.{part_writes, last_write, Writes, IsFinalWrite, IsNext, IsNextIfAny, next_after}
+use Rattle.si_model.specs.Reads.{IsWriter, IsSource, version_of, IsMissedAfter, IsMissedOf, IsSight, source_by, source_from, source_among, source_of, if_before, missed_of, missed_at, sight_of}
+use Rattle.si_model.specs.History.{IsOfHistory}
+use Rattle.si_lists.proofs.Members.{same_some}
+use Rattle.si_lists.proofs.Tests.{find-Some, find-None, find_only, find_none}
+use Rattle.si_model.proofs.Equalities.{value_is, read_is}
+use Rattle.si_model.proofs.Histories.{one_writer}
+use Rattle.si_model.proofs.LastWrites.{writes_are, last_is_final}
+use Rattle.si_model.proofs.NextVersions.{next_is, same_next}
 
--- ---- searches
+-- ---- the writer of a value
 
-pub find-Some : {X : Type 0} (p : X → Bool) (xs : List X) (x : X) → find p xs ≡ Some x → Contains xs x × (p x ≡ true)
-find-Some p [] x e = cc
-find-Some p (y ∷ xs) x e = elim (p y) as (λ b. p y ≡ b → cond b (Some y) (find p xs) ≡ Some x → Contains (y ∷ xs) x × (p x ≡ true)) [
-  | true ↦ λ t f. (let s : y ≡ x = same_some f in (subst (λ w. Contains (y ∷ xs) w) s (here y xs), subst (λ w. p w ≡ true) s t))
-  | false ↦ λ t f. (let r = find-Some p xs x f in (there y xs x r.0, r.1))
-] refl e
-
-pub find-None : {X : Type 0} (p : X → Bool) (xs : List X) → find p xs ≡ None → (x : X) → Contains xs x → p x ≡ false
-find-None p [] e x c = absurd (Contains-nil x c)
-find-None p (y ∷ xs) e x c = elim (p y) as (λ b. p y ≡ b → cond b (Some y) (find p xs) ≡ None → p x ≡ false) [
-  | true ↦ λ t f. cc
-  | false ↦ λ t f. elim (Contains-cons_cases y xs x c) [ inl s ↦ subst (λ w. p w ≡ false) s t | inr d ↦ find-None p xs f x d ]
-] refl e
-
-pub any_from : {X : Type 0} (p : X → Bool) (xs : List X) (x : X) → Contains xs x → p x ≡ true → list_any p xs ≡ true
-any_from p [] x c e = absurd (Contains-nil x c)
-any_from p (y ∷ xs) x c e = elim (p y) as (λ b. p y ≡ b → (b || list_any p xs) ≡ true) [
-  | true ↦ λ t. refl
-  | false ↦ λ t. elim (Contains-cons_cases y xs x c) [ inl s ↦ cc (subst (λ w. p w ≡ false) s t) | inr d ↦ any_from p xs x d e ]
-] refl
-
-pub any_is : {X : Type 0} (p : X → Bool) (xs : List X) → list_any p xs ≡ true → (x : X) × Contains xs x × (p x ≡ true)
-any_is p [] e = cc
-any_is p (y ∷ xs) e = elim (p y) as (λ b. p y ≡ b → (b || list_any p xs) ≡ true → (x : _) × Contains (y ∷ xs) x × (p x ≡ true)) [
-  | true ↦ λ t f. (y, here y xs, t)
-  | false ↦ λ t f. (let r = any_is p xs f in (r.0, there y xs r.0 r.1, r.2))
-] refl e
-
--- ---- writers
-
-pub same_value_is : (v w : Value) → same_value v w ≡ true → v ≡ w
-same_value_is v w e = let s : v.0 ≡ w.0 = (Decides-eqb v.0 w.0).0 e in λ i. record { 0 = s i }
-
-pub same_value_itself : (v : Value) → same_value v v ≡ true
-same_value_itself v = (Decides-eqb v.0 v.0).1 refl
-
-write_is : (v : Value) (a : Access) → is_write_of v a ≡ true → a ≡ access.Write v
-write_is v (access.Read w) e = cc
-write_is v (access.Write w) e = ap access.Write (same_value_is w v e)
-
-pub writes_from_test : (v : Value) (T : Part) → part_writes v T ≡ true → Writes T v
-writes_from_test v T e =
-    let f = any_is (λ a. is_write_of v a.access) T.accesses e in
-    let w = write_is v f.0.access f.2 in
-    (f.0.place, subst (λ a. Contains T.accesses a) (λ i. record { place = f.0.place; access = w i }) f.1)
-
-pub test_from_writes : (v : Value) (T : Part) → Writes T v → part_writes v T ≡ true
-test_from_writes v T w = any_from (λ a. is_write_of v a.access) T.accesses (record { place = w.0; access = access.Write v }) w.1 (same_value_itself v)
-
-pub same_writer : (Q : List Part) → ArePartsOfHistory Q → (A B : Part) (v : Value) → Contains Q A → Contains Q B → Writes A v → Writes B v → A ≡ B
-same_writer Q h A B v a b w u = same_named (λ T. T.id) Q h.names A B a b (h.writes A B w.0 u.0 v a b w.1 u.1).0
-
--- the walk finds the one that writes the value
-pub find_writer : (Q : List Part) → ArePartsOfHistory Q → (T : Part) (v : Value) → Contains Q T → Writes T v → find (part_writes v) Q ≡ Some T
-find_writer Q h T v c w = by (find (part_writes v) Q) refl
-  where
-    by : (o : Option Part) → find (part_writes v) Q ≡ o → o ≡ Some T
-    by None e = cc (find-None (part_writes v) Q e T c, test_from_writes v T w)
-    by (Some U) e = let f = find-Some (part_writes v) Q U e in ap Some (same_writer Q h U T v f.0 c (writes_from_test v U f.1) w)
-
-find_nobody : (Q : List Part) (v : Value) → ((T : Part) → Contains Q T → Writes T v → ⊥) → find (part_writes v) Q ≡ None
-find_nobody Q v none = by (find (part_writes v) Q) refl
-  where
-    by : (o : Option Part) → find (part_writes v) Q ≡ o → o ≡ None
-    by None e = refl
-    by (Some U) e = let f = find-Some (part_writes v) Q U e in absurd (none U f.0 (writes_from_test v U f.1))
-
-pub last_is : (o : Option Value) (v : Value) → option_eq same_value o (Some v) ≡ true → o ≡ Some v
-last_is None v e = cc
-last_is (Some w) v e = ap Some (same_value_is w v e)
-
-pub last_itself : (o : Option Value) (v : Value) → o ≡ Some v → option_eq same_value o (Some v) ≡ true
-last_itself o v e = rw e (same_value_itself v)
+pub writer_found : (Q : OnKey) (v : Value) (T : Part) → IsOfHistory Q → (find (part_writes v) Q.parts ≡ Some T) ↔ (Contains Q.parts T × Writes T v)
+writer_found Q v T h = (
+  λ e. (let f = find-Some (part_writes v) Q.parts T e in (f.0, (writes_are v T).0 f.1)),
+  λ f. find_only (part_writes v) Q.parts T f.0 ((writes_are v T).1 f.1) (λ U c t. one_writer Q h U T v c f.0 ((writes_are v U).0 t) f.1),
+)
 
 -- ---- where a value comes from
 
-pub source_is : (Q : List Part) (v : Option Value) → IsSource Q v (source_of Q v)
-unfolding source_of
-source_is Q None = refl
-source_is Q (Some v) = by (find (part_writes v) Q) refl
-  where
-    by_status : (T : Part) → IsWriter Q v T.id T → (s : Status) → T.status ≡ s → IsSource Q (Some v) (source_by T v s)
-    by_status T w (status.Committed c) e = tested (option_eq same_value (last_write T.accesses) (Some v)) refl
-      where
-        tested : (b : Bool) → option_eq same_value (last_write T.accesses) (Some v) ≡ b → IsSource Q (Some v) (cond b (source.Installed T.id c) (source.Earlier T.id))
-        tested true t = (T, w, e, last_is (last_write T.accesses) v t)
-        tested false t = (T, c, w, e, λ l. cc (last_itself (last_write T.accesses) v l))
-    by_status T w status.Aborted e = (T, w, e)
-    by_status T w status.InDoubt e = (T, w, e)
+module _ (Q : OnKey) (h : IsOfHistory Q) where
+  by_status : (v : Value) (T : Part) → Contains Q.parts T → Writes T v → (s : Status) → T.status ≡ s → IsSource Q (Some v) (source_by T v s)
+  by_status v T at w (status.Committed c) e = tested (option_eq same_value (last_write T.accesses) (Some v)) refl
+    where
+      writer : IsWriter Q v T.id T
+      writer = record { part = at; id = refl; writes = w }
 
-    by : (o : Option Part) → find (part_writes v) Q ≡ o → IsSource Q (Some v) (source_from v o)
-    by None e = λ T c w. cc (find-None (part_writes v) Q e T c, test_from_writes v T w)
-    by (Some T) e = let f = find-Some (part_writes v) Q T e in by_status T (record { part = f.0; id = refl; writes = writes_from_test v T f.1 }) T.status refl
+      tested : (b : Bool) → option_eq same_value (last_write T.accesses) (Some v) ≡ b → IsSource Q (Some v) (cond b (source.Installed T.id c) (source.Earlier T.id))
+      tested true t = (v, T, refl, writer, e, (last_is_final Q T v h at).0 ((value_is (last_write T.accesses) v).0 t))
+      tested false t = (v, T, refl, writer, (c, e), λ f. let u = (value_is (last_write T.accesses) v).1 ((last_is_final Q T v h at).1 f) in cc)
+  by_status v T at w status.Aborted e = (v, T, refl, record { part = at; id = refl; writes = w }, e)
+  by_status v T at w status.InDoubt e = (v, T, refl, record { part = at; id = refl; writes = w }, e)
 
--- the source by the one that writes the value
-source_by_writer : (Q : List Part) → ArePartsOfHistory Q → (v : Value) (u : TxnId) (T : Part) → IsWriter Q v u T → source_of Q (Some v) ≡ source_by T v T.status
-unfolding source_of
-source_by_writer Q h v u T w = ap (source_from v) (find_writer Q h T v w.part w.writes)
+  among : (v : Option Value) → v ≢ Q.initial → IsSource Q v (source_among Q.parts v)
+  among None other = (other, λ w T e. cc)
+  among (Some v) other = by (find (part_writes v) Q.parts) refl
+    where
+      by : (o : Option Part) → find (part_writes v) Q.parts ≡ o → IsSource Q (Some v) (source_from v o)
+      by None e = (other, λ w T s c u. let found = find-None (part_writes v) Q.parts e T c in let test = (writes_are v T).1 (subst (Writes T) (sym (same_some s)) u) in cc)
+      by (Some T) e = let f = (writer_found Q v T h).0 e in by_status v T f.0 f.1 T.status refl
 
-by_last : (T : Part) (v : Value) (c : Stamp) → last_write T.accesses ≡ Some v → source_by T v (status.Committed c) ≡ source.Installed T.id c
-by_last T v c l = ap (λ b. cond b (source.Installed T.id c) (source.Earlier T.id)) (last_itself (last_write T.accesses) v l)
+  pub source_is : (v : Option Value) → IsSource Q v (source_of Q v)
+  unfolding source_of
+  source_is v = by (option_eq same_value v Q.initial) refl
+    where
+      by : (b : Bool) → option_eq same_value v Q.initial ≡ b → IsSource Q v (cond b source.Initial (source_among Q.parts v))
+      by true e = (read_is v Q.initial).0 e
+      by false e = among v (λ s. let t = (read_is v Q.initial).1 s in cc)
 
-by_other : (T : Part) (v : Value) (c : Stamp) → last_write T.accesses ≢ Some v → source_by T v (status.Committed c) ≡ source.Earlier T.id
-by_other T v c l = by (option_eq same_value (last_write T.accesses) (Some v)) refl
-  where
-    by : (b : Bool) → option_eq same_value (last_write T.accesses) (Some v) ≡ b → cond b (source.Installed T.id c) (source.Earlier T.id) ≡ source.Earlier T.id
-    by true t = absurd (l (last_is (last_write T.accesses) v t))
-    by false t = refl
+  -- what the initial version returns
+  initial_is : (v : Option Value) → v ≡ Q.initial → source_of Q v ≡ source.Initial
+  unfolding source_of
+  initial_is v e = ap (λ b. cond b source.Initial (source_among Q.parts v)) ((read_is v Q.initial).1 e)
 
-nobody : (Q : List Part) (v : Value) → ((T : Part) → Contains Q T → Writes T v → ⊥) → source_of Q (Some v) ≡ source.Missing
-unfolding source_of
-nobody Q v none = ap (source_from v) (find_nobody Q v none)
+  not_initial : (v : Option Value) → v ≢ Q.initial → source_of Q v ≡ source_among Q.parts v
+  unfolding source_of
+  not_initial v d = by (option_eq same_value v Q.initial) refl
+    where
+      by : (b : Bool) → option_eq same_value v Q.initial ≡ b → cond b source.Initial (source_among Q.parts v) ≡ source_among Q.parts v
+      by true e = absurd (d ((read_is v Q.initial).0 e))
+      by false e = refl
 
-initial : (Q : List Part) → source_of Q None ≡ source.Initial
-unfolding source_of
-initial Q = refl
+  -- a value that a transaction writes is from that transaction
+  pub written_source : (v : Option Value) (w : Value) (T : Part) → v ≡ Some w → Contains Q.parts T → Writes T w → source_of Q v ≡ source_by T w T.status
+  written_source v w T e at u =
+      not_initial v (λ s. h.initial w T (sym s ∙ e) at u)
+      ∙ ap (source_among Q.parts) e
+      ∙ ap (source_from w) ((writer_found Q w T h).1 (at, u))
 
--- of a history a value has one source
-pub same_source : (Q : List Part) → ArePartsOfHistory Q → (v : Option Value) (s : Source) → IsSource Q v s → s ≡ source_of Q v
-same_source Q h None s i = i ∙ sym (initial Q)
-same_source Q h (Some v) source.Initial i = absurd i
-same_source Q h (Some v) source.Missing i = sym (nobody Q v i)
-same_source Q h (Some v) (source.InDoubt u) i = ap source.InDoubt i.1.id ∙ ap (source_by i.0 v) (sym i.2) ∙ sym (source_by_writer Q h v u i.0 i.1)
-same_source Q h (Some v) (source.Aborted u) i = ap source.Aborted i.1.id ∙ ap (source_by i.0 v) (sym i.2) ∙ sym (source_by_writer Q h v u i.0 i.1)
-same_source Q h (Some v) (source.Earlier u) i = ap source.Earlier i.2.id ∙ sym (by_other i.0 v i.1 i.4) ∙ ap (source_by i.0 v) (sym i.3) ∙ sym (source_by_writer Q h v u i.0 i.2)
-same_source Q h (Some v) (source.Installed u c) i = ap (λ w. source.Installed w c) i.1.id ∙ sym (by_last i.0 v c i.3) ∙ ap (source_by i.0 v) (sym i.2) ∙ sym (source_by_writer Q h v u i.0 i.1)
+  nobody : (v : Option Value) → v ≢ Q.initial → ((w : Value) (T : Part) → v ≡ Some w → Contains Q.parts T → Writes T w → ⊥) → source_of Q v ≡ source.Missing
+  nobody v d none = not_initial v d ∙ by v none
+    where
+      by : (v : Option Value) → ((w : Value) (T : Part) → v ≡ Some w → Contains Q.parts T → Writes T w → ⊥) → source_among Q.parts v ≡ source.Missing
+      by None none = refl
+      by (Some v) none = ap (source_from v) (find_none (part_writes v) Q.parts (λ T c t. none v T refl c ((writes_are v T).0 t)))
 
--- ---- the version next after it
+  by_last : (T : Part) (v : Value) (c : Stamp) → Contains Q.parts T → IsFinalWrite T v → source_by T v (status.Committed c) ≡ source.Installed T.id c
+  by_last T v c at f = ap (λ b. cond b (source.Installed T.id c) (source.Earlier T.id)) ((value_is (last_write T.accesses) v).1 ((last_is_final Q T v h at).1 f))
 
-next_of_is : (Q : List Part) (version : Option (Option Stamp)) → IsNextOf Q version (next_of Q version)
-next_of_is Q None = refl
-next_of_is Q (Some after) = next_is Q after
+  by_other : (T : Part) (v : Value) (c : Stamp) → Contains Q.parts T → (IsFinalWrite T v → ⊥) → source_by T v (status.Committed c) ≡ source.Earlier T.id
+  by_other T v c at other = by (option_eq same_value (last_write T.accesses) (Some v)) refl
+    where
+      by : (b : Bool) → option_eq same_value (last_write T.accesses) (Some v) ≡ b → cond b (source.Installed T.id c) (source.Earlier T.id) ≡ source.Earlier T.id
+      by true t = absurd (other ((last_is_final Q T v h at).0 ((value_is (last_write T.accesses) v).0 t)))
+      by false t = refl
 
-next_at_is : (Q : List Part) (s : Source) → IsNextAt Q s (next_at Q s)
-unfolding next_at
-next_at_is Q s = next_of_is Q (version_of s)
+  -- of a history what was read has one source
+  pub same_source : (v : Option Value) (s : Source) → IsSource Q v s → s ≡ source_of Q v
+  same_source v source.Initial i = sym (initial_is v i)
+  same_source v source.Missing i = sym (nobody v i.0 i.1)
+  same_source v (source.InDoubt u) i = ap source.InDoubt i.3.id ∙ ap (source_by i.1 i.0) (sym i.4) ∙ sym (written_source v i.0 i.1 i.2 i.3.part i.3.writes)
+  same_source v (source.Aborted u) i = ap source.Aborted i.3.id ∙ ap (source_by i.1 i.0) (sym i.4) ∙ sym (written_source v i.0 i.1 i.2 i.3.part i.3.writes)
+  same_source v (source.Earlier u) i = ap source.Earlier i.3.id ∙ sym (by_other i.1 i.0 i.4.0 i.3.part i.5) ∙ ap (source_by i.1 i.0) (sym i.4.1) ∙ sym (written_source v i.0 i.1 i.2 i.3.part i.3.writes)
+  same_source v (source.Installed u c) i = ap (λ w. source.Installed w c) i.3.id ∙ sym (by_last i.1 i.0 c i.3.part i.5) ∙ ap (source_by i.1 i.0) (sym i.4) ∙ sym (written_source v i.0 i.1 i.2 i.3.part i.3.writes)
 
-same_next_of : (Q : List Part) → ArePartsOfHistory Q → (version : Option (Option Stamp)) (n : Option Installer) → IsNextOf Q version n → n ≡ next_of Q version
-same_next_of Q h None n i = i
-same_next_of Q h (Some after) n i = same_next Q h after n (next_after Q after) i (next_is Q after)
+  pub source_exact : (v : Option Value) (s : Source) → IsSource Q v s ↔ (s ≡ source_of Q v)
+  source_exact v s = (same_source v s, λ e. subst (IsSource Q v) (sym e) (source_is v))
 
-same_next_at : (Q : List Part) → ArePartsOfHistory Q → (s : Source) (n : Option Installer) → IsNextAt Q s n → n ≡ next_at Q s
-unfolding next_at
-same_next_at Q h s n i = same_next_of Q h (version_of s) n i
+  -- ---- what was missed
 
--- ---- what is seen at a read
+  missed_after : (start : Stamp) (a : VersionId) → IsMissedAfter Q start a (if_before start (next_after Q.parts a))
+  missed_after start a = by (next_after Q.parts a) (next_is Q a) refl
+    where
+      only : (o : Option Installer) → next_after Q.parts a ≡ o → (m : Installer) → IsNext Q a m → o ≡ Some m
+      only o e m is = sym e ∙ sym (same_next Q h a (Some m) (next_after Q.parts a) is (next_is Q a))
 
-pub sight_is : (Q : List Part) (T : Part) (i : ℕ) (v : Option Value) → IsSight Q T i v (sight_of Q T i v)
-unfolding sight_of
-sight_is Q T i v = record { txn = refl; op = refl; start = refl; read = refl; own = refl; later = refl; from = source_is Q v; next = next_at_is Q (source_of Q v) }
+      by : (o : Option Installer) → IsNextIfAny Q a o → next_after Q.parts a ≡ o → IsMissedAfter Q start a (if_before start o)
+      by None none e = λ m is. absurd (none m is.installs is.after)
+      by (Some n) is e = tested (nat_lt n.commit.0 start.0) refl
+        where
+          tested : (b : Bool) → nat_lt n.commit.0 start.0 ≡ b → IsMissedAfter Q start a (cond b (Some n) None)
+          tested true t = (is, ltb-true n.commit.0 start.0 t)
+          tested false t = λ m j. subst (λ k. start.0 ≤ k.commit.0) (same_some (only (Some n) e m j)) (ltb-false n.commit.0 start.0 t)
 
-pub same_sight : (Q : List Part) → ArePartsOfHistory Q → (T : Part) (i : ℕ) (v : Option Value) (s : Sight) → IsSight Q T i v s → s ≡ sight_of Q T i v
-unfolding sight_of
-same_sight Q h T i v s is =
-    let from = same_source Q h v s.source is.from in
-    let next = same_next_at Q h s.source s.next is.next ∙ ap (next_at Q) from in
-    λ j. record { txn = is.txn j; op = is.op j; start = is.start j; read = is.read j; own = is.own j; later = is.later j; source = from j; next = next j }
+  missed_of_is : (start : Stamp) (a : Option VersionId) → IsMissedOf Q start a (missed_of Q.parts start a)
+  missed_of_is start None = refl
+  missed_of_is start (Some a) = missed_after start a
+
+  same_missed_after : (start : Stamp) (a : VersionId) (m n : Option Installer) → IsMissedAfter Q start a m → IsMissedAfter Q start a n → m ≡ n
+  same_missed_after start a None None i j = refl
+  same_missed_after start a None (Some n) i j = absurd (let l = i n j.0 in let k = j.1 in omega arith)
+  same_missed_after start a (Some m) None i j = absurd (let l = j m i.0 in let k = i.1 in omega arith)
+  same_missed_after start a (Some m) (Some n) i j = same_next Q h a (Some m) (Some n) i.0 j.0
+
+  same_missed : (start : Stamp) (a : Option VersionId) (n : Option Installer) → IsMissedOf Q start a n → n ≡ missed_of Q.parts start a
+  same_missed start None n i = i
+  same_missed start (Some a) n i = same_missed_after start a n (missed_of Q.parts start (Some a)) i (missed_after start a)
+
+  -- ---- what is seen at a read
+
+  pub sight_is : (T : Part) (i : ℕ) (v : Option Value) → IsSight Q T i v (sight_of Q T i v)
+  unfolding sight_of missed_at
+  sight_is T i v = record { txn = refl; op = refl; start = refl; read = refl; own = refl; later = refl; from = source_is v; next = missed_of_is T.start (version_of (source_of Q v)) }
+
+  pub same_sight : (T : Part) (i : ℕ) (v : Option Value) (s : Sight) → IsSight Q T i v s → s ≡ sight_of Q T i v
+  unfolding sight_of missed_at
+  same_sight T i v s is =
+      let from = same_source v s.source is.from in
+      let next = same_missed T.start (version_of s.source) s.next is.next ∙ ap (λ r. missed_of Q.parts T.start (version_of r)) from in
+      λ j. record { txn = is.txn j; op = is.op j; start = is.start j; read = is.read j; own = is.own j; later = is.later j; source = from j; next = next j }
+
+  pub sight_exact : (T : Part) (i : ℕ) (v : Option Value) (s : Sight) → IsSight Q T i v s ↔ (s ≡ sight_of Q T i v)
+  sight_exact T i v s = (same_sight T i v s, λ e. subst (IsSight Q T i v) (sym e) (sight_is T i v))
+
+-- ---- the laws
+
+pub source_law : (Q : OnKey) (v : Option Value) (s : Source) → IsOfHistory Q → IsSource Q v s ↔ (s ≡ source_of Q v)
+source_law Q v s h = source_exact Q h v s
+
+pub sight_law : (Q : OnKey) (T : Part) (i : ℕ) (v : Option Value) (s : Sight) → IsOfHistory Q → Contains Q.parts T → IsSight Q T i v s ↔ (s ≡ sight_of Q T i v)
+sight_law Q T i v s h c = sight_exact Q h T i v s

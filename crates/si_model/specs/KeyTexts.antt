@@ -1,9 +1,10 @@
 -- The text of a key, and the hash that picks its shard. All of it is this project's choice.
 use Rattle.std.specs.Prelude.{ℕ, ◌+◌, ◌*◌, ◌%◌, ◌≤◌, List, length, fold}
+use Rattle.si_model.specs.declared.keys.TheConstants.{MOST_KEY_BYTES}
 
 -- a text of 1 to 128 bytes
 abbrev pub IsKeyText : List ℕ → Type 0
-IsKeyText bytes = (1 ≤ length bytes) × (length bytes ≤ 128)
+IsKeyText bytes = (1 ≤ length bytes) × (length bytes ≤ MOST_KEY_BYTES)
 
 -- the hash after one more byte
 abbrev pub shard_hash_with : ℕ → ℕ → ℕ

@@ -1,4 +1,5 @@
 pub mod KeyTexts
+pub mod Operations
 pub mod Parts
 pub mod Versions
 pub mod Reads
@@ -8,5 +9,7 @@ pub mod History
 pub mod Form
 pub mod Edits
 pub mod Journals
+pub mod KeyEdits
+pub mod Evidence
 pub mod Laws
 pub mod HistoryTests

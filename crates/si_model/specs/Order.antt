@@ -17,22 +17,45 @@ presence None = 0
 presence (Some v) = 1
 
 -- the value, and 0 where there is none
-abbrev pub number_of : Option Value → ℕ
-number_of None = 0
-number_of (Some v) = v.0
+abbrev pub value_or_zero : Option Value → ℕ
+value_or_zero None = 0
+value_or_zero (Some v) = v.0
 
--- all that a kind says, in the order that findings on one key are in: its number, the first transaction, the place or the second transaction
-abbrev pub fields : Kind → List ℕ
-fields (kind.Unknown t i v) = 1 ∷ t.0 ∷ i ∷ presence v ∷ number_of v ∷ 0 ∷ 0 ∷ []
-fields (kind.Doubt t i v u) = 2 ∷ t.0 ∷ i ∷ presence v ∷ number_of v ∷ u.0 ∷ 0 ∷ []
-fields (kind.Own t i v w) = 3 ∷ t.0 ∷ i ∷ presence v ∷ number_of v ∷ presence w ∷ number_of w ∷ []
-fields (kind.Aborted t i v u) = 4 ∷ t.0 ∷ i ∷ presence v ∷ number_of v ∷ u.0 ∷ 0 ∷ []
-fields (kind.Intermediate t i v u) = 5 ∷ t.0 ∷ i ∷ presence v ∷ number_of v ∷ u.0 ∷ 0 ∷ []
-fields (kind.Future t i v u) = 6 ∷ t.0 ∷ i ∷ presence v ∷ number_of v ∷ u.0 ∷ 0 ∷ []
-fields (kind.Stale t i v n) = 7 ∷ t.0 ∷ i ∷ presence v ∷ number_of v ∷ n.0 ∷ 0 ∷ []
-fields (kind.Overlap a b) = 8 ∷ a.0 ∷ b.0 ∷ 0 ∷ 0 ∷ 0 ∷ 0 ∷ []
+-- the number of a kind: at most 3 where it concerns form and is no phenomenon, more than 2 where it is a violation
+abbrev pub number : Kind → ℕ
+number (kind.Unknown t i v) = 1
+number (kind.Doubt t i v u) = 2
+number (kind.Own t i v w) = 3
+number (kind.Aborted t i v u) = 4
+number (kind.Intermediate t i v u) = 5
+number (kind.Future t i v u) = 6
+number (kind.Stale t i v n) = 7
+number (kind.Overlap a b) = 8
 
--- by the bytes of the key, then by what the kind says
+-- what a kind says beside its number: the first transaction, the place or the second transaction, and the rest
+abbrev pub details : Kind → List ℕ
+details (kind.Unknown t i v) = t.0 ∷ i ∷ presence v ∷ value_or_zero v ∷ 0 ∷ 0 ∷ []
+details (kind.Doubt t i v u) = t.0 ∷ i ∷ presence v ∷ value_or_zero v ∷ u.0 ∷ 0 ∷ []
+details (kind.Own t i v w) = t.0 ∷ i ∷ presence v ∷ value_or_zero v ∷ presence w ∷ value_or_zero w ∷ []
+details (kind.Aborted t i v u) = t.0 ∷ i ∷ presence v ∷ value_or_zero v ∷ u.0 ∷ 0 ∷ []
+details (kind.Intermediate t i v u) = t.0 ∷ i ∷ presence v ∷ value_or_zero v ∷ u.0 ∷ 0 ∷ []
+details (kind.Future t i v u) = t.0 ∷ i ∷ presence v ∷ value_or_zero v ∷ u.0 ∷ 0 ∷ []
+details (kind.Stale t i v n) = t.0 ∷ i ∷ presence v ∷ value_or_zero v ∷ n.0 ∷ 0 ∷ []
+details (kind.Overlap a b) = a.0 ∷ b.0 ∷ 0 ∷ 0 ∷ 0 ∷ 0 ∷ []
+
+-- all that a kind says, in the order that findings on one key are in
+unfoldable pub fields : Kind → List ℕ
+fields k = number k ∷ details k
+
+-- by what the kinds say
+abbrev pub kind_cmp : Kind → Kind → Ordering
+kind_cmp = on fields (slice_cmp nat_cmp)
+
+-- whether two kinds are one
+abbrev pub kind_eq : Kind → Kind → Bool
+kind_eq j k = pointwise nat_eq (fields j) (fields k)
+
+-- by the bytes of the key, then by the kind
 abbrev pub finding_cmp : Finding → Finding → Ordering
 finding_cmp = then_cmp (on (λ f. f.key) (slice_cmp nat_cmp)) (on (λ f. fields f.kind) (slice_cmp nat_cmp))
 
@@ -53,11 +76,11 @@ by_order Equal a b c = b
 by_order Greater a b c = c
 
 -- the list with one more in its place, where it isn't there yet
-abbrev pub placed : {K : Type 0} → (K → K → Ordering) → K → List K → List K
-placed R k [] = k ∷ []
-placed R k (x ∷ xs) = by_order (R k x) (k ∷ x ∷ xs) (x ∷ xs) (x ∷ placed R k xs)
+abbrev pub with_one : {K : Type 0} → (K → K → Ordering) → K → List K → List K
+with_one R k [] = k ∷ []
+with_one R k (x ∷ xs) = by_order (R k x) (k ∷ x ∷ xs) (x ∷ xs) (x ∷ with_one R k xs)
 
 -- the elements of a list in strict order, each once
 unfoldable pub in_order : {K : Type 0} → (K → K → Ordering) → List K → List K
 in_order R [] = []
-in_order R (x ∷ xs) = placed R x (in_order R xs)
+in_order R (x ∷ xs) = with_one R x (in_order R xs)

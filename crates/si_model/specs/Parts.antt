@@ -1,29 +1,27 @@
--- What each transaction does on one key. All that is said of a key is said of these parts, so keys are compared here and nowhere else.
--- Reads and writes are those of Adya's thesis, chapter 3; the parts are this project's choice.
-use Rattle.std.specs.Prelude.{ℕ, Bool, if◌then◌else◌, nat_eq, List, [], ◌∷◌, Some, None, Option}
-use Rattle.std.specs.List.{filter_map, enumerate_from}
-use Rattle.std.specs.Cmp.Lexicographic.{pointwise}
+-- What is present, and what of it is on one key. All of it is this project's choice.
+use Rattle.std.specs.Prelude.{ℕ, Bool, if◌then◌else◌, List, [], ◌∷◌, Some, None, Option}
+use Rattle.std.specs.List.{filter_map, enumerate_from, find, list_any}
+use Rattle.std.specs.Option.{option_map}
+use Rattle.si_model.specs.declared.numbers.Value.{Value}
 use Rattle.si_model.specs.declared.operations.Op.{Op}
-use Rattle.si_model.specs.declared.operations.Op.TheVariants as op
 use Rattle.si_model.specs.declared.transactions.Txn.{Txn}
-use Rattle.si_model.specs.declared.parts.Access.{Access}
-use Rattle.si_model.specs.declared.parts.Access.TheVariants as access
 use Rattle.si_model.specs.declared.parts.Placed.{Placed}
 use Rattle.si_model.specs.declared.parts.Part.{Part}
+use Rattle.si_model.specs.declared.parts.OnKey.{OnKey}
+use Rattle.si_model.specs.Operations.{key_of, access_of, is_write, same_key, same_write}
 
--- the key of an operation
-abbrev pub key_of : Op → List ℕ
-key_of (op.Read x v) = x
-key_of (op.Write x v) = x
+-- what is present: transactions, and the values that keys were set up with before the run
+pub record Present : Type 0 where
+  pub txns : List Txn
+  pub initial : List (List ℕ × Value)
 
--- what an operation does to its key
-abbrev pub access_of : Op → Access
-access_of (op.Read x v) = access.Read v
-access_of (op.Write x v) = access.Write v
+-- whether T writes the pair that the operation writes
+abbrev pub writes_pair_of : Op → Txn → Bool
+writes_pair_of p T = list_any (same_write p) T.ops
 
--- whether two keys are one
-abbrev pub same_key : List ℕ → List ℕ → Bool
-same_key = pointwise nat_eq
+-- whether T writes at all
+abbrev pub writes_some : Txn → Bool
+writes_some T = list_any is_write T.ops
 
 -- an operation on the key, with its place
 abbrev pub placed_at : List ℕ → ℕ × Op → Option Placed
@@ -44,4 +42,12 @@ part x T = part_with T (accesses x T.ops)
 
 -- what the transactions do on the key
 abbrev pub parts : List ℕ → List Txn → List Part
-parts x P = filter_map (part x) P
+parts x txns = filter_map (part x) txns
+
+-- the value that the key was set up with, if it was
+unfoldable pub set_up_value : List ℕ → List (List ℕ × Value) → Option Value
+set_up_value x initial = option_map (λ pair. pair.1) (find (λ pair. same_key pair.0 x) initial)
+
+-- what is present on the key
+abbrev pub on_key : List ℕ → Present → OnKey
+on_key x P = record { initial = set_up_value x P.initial; parts = parts x P.txns }

@@ -66,15 +66,11 @@ fn by_source(sight: &Sight) -> Option<Kind>
 fn by_next(sight: &Sight) -> Option<Kind>
     ensures { result ≡ judged_by_next sight.now sight.now.next }
 {
-    let next = sight.next?;
-    if next.commit < sight.start {
-        Some(Kind::Stale {
-            txn: sight.txn,
-            op: sight.op,
-            read: sight.read,
-            missed: next.txn,
-        })
-    } else {
-        None
-    }
+    let missed = sight.next?.txn;
+    Some(Kind::Stale {
+        txn: sight.txn,
+        op: sight.op,
+        read: sight.read,
+        missed,
+    })
 }

@@ -1,6 +1,9 @@
 ghost use Rattle.std.specs.Prelude.{◌≡◌, IfOk};
 
-use crate::{OutOfMemory, Outcome, Txn, TxnId};
+use crate::{Key, OutOfMemory, Outcome, Txn, TxnId, Value};
+
+/// The most edits that a journal may have.
+pub const MOST_EDITS: usize = 16_777_216;
 
 /// A change of what is present.
 #[derive(Debug, PartialEq, Drop)]
@@ -11,6 +14,8 @@ pub enum Edit {
     Resolve(TxnId, Outcome),
     /// The record of the transaction was false.
     Withdraw(TxnId),
+    /// The key had this value before the run: its initial version returns it.
+    SetUp(Key, Value),
 }
 
 impl Edit {
@@ -22,6 +27,7 @@ impl Edit {
             Edit::Arrive(txn) => Edit::Arrive(txn.try_clone()?),
             Edit::Resolve(id, outcome) => Edit::Resolve(*id, *outcome),
             Edit::Withdraw(id) => Edit::Withdraw(*id),
+            Edit::SetUp(key, value) => Edit::SetUp(key.try_clone()?, *value),
         })
     }
 }

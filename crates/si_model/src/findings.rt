@@ -1,20 +1,21 @@
-//! The findings of a list of transactions: the plain slow program.
+//! The findings of what is present: the plain slow program.
 
-ghost use Rattle.std.specs.Prelude.{◌≡◌, ◌++◌, ℕ, List, IfOk, OnOk, map, nat_eq};
+ghost use Rattle.std.specs.Prelude.{◌≡◌, ◌++◌, IfOk, OnOk};
 ghost use Rattle.std.proofs.Common.{rules};
 ghost use Rattle.std.specs.List.{flat_map, filter_map};
-ghost use Rattle.std.specs.Ordering.{nat_cmp};
-ghost use Rattle.std.specs.Cmp.Lexicographic.{slice_cmp};
-ghost use Rattle.si_model.specs.Findings.{cases, access_finding, kinds_of, overlap_with, keys_in, keys, found_at, findings};
-ghost use Rattle.si_model.specs.Versions.{next_after};
+ghost use Rattle.si_model.specs.Parts.{Present};
+ghost use Rattle.si_model.specs.Versions.{install};
+ghost use Rattle.si_model.specs.Findings.{cases, access_kind, placed_kind, kinds_of, overlap_with, overlap_of, keys_in, keys, found_at, findings};
 ghost use Rattle.si_model.specs.History.{IsHistory};
 
 use crate::cases::{kind_of, overlaps};
-use crate::parts::parts_of;
+use crate::parts::on_key;
 use crate::reads::sight_of;
 use crate::sorting::put_in_order;
-use crate::versions::next_after;
-use crate::{Access, Key, Kind, OutOfMemory, Part, Placed, Stamp, Txn};
+use crate::versions::{install, next_after};
+use crate::{
+    Access, Installer, Key, Kind, OnKey, OutOfMemory, Part, Placed, Txn, Value, VersionId,
+};
 use std::alloc::Global;
 use std::cmp::Ordering;
 
@@ -38,11 +39,7 @@ impl Finding {
 }
 
 impl PartialEq for Finding {
-    ghost use Rattle.std.specs.Cmp.{IsEquivalence};
     ghost use Rattle.std.specs.Cmp.Rules.{comparing};
-    ghost use Rattle.std.specs.Cmp;
-    ghost use Rattle.std.specs.Cmp.Lexicographic.{nat_list_eq_equiv};
-    ghost use Rattle.std.specs.Prelude.{nat_eq};
     ghost use Rattle.std.proofs.Common.{rules};
     ghost use Rattle.si_model.specs.Order.{finding_eq};
 
@@ -79,7 +76,7 @@ impl Ord for Finding {
 
     fn cmp(&self, other: &Self) -> Ordering {
         match self.key.cmp(&other.key) {
-            Ordering::Equal => self.kind.fields().cmp(&other.kind.fields()),
+            Ordering::Equal => self.kind.cmp(&other.kind),
             order => order,
         }
     }
@@ -101,17 +98,22 @@ impl PartialOrd for Finding {
     }
 }
 
-/// The findings of these transactions, in order, as the definitions say. It walks all transactions for each key and
-/// all parts of a key for each of its operations.
+/// The findings of these transactions and set-up values, in order, as the definitions say. It walks all transactions for
+/// each key and all parts of a key for each of its operations.
 #[tactic(auto, unfolding(crate::specs::Findings::findings))]
-pub fn findings_of(alloc: Global, txns: &[Txn]) -> Result<Vec<Finding>, OutOfMemory>
-    requires { IsHistory txns.now }
-    ensures { IfOk result (λ found. found.items ≡ findings txns.now) }
+pub fn findings_of(
+    alloc: Global,
+    txns: &[Txn],
+    initial: &[(Key, Value)],
+) -> Result<Vec<Finding>, OutOfMemory>
+    requires { IsHistory (record { txns = txns.now; initial = initial.now }) }
+    ensures { IfOk result
+        (λ found. found.items ≡ findings (record { txns = txns.now; initial = initial.now })) }
 {
     let keys = keys_of(alloc, txns)?;
     let mut found = Vec::new(alloc);
     for key in &keys {
-        add_found_at(alloc, &mut found, txns, key)?;
+        add_found_at(alloc, &mut found, txns, initial, key)?;
     }
     put_in_order(&mut found);
     Ok(found)
@@ -143,12 +145,14 @@ fn add_found_at(
     alloc: Global,
     found: &mut Vec<Finding>,
     txns: &[Txn],
+    initial: &[(Key, Value)],
     key: &Key,
 ) -> Result<(), OutOfMemory>
-    ensures { OnOk result (found.new.items ≡ found.old.items ++ found_at txns.now key.now) }
+    ensures { OnOk result (found.new.items
+        ≡ found.old.items ++ found_at (record { txns = txns.now; initial = initial.now }) key.now) }
 {
-    let parts = parts_of(alloc, txns, key)?;
-    let kinds = kinds_on(alloc, &parts)?;
+    let on_key = on_key(alloc, txns, initial, key)?;
+    let kinds = kinds_on(alloc, &on_key)?;
     for kind in &kinds {
         found.push(Finding {
             key: key.try_clone()?,
@@ -158,47 +162,67 @@ fn add_found_at(
     Ok(())
 }
 
-fn kinds_on(alloc: Global, parts: &[Part]) -> Result<Vec<Kind>, OutOfMemory>
-    ensures { IfOk result (λ kinds. kinds.items ≡ flat_map (kinds_of cases parts.now) parts.now) }
+fn kinds_on(alloc: Global, on_key: &OnKey) -> Result<Vec<Kind>, OutOfMemory>
+    ensures { IfOk result
+        (λ kinds. kinds.items ≡ flat_map (kinds_of cases on_key.now) on_key.now.parts) }
 {
     let mut kinds = Vec::new(alloc);
-    for part in parts {
-        add_kinds_of(&mut kinds, parts, part)?;
+    for part in on_key.parts.as_slice() {
+        add_kinds_of(&mut kinds, on_key, part)?;
     }
     Ok(kinds)
 }
 
 #[tactic(auto, unfolding(crate::specs::Findings::kinds_of))]
-fn add_kinds_of(kinds: &mut Vec<Kind>, parts: &[Part], part: &Part) -> Result<(), OutOfMemory>
-    ensures { OnOk result (kinds.new.items ≡ kinds.old.items ++ kinds_of cases parts.now part.now) }
+fn add_kinds_of(kinds: &mut Vec<Kind>, on_key: &OnKey, part: &Part) -> Result<(), OutOfMemory>
+    ensures { OnOk result (kinds.new.items ≡ kinds.old.items ++ kinds_of cases on_key.now part.now) }
 {
-    let Some(commit) = part.status.commit() else {
+    let Some(_commit) = part.status.commit() else {
         return Ok(());
     };
+    add_read_kinds(kinds, on_key, part)?;
+    if let Some(kind) = overlap_of(on_key.parts.as_slice(), install(part)) {
+        kinds.push(kind)?;
+    }
+    Ok(())
+}
+
+fn add_read_kinds(kinds: &mut Vec<Kind>, on_key: &OnKey, part: &Part) -> Result<(), OutOfMemory>
+    ensures { OnOk result (kinds.new.items
+        ≡ kinds.old.items ++ filter_map (placed_kind cases on_key.now part.now) part.now.accesses) }
+{
     for placed in part.accesses.as_slice() {
-        if let Some(kind) = kind_at(parts, part, commit, *placed) {
+        if let Some(kind) = kind_at(on_key, part, *placed) {
             kinds.push(kind)?;
         }
     }
     Ok(())
 }
 
-fn kind_at(parts: &[Part], part: &Part, commit: Stamp, placed: Placed) -> Option<Kind>
-    ensures { result ≡ access_finding cases parts.now part.now commit placed.place placed.access }
+fn kind_at(on_key: &OnKey, part: &Part, placed: Placed) -> Option<Kind>
+    ensures { result ≡ access_kind cases on_key.now part.now placed.place placed.access }
 {
     match placed.access {
-        Access::Read(read) => kind_of(&sight_of(parts, part, placed.place, read)),
-        Access::Write(_) => overlap_with_next(parts, part, commit),
+        Access::Read(read) => kind_of(&sight_of(on_key, part, placed.place, read)),
+        Access::Write(_) => None,
     }
 }
 
-fn overlap_with_next(parts: &[Part], part: &Part, commit: Stamp) -> Option<Kind>
-    ensures { result ≡ overlap_with cases part.now commit (next_after parts.now (Some commit)) }
+/// The overlap of the version with the next one.
+fn overlap_of(parts: &[Part], installer: Option<Installer>) -> Option<Kind>
+    ensures { result ≡ overlap_of cases parts.now installer }
 {
-    let next = next_after(parts, Some(commit))?;
-    if overlaps(commit, next.start) {
+    let first = installer?;
+    overlap_with(first, next_after(parts, VersionId::Installed(first.commit)))
+}
+
+fn overlap_with(first: Installer, next: Option<Installer>) -> Option<Kind>
+    ensures { result ≡ overlap_with cases first next }
+{
+    let next = next?;
+    if overlaps(first.commit, next.start) {
         Some(Kind::Overlap {
-            first: part.id,
+            first: first.txn,
             second: next.txn,
         })
     } else {

@@ -1,15 +1,16 @@
-ghost use Rattle.std.specs.Prelude.{◌≡◌, ◌∷◌, [], nat_eq};
+ghost use Rattle.std.specs.Prelude.{◌≡◌, ◌∷◌, []};
 ghost use Rattle.std.proofs.Common.{rules};
 ghost use Rattle.std.specs.Cmp.Rules.{comparing};
-ghost use Rattle.std.specs.Cmp.Lexicographic.{pointwise, nat_list_eq_equiv};
-ghost use Rattle.si_model.specs.Order.{fields, presence, number_of};
+ghost use Rattle.std.specs.Cmp.Lexicographic.{nat_list_eq_equiv};
+ghost use Rattle.si_model.specs.Order.{fields, presence, value_or_zero, kind_cmp, kind_eq};
 
 use crate::{TxnId, Value};
+use std::cmp::Ordering;
 
 /// What is wrong with a read, or with two versions. The variants are in the order of their numbers, from 1.
 #[derive(Clone, Copy, Debug)]
 pub enum Kind {
-    /// No present transaction writes the value read.
+    /// The initial version doesn't return what was read, and no present transaction writes it.
     Unknown {
         txn: TxnId,
         op: usize,
@@ -66,6 +67,7 @@ pub enum Kind {
 
 impl Kind {
     /// All that it says, in the order that findings on one key are in.
+    #[tactic(auto, unfolding(crate::specs::Order::fields))]
     pub(crate) fn fields(&self) -> [u64; 7]
         ensures { result ≡ fields self.now }
     {
@@ -78,7 +80,7 @@ impl Kind {
                 writer,
             } => of_read(2, txn, op, read, writer.0, 0),
             Kind::Own { txn, op, read, own } => {
-                of_read(3, txn, op, read, presence(own), number_of(own))
+                of_read(3, txn, op, read, presence(own), value_or_zero(own))
             }
             Kind::Aborted {
                 txn,
@@ -117,14 +119,14 @@ fn of_read(
     first: u64,
     second: u64,
 ) -> [u64; 7]
-    ensures { result ≡ number ∷ txn.0 ∷ op ∷ presence read ∷ number_of read ∷ first ∷ second ∷ [] }
+    ensures { result ≡ number ∷ txn.0 ∷ op ∷ presence read ∷ value_or_zero read ∷ first ∷ second ∷ [] }
 {
     [
         number,
         txn.0,
         op as u64,
         presence(read),
-        number_of(read),
+        value_or_zero(read),
         first,
         second,
     ]
@@ -139,8 +141,8 @@ fn presence(value: Option<Value>) -> u64
     }
 }
 
-fn number_of(value: Option<Value>) -> u64
-    ensures { result ≡ number_of value }
+fn value_or_zero(value: Option<Value>) -> u64
+    ensures { result ≡ value_or_zero value }
 {
     match value {
         None => 0,
@@ -149,7 +151,7 @@ fn number_of(value: Option<Value>) -> u64
 }
 
 impl PartialEq for Kind {
-    ghost eq = { λ a b. pointwise nat_eq (fields a) (fields b) };
+    ghost eq = { kind_eq };
 
     ghost laws = { Prim.search (comparing, rules) };
 
@@ -160,4 +162,32 @@ impl PartialEq for Kind {
 
 impl Eq for Kind {
     ghost laws = { Prim.search (comparing, rules) };
+}
+
+/// Kinds are in the order of their numbers, then of the first transaction, then of the operation or the second transaction.
+impl Ord for Kind {
+    ghost cmp = { kind_cmp };
+
+    ghost total = { Prim.search (comparing, rules) };
+
+    ghost matches_partial_cmp = { Prim.search (comparing, rules) };
+
+    ghost matches_eq = { Prim.search (comparing, rules) };
+
+    fn cmp(&self, other: &Self) -> Ordering {
+        self.fields().cmp(&other.fields())
+    }
+}
+
+impl PartialOrd for Kind {
+    ghost use Rattle.std.specs.Cmp.{partial_order_from_own_ties};
+    ghost use Rattle.std.specs.Ordering.{as_partial_cmp};
+
+    ghost partial_cmp = { as_partial_cmp kind_cmp };
+
+    ghost laws = { partial_order_from_own_ties (Prim.search (comparing, rules)) (Prim.search (comparing, rules)) };
+
+    fn partial_cmp(&self, other: &Self) -> Option<Ordering> {
+        Some(self.cmp(other))
+    }
 }

@@ -1,6 +1,6 @@
 ghost use Rattle.std.specs.Prelude.{◌≡◌, ◌≤◌, IfOk, length};
-ghost use Rattle.si_model.specs.Parts.{key_of, access_of};
-ghost use Rattle.si_model.specs.Edits.{same_write};
+ghost use Rattle.std.specs.List.{list_any};
+ghost use Rattle.si_model.specs.Operations.{key_of, access_of, is_write, same_write};
 
 use crate::{Access, Key, OutOfMemory, Value};
 use std::fmt;
@@ -13,7 +13,7 @@ pub const MOST_OPS: usize = 4096;
 /// What a transaction does at one place.
 #[derive(Debug, PartialEq, Eq, Drop)]
 pub enum Op {
-    /// A read of a key, and what it returned: `None` for the initial version.
+    /// A read of a key, and what it returned: `None` for `null`.
     Read(Key, Option<Value>),
     /// A write of a value to a key.
     Write(Key, Value),
@@ -25,6 +25,16 @@ impl Op {
     {
         match self {
             Op::Read(key, _) | Op::Write(key, _) => key,
+        }
+    }
+
+    /// Whether it is a write.
+    pub fn is_write(&self) -> bool
+        ensures { result ≡ is_write self.now }
+    {
+        match self {
+            Op::Read(..) => false,
+            Op::Write(..) => true,
         }
     }
 
@@ -67,28 +77,35 @@ impl Op {
 #[derive(Drop)]
 pub struct Ops {
     items: ArcSlice<Op>,
+    // Whether one of them is a write.
+    writes: bool,
 }
 
 impl Model for Ops {
-    ghost use Rattle.std.specs.Prelude.{List, length, ◌≤◌};
+    ghost use Rattle.std.specs.Prelude.{◌≡◌, List, length, ◌≤◌};
+    ghost use Rattle.std.specs.List.{list_any};
     ghost use Rattle.std.specs.Arc.{arc_slice_items};
     ghost use Rattle.si_model.specs.declared.operations.Op.{Op};
+    ghost use Rattle.si_model.specs.declared.operations.TheConstants.{MOST_OPS};
+    ghost use Rattle.si_model.specs.Operations.{is_write};
 
     ghost Value = { List Op };
 
     ghost view = { λ o. arc_slice_items o.items };
 
-    ghost invariant = { λ o. length (arc_slice_items o.items) ≤ 4096 };
+    ghost invariant = { λ o. (length (arc_slice_items o.items) ≤ MOST_OPS) × (o.writes ≡ list_any is_write (arc_slice_items o.items)) };
 }
 
 impl Ops {
     /// These operations, which aren't copied.
     pub fn from_vec(items: Vec<Op>) -> Result<Self, OutOfMemory>
-        requires { length items.items ≤ 4096 }
+        requires { length items.items ≤ MOST_OPS }
         ensures { IfOk result (λ ops. ops ≡ items.items) }
     {
+        let writes = any_writes(&items);
         Ok(Ops {
             items: ArcSlice::from_vec(items)?,
+            writes,
         })
     }
 
@@ -98,15 +115,29 @@ impl Ops {
     {
         Ok(Ops {
             items: self.items.clone()?,
+            writes: self.writes,
         })
     }
 
     pub fn as_slice(&self) -> &[Op]
         ensures items { result.now ≡ self.now }
-        ensures within { length result.now ≤ 4096 }
+        ensures within { length result.now ≤ MOST_OPS }
     {
         self.items.as_slice()
     }
+
+    /// Whether one of them is a write. It was looked for when the list was made.
+    pub fn has_write(&self) -> bool
+        ensures { result ≡ list_any is_write self.now }
+    {
+        self.writes
+    }
+}
+
+fn any_writes(ops: &[Op]) -> bool
+    ensures { result ≡ list_any is_write ops.now }
+{
+    ops.iter().any(|op| op.is_write())
 }
 
 impl PartialEq for Ops {

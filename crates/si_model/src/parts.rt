@@ -1,5 +1,8 @@
 ghost use Rattle.std.specs.Prelude.{◌≡◌, List, IfOk, OnOk};
-ghost use Rattle.si_model.specs.Parts.{accesses, part, parts};
+ghost use Rattle.std.specs.Option.{option_copied};
+ghost use Rattle.std.specs.List.{find};
+ghost use Rattle.si_model.specs.Operations.{same_key};
+ghost use Rattle.si_model.specs.Parts.{Present, accesses, part, parts, set_up_value, on_key};
 ghost use Rattle.si_model.specs.Versions.{written, is_write_of};
 
 use crate::{Key, Op, OutOfMemory, Stamp, Status, Txn, TxnId, Value};
@@ -9,7 +12,7 @@ use std::marker::Model;
 /// What a transaction does to one key at one place.
 #[derive(Clone, Copy, Debug, PartialEq, Eq)]
 pub enum Access {
-    /// A read, and what it returned: `None` for the initial version.
+    /// A read, and what it returned: `None` for `null`.
     Read(Option<Value>),
     Write(Value),
 }
@@ -81,6 +84,44 @@ pub struct Part {
     pub accesses: Accesses,
 }
 
+/// What the present transactions do on one key. Contracts see the list.
+#[derive(Debug, Drop)]
+pub struct Parts {
+    items: Vec<Part>,
+}
+
+impl Model for Parts {
+    ghost use Rattle.std.specs.Prelude.{List};
+    ghost use Rattle.si_model.specs.declared.parts.Part.{Part};
+
+    ghost Value = { List Part };
+
+    ghost view = { λ p. p.items.items };
+}
+
+impl Parts {
+    pub fn from_vec(items: Vec<Part>) -> Self
+        ensures { result ≡ items.items }
+    {
+        Parts { items }
+    }
+
+    pub fn as_slice(&self) -> &[Part]
+        ensures { result.now ≡ self.now }
+    {
+        self.items.as_slice()
+    }
+}
+
+/// What is present on one key.
+#[derive(Debug, Drop)]
+pub struct OnKey {
+    /// What the initial version returns: the value that the key was set up with, or `None` for `null`.
+    pub initial: Option<Value>,
+    /// What the present transactions do on the key, in the order of their arrival.
+    pub parts: Parts,
+}
+
 /// What the transaction does on the key, if it does anything there.
 #[tactic(auto, unfolding(crate::specs::Parts::part))]
 pub fn part_of(alloc: Global, txn: &Txn, key: &Key) -> Result<Option<Part>, OutOfMemory>
@@ -98,9 +139,42 @@ pub fn part_of(alloc: Global, txn: &Txn, key: &Key) -> Result<Option<Part>, OutO
     }))
 }
 
+/// What is present on the key, of these transactions and set-up values.
+pub fn on_key(
+    alloc: Global,
+    txns: &[Txn],
+    initial: &[(Key, Value)],
+    key: &Key,
+) -> Result<OnKey, OutOfMemory>
+    ensures { IfOk result
+        (λ found. found ≡ on_key key.now (record { txns = txns.now; initial = initial.now })) }
+{
+    Ok(OnKey {
+        initial: set_up_value(initial, key),
+        parts: parts_of(alloc, txns, key)?,
+    })
+}
+
+/// The value that the key was set up with.
+#[tactic(auto, unfolding(crate::specs::Parts::set_up_value))]
+pub fn set_up_value(initial: &[(Key, Value)], key: &Key) -> Option<Value>
+    ensures { result ≡ set_up_value key.now initial.now }
+{
+    match pair_of(initial, key) {
+        Some(pair) => Some(pair.1),
+        None => None,
+    }
+}
+
+fn pair_of<'a>(initial: &'a [(Key, Value)], key: &Key) -> Option<&'a (Key, Value)>
+    ensures { option_copied result ≡ find (λ pair. same_key pair.0 key.now) initial.now }
+{
+    initial.iter().find(|pair| pair.0 == *key)
+}
+
 /// What the transactions do on the key, in their order.
-pub fn parts_of(alloc: Global, txns: &[Txn], key: &Key) -> Result<Vec<Part>, OutOfMemory>
-    ensures { IfOk result (λ found. found.items ≡ parts key.now txns.now) }
+fn parts_of(alloc: Global, txns: &[Txn], key: &Key) -> Result<Parts, OutOfMemory>
+    ensures { IfOk result (λ found. found ≡ parts key.now txns.now) }
 {
     let mut found = Vec::new(alloc);
     for txn in txns {
@@ -108,7 +182,7 @@ pub fn parts_of(alloc: Global, txns: &[Txn], key: &Key) -> Result<Vec<Part>, Out
             found.push(part)?;
         }
     }
-    Ok(found)
+    Ok(Parts::from_vec(found))
 }
 
 fn accesses_of(alloc: Global, ops: &[Op], key: &Key) -> Result<Accesses, OutOfMemory>

@@ -4,17 +4,17 @@ ghost use Rattle.std.specs.Prelude.{◌≡◌};
 ghost use Rattle.std.specs.List.{find, list_any};
 ghost use Rattle.std.specs.Option.{option_copied};
 ghost use Rattle.si_model.specs.Versions.{part_writes};
-ghost use Rattle.si_model.specs.Reads.{own_value, is_later_write, writes_later, source_by, source_of, next_at, sight_of};
+ghost use Rattle.si_model.specs.Reads.{own_value, is_later_write, writes_later, source_by, source_among, source_of, if_before, missed_at, version_of, sight_of};
 
 use crate::versions::{last_write, next_after, writes};
-use crate::{Installer, Part, Sight, Source, Status, Value};
+use crate::{Installer, OnKey, Part, Sight, Source, Stamp, Status, Value, VersionId};
 
 /// What is seen at the part's read of that value at that place.
 #[tactic(auto, unfolding(crate::specs::Reads::sight_of))]
-pub fn sight_of(parts: &[Part], part: &Part, op: usize, read: Option<Value>) -> Sight
-    ensures { result ≡ sight_of parts.now part.now op read }
+pub fn sight_of(on_key: &OnKey, part: &Part, op: usize, read: Option<Value>) -> Sight
+    ensures { result ≡ sight_of on_key.now part.now op read }
 {
-    let source = source_of(parts, read);
+    let source = source_of(on_key, read);
     Sight {
         txn: part.id,
         op,
@@ -23,7 +23,7 @@ pub fn sight_of(parts: &[Part], part: &Part, op: usize, read: Option<Value>) -> 
         own: own_value(part, op),
         later: writes_later(part, op, read),
         source,
-        next: next_at(parts, source),
+        next: missed_at(on_key.parts.as_slice(), part.start, source),
     }
 }
 
@@ -56,11 +56,21 @@ fn writes_after(part: &Part, op: usize, value: Value) -> bool
 }
 
 #[tactic(auto, unfolding(crate::specs::Reads::source_of))]
-fn source_of(parts: &[Part], read: Option<Value>) -> Source
-    ensures { result ≡ source_of parts.now read }
+fn source_of(on_key: &OnKey, read: Option<Value>) -> Source
+    ensures { result ≡ source_of on_key.now read }
+{
+    if read == on_key.initial {
+        return Source::Initial;
+    }
+    source_among(on_key.parts.as_slice(), read)
+}
+
+/// Where what was read comes from, if the initial version doesn't return it.
+fn source_among(parts: &[Part], read: Option<Value>) -> Source
+    ensures { result ≡ source_among parts.now read }
 {
     let Some(value) = read else {
-        return Source::Initial;
+        return Source::Missing;
     };
     match writer_of(parts, value) {
         None => Source::Missing,
@@ -91,13 +101,34 @@ fn writer_of(parts: &[Part], value: Value) -> Option<&Part>
     parts.iter().find(|part| writes(part, value))
 }
 
-#[tactic(auto, unfolding(crate::specs::Reads::next_at))]
-fn next_at(parts: &[Part], source: Source) -> Option<Installer>
-    ensures { result ≡ next_at parts.now source }
+/// What a reader with that start missed after the version that it read.
+#[tactic(auto, unfolding(crate::specs::Reads::missed_at))]
+fn missed_at(parts: &[Part], start: Stamp, source: Source) -> Option<Installer>
+    ensures { result ≡ missed_at parts.now start source }
+{
+    let read = version_of(source)?;
+    if_before(start, next_after(parts, read))
+}
+
+/// The version that was read, where what was read is one.
+pub fn version_of(source: Source) -> Option<VersionId>
+    ensures { result ≡ version_of source }
 {
     match source {
-        Source::Initial => next_after(parts, None),
-        Source::Installed(_, commit) => next_after(parts, Some(commit)),
+        Source::Initial => Some(VersionId::Initial),
+        Source::Installed(_, commit) => Some(VersionId::Installed(commit)),
         Source::Missing | Source::InDoubt(_) | Source::Aborted(_) | Source::Earlier(_) => None,
+    }
+}
+
+/// The version, where it was installed before the start.
+pub fn if_before(start: Stamp, next: Option<Installer>) -> Option<Installer>
+    ensures { result ≡ if_before start next }
+{
+    let next = next?;
+    if next.commit < start {
+        Some(next)
+    } else {
+        None
     }
 }

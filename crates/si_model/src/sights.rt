@@ -8,12 +8,21 @@ pub struct Installer {
     pub commit: Stamp,
 }
 
+/// A version of a key, named by the commit stamp of its installer; the initial version has none.
+#[derive(Clone, Copy, Debug, PartialEq, Eq)]
+pub enum VersionId {
+    /// The version that stands before all others and belongs to no transaction.
+    Initial,
+    /// The version that was installed at this commit.
+    Installed(Stamp),
+}
+
 /// Where the value comes from that a read returned.
 #[derive(Clone, Copy, Debug, PartialEq, Eq)]
 pub enum Source {
-    /// No present transaction writes it.
+    /// The initial version doesn't return it, and no present transaction writes it.
     Missing,
-    /// It is the initial version.
+    /// The initial version returns it.
     Initial,
     /// A transaction in doubt writes it.
     InDoubt(TxnId),
@@ -34,13 +43,13 @@ pub struct Sight {
     pub op: usize,
     /// The reader's start.
     pub start: Stamp,
-    /// What the read returned: `None` for the initial version.
+    /// What the read returned: `None` for `null`.
     pub read: Option<Value>,
     /// The reader's last write of the key before the read.
     pub own: Option<Value>,
     /// Whether the reader writes the value read to the key after the read.
     pub later: bool,
     pub source: Source,
-    /// The installer of the version next after an initial or installed version.
+    /// The version that was missed: installed next after the one read, and before the reader's start.
     pub next: Option<Installer>,
 }

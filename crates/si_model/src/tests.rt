@@ -69,10 +69,22 @@ fn finds(
     rows: &[Row],
     want: &[(&str, Kind)],
 ) -> Result<(), OutOfMemory> {
+    finds_with(rt, alloc, &[], rows, want)
+}
+
+/// The same where keys are set up with values.
+fn finds_with(
+    rt: &impl Abort,
+    alloc: Global,
+    pairs: &[(&str, u64)],
+    rows: &[Row],
+    want: &[(&str, Kind)],
+) -> Result<(), OutOfMemory> {
+    let initial = initial(rt, alloc, pairs)?;
     let mut txns = txns(rt, alloc, rows)?;
     for _ in 0..2 {
-        assert!(rt; is_history(&txns));
-        let found = findings_of(alloc, &txns)?;
+        assert!(rt; is_history(&txns, &initial));
+        let found = findings_of(alloc, &txns, &initial)?;
         assert_eq!(rt; found.len(), want.len(), "{found:?}");
         for (finding, (text, kind)) in found.iter().zip(want) {
             assert_eq!(rt; finding.key.as_str(), *text);
@@ -81,6 +93,18 @@ fn finds(
         txns.reverse();
     }
     Ok(())
+}
+
+fn initial(
+    rt: &impl Abort,
+    alloc: Global,
+    pairs: &[(&str, u64)],
+) -> Result<Vec<(Key, Value)>, OutOfMemory> {
+    let mut initial = Vec::new(alloc);
+    for (text, value) in pairs {
+        initial.push((key(rt, alloc, text)?, Value(*value)))?;
+    }
+    Ok(initial)
 }
 
 fn value(read: Option<u64>) -> Option<Value> {
@@ -429,10 +453,10 @@ fn findings_stand_in_order(rt: HostRuntime) -> Result<(), Fail> {
 fn is_refused(rt: &impl Abort, alloc: Global, what: &str, second: Txn) -> Result<(), OutOfMemory> {
     let first = txn(rt, alloc, &(1, 1, committed(4), &[W("x", 1)]))?;
     assert!(rt;
-        !is_history(&[first.try_clone()?, second.try_clone()?]),
+        !is_history(&[first.try_clone()?, second.try_clone()?], &[]),
         "{what}"
     );
-    assert!(rt; !is_history(&[second, first]), "{what}");
+    assert!(rt; !is_history(&[second, first], &[]), "{what}");
     Ok(())
 }
 
@@ -440,27 +464,203 @@ fn is_refused(rt: &impl Abort, alloc: Global, what: &str, second: Txn) -> Result
 fn what_is_a_history(rt: HostRuntime) -> Result<(), Fail> {
     let first: Row = (1, 1, committed(4), &[W("x", 1)]);
     let equal_starts: Row = (2, 1, committed(5), &[W("y", 1), W("x", 2)]);
-    assert!(rt; is_history(&[]));
-    assert!(rt; is_history(&txns(&rt, rt.alloc(), &[first, equal_starts])?));
+    let alloc = rt.alloc();
+    assert!(rt; is_history(&[], &[]));
+    let both = txns(&rt, alloc, &[first, equal_starts])?;
+    assert!(rt; is_history(&both, &[]));
+    assert!(rt; is_history(&both, &initial(&rt, alloc, &[("x", 3), ("z", 1)])?));
+    // readers of one snapshot share its stamp, and with the start of a writer
+    let readers: [Row; 4] = [
+        (1, 3, committed(3), &[R("x", None)]),
+        (2, 3, committed(3), &[]),
+        (3, 2, committed(3), &[R("x", None)]),
+        (4, 3, committed(4), &[W("x", 1)]),
+    ];
+    assert!(rt; is_history(&txns(&rt, alloc, &readers)?, &[]));
+    Ok(())
+}
+
+#[test]
+fn set_ups_that_make_no_history(rt: HostRuntime) -> Result<(), Fail> {
+    let alloc = rt.alloc();
+    let writer = txns(&rt, alloc, &[(1, 1, IN_DOUBT, &[W("y", 1), W("x", 5)])])?;
+    assert!(rt; !is_history(&writer, &initial(&rt, alloc, &[("z", 1), ("x", 5)])?));
+    assert!(rt; !is_history(&[], &initial(&rt, alloc, &[("x", 1), ("y", 1), ("x", 2)])?));
+    Ok(())
+}
+
+#[test]
+fn readers_of_one_snapshot(rt: HostRuntime) -> Result<(), Fail> {
+    let alloc = rt.alloc();
+    finds(
+        &rt,
+        alloc,
+        &[
+            (1, 1, committed(2), &[W("x", 1)]),
+            (2, 3, committed(3), &[R("x", Some(1))]),
+            (3, 4, committed(4), &[R("x", None)]),
+            (5, 3, committed(3), &[R("x", Some(1))]),
+        ],
+        &[("x", stale(3, 0, None, 1))],
+    )?;
+    Ok(())
+}
+
+#[test]
+fn values_from_before_the_run(rt: HostRuntime) -> Result<(), Fail> {
+    let alloc = rt.alloc();
+    // the initial version returns the value, and null no more
+    finds_with(
+        &rt,
+        alloc,
+        &[("y", 1), ("x", 5)],
+        &[
+            (1, 1, committed(2), &[R("x", Some(5))]),
+            (2, 3, committed(4), &[R("x", None)]),
+            (3, 5, committed(6), &[W("x", 7)]),
+            (4, 7, committed(8), &[R("x", Some(5)), R("z", None)]),
+        ],
+        &[("x", unknown(2, 0, None)), ("x", stale(4, 0, Some(5), 3))],
+    )?;
+    // a value that was set up for one key is unknown on another
+    finds_with(
+        &rt,
+        alloc,
+        &[("x", 5)],
+        &[(1, 1, committed(2), &[R("y", Some(5))])],
+        &[("y", unknown(1, 0, Some(5)))],
+    )?;
+    // what the reader itself wrote comes first
+    finds_with(
+        &rt,
+        alloc,
+        &[("x", 5)],
+        &[(
+            1,
+            1,
+            committed(2),
+            &[W("x", 6), R("x", Some(5)), R("x", None)],
+        )],
+        &[
+            ("x", own(1, 1, Some(5), Some(6))),
+            ("x", own(1, 2, None, Some(6))),
+        ],
+    )?;
+    Ok(())
+}
+
+#[test]
+fn the_plain_program_of_acceptance(rt: HostRuntime) -> Result<(), Fail> {
+    let alloc = rt.alloc();
+    let (mut txns, mut initial) = (Vec::new(alloc), Vec::new(alloc));
+    let arrive = |row: &Row| -> Result<Edit, OutOfMemory> {
+        Ok(Edit::Arrive(txn(&rt, alloc, row)?))
+    };
+    let edits = [
+        (arrive(&(1, 1, IN_DOUBT, &[R("x", None)]))?, None),
+        (
+            Edit::Resolve(TxnId(1), Outcome::Committed(Stamp(0))),
+            Some(Refusal::StampOrder),
+        ),
+        (Edit::Resolve(TxnId(1), Outcome::Committed(Stamp(1))), None),
+        (
+            Edit::Resolve(TxnId(1), Outcome::Aborted),
+            Some(Refusal::NotInDoubt),
+        ),
+        (
+            arrive(&(2, 3, committed(3), &[W("x", 1)]))?,
+            Some(Refusal::StampOrder),
+        ),
+        (
+            arrive(&(2, 3, committed(4), &[W("x", 1), R("y", None)]))?,
+            None,
+        ),
+        (
+            arrive(&(3, 4, committed(9), &[]))?,
+            Some(Refusal::StampTaken {
+                stamp: Stamp(4),
+                holder: TxnId(2),
+            }),
+        ),
+        (
+            arrive(&(3, 2, committed(4), &[]))?,
+            Some(Refusal::StampTaken {
+                stamp: Stamp(4),
+                holder: TxnId(2),
+            }),
+        ),
+        (
+            Edit::SetUp(key(&rt, alloc, "x")?, Value(1)),
+            Some(Refusal::SetUpTaken { holder: TxnId(2) }),
+        ),
+        (Edit::SetUp(key(&rt, alloc, "x")?, Value(5)), None),
+        (
+            Edit::SetUp(key(&rt, alloc, "x")?, Value(6)),
+            Some(Refusal::SetUpTwice),
+        ),
+        (
+            arrive(&(4, 5, ABORTED, &[W("y", 5), W("x", 5)]))?,
+            Some(Refusal::ValueSetUp { op: 1 }),
+        ),
+        (Edit::Withdraw(TxnId(2)), None),
+        (Edit::Withdraw(TxnId(2)), Some(Refusal::NoSuch)),
+        (arrive(&(1, 7, ABORTED, &[]))?, Some(Refusal::IdPresent)),
+    ];
+    for (edit, want) in edits {
+        let walked = plain::Walked {
+            txns: &txns,
+            initial: &initial,
+        };
+        let refusal = refusal_on(&walked, &edit);
+        assert_eq!(rt; refusal, want, "{edit:?}");
+        if refusal.is_none() {
+            plain::change(&mut txns, &mut initial, edit)?;
+        }
+    }
+    assert_eq!(rt; (txns.len(), initial.len()), (1, 1));
+    assert_eq!(rt; txns[0].status, committed(1));
+    Ok(())
+}
+
+#[test]
+fn evidence_for_kinds(rt: HostRuntime) -> Result<(), Fail> {
+    let alloc = rt.alloc();
+    assert_eq!(rt; evidence_of(alloc, own(1, 1, None, None))?, None);
+    let mut edges = Vec::new(alloc);
+    edges.push(Edge {
+        from: TxnId(4),
+        to: TxnId(3),
+        label: Label::Rw,
+    })?;
+    edges.push(Edge {
+        from: TxnId(3),
+        to: TxnId(4),
+        label: Label::St,
+    })?;
+    let walk = Walk::from_vec(edges);
+    assert_eq!(rt; walk.as_slice().len(), 2);
+    let missed = evidence_of(alloc, stale(4, 0, Some(5), 3))?;
+    assert_eq!(rt; missed, Some(Evidence::Missed(walk)));
     Ok(())
 }
 
 #[test]
 fn stamps_and_ids_that_make_no_history(rt: HostRuntime) -> Result<(), Fail> {
     let alloc = rt.alloc();
-    for (what, id, start, status) in [
-        ("a commit at its start", 2, 5, committed(5)),
-        ("a commit before its start", 2, 6, committed(5)),
-        ("an id twice", 1, 2, committed(5)),
-        ("a commit at a commit", 2, 2, committed(4)),
-        ("a start at a commit", 2, 4, IN_DOUBT),
-        ("a commit at a start", 2, 0, committed(1)),
+    let write: &[Do] = &[W("y", 1)];
+    for (what, id, start, status, steps) in [
+        ("a writer's commit at its start", 2, 5, committed(5), write),
+        ("a commit before its start", 2, 6, committed(5), &[]),
+        ("an id twice", 1, 2, committed(5), &[]),
+        ("a commit at a writer's commit", 2, 2, committed(4), &[]),
+        ("a start at a writer's commit", 2, 4, IN_DOUBT, &[]),
+        ("a writer's commit at a start", 2, 0, committed(1), write),
     ] {
         is_refused(
             &rt,
             alloc,
             what,
-            txn(&rt, alloc, &(id, start, status, &[]))?,
+            txn(&rt, alloc, &(id, start, status, steps))?,
         )?;
     }
     Ok(())
@@ -508,7 +708,10 @@ fn parts_of_a_key(rt: HostRuntime) -> Result<(), Fail> {
             (2, 3, ABORTED, &[R("y", None), W("x", 1), R("x", Some(1))]),
         ],
     )?;
-    let found = parts::parts_of(alloc, &txns, &key(&rt, alloc, "x")?)?;
+    let pairs = initial(&rt, alloc, &[("y", 7), ("x", 3)])?;
+    let on_key = parts::on_key(alloc, &txns, &pairs, &key(&rt, alloc, "x")?)?;
+    assert_eq!(rt; on_key.initial, Some(Value(3)));
+    let found = on_key.parts.as_slice();
     assert_eq!(rt; found.len(), 1);
     assert_eq!(rt; found[0].id, TxnId(2));
     assert_eq!(rt; found[0].start, Stamp(3));
@@ -542,7 +745,8 @@ fn copies_are_equal(rt: HostRuntime) -> Result<(), Fail> {
         &(1, 2, committed(3), &[R("x", None), W("y", 4)]),
     )?);
     let resolution = Edit::Resolve(TxnId(1), Outcome::Committed(Stamp(2)));
-    for edit in [arrival, resolution, Edit::Withdraw(TxnId(1))] {
+    let set_up = Edit::SetUp(key(&rt, rt.alloc(), "x")?, Value(5));
+    for edit in [arrival, resolution, Edit::Withdraw(TxnId(1)), set_up] {
         assert_eq!(rt; edit.try_clone()?, edit);
     }
     let finding = Finding {
@@ -565,7 +769,7 @@ fn threads_may_share_what_they_will_hold(rt: HostRuntime) -> Result<(), Fail> {
     let alloc = rt.alloc();
     is_shared(&txn(&rt, alloc, &(1, 2, committed(3), &[W("y", 4)]))?);
     is_shared(&Edit::Withdraw(TxnId(1)));
-    is_shared(&findings_of(alloc, &[])?);
+    is_shared(&findings_of(alloc, &[], &[])?);
     Ok(())
 }
 

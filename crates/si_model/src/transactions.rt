@@ -1,6 +1,7 @@
 ghost use Rattle.std.specs.Prelude.{◌≡◌, IfOk};
+ghost use Rattle.si_model.specs.Parts.{writes_some};
 ghost use Rattle.si_model.specs.Versions.{commit_of};
-ghost use Rattle.si_model.specs.Edits.{status_of};
+ghost use Rattle.si_model.specs.Edits.{status_after};
 
 use crate::{Ops, OutOfMemory, Stamp, TxnId};
 
@@ -37,7 +38,7 @@ pub enum Outcome {
 impl Outcome {
     /// The status of the transaction once it is resolved.
     pub fn status(self) -> Status
-        ensures { result ≡ status_of self }
+        ensures { result ≡ status_after self }
     {
         match self {
             Outcome::Committed(commit) => Status::Committed(commit),
@@ -57,6 +58,13 @@ pub struct Txn {
 }
 
 impl Txn {
+    /// Whether it writes at all.
+    pub fn writes(&self) -> bool
+        ensures { result ≡ writes_some self.now }
+    {
+        self.ops.has_write()
+    }
+
     /// The same transaction, which shares its operations.
     pub fn try_clone(&self) -> Result<Self, OutOfMemory>
         ensures { IfOk result (λ txn. txn ≡ self.now) }

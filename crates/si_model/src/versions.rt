@@ -3,7 +3,7 @@
 ghost use Rattle.std.specs.Prelude.{◌≡◌};
 ghost use Rattle.si_model.specs.Versions.{last_write, part_writes, install, is_after, earlier, nearer, next_after};
 
-use crate::{Installer, Part, Placed, Stamp, Value};
+use crate::{Installer, Part, Placed, Stamp, Value, VersionId};
 
 /// The value of the last write.
 pub fn last_write(accesses: &[Placed]) -> Option<Value>
@@ -37,9 +37,9 @@ pub fn install(part: &Part) -> Option<Installer>
     })
 }
 
-/// The installer of the version next after the one with that commit stamp, or after the initial version.
+/// The installer of the version next after that one.
 #[tactic(auto, unfolding(crate::specs::Versions::next_after))]
-pub fn next_after(parts: &[Part], after: Option<Stamp>) -> Option<Installer>
+pub fn next_after(parts: &[Part], after: VersionId) -> Option<Installer>
     ensures { result ≡ next_after parts.now after }
 {
     parts
@@ -47,11 +47,7 @@ pub fn next_after(parts: &[Part], after: Option<Stamp>) -> Option<Installer>
         .fold(None, |best, part| nearer(after, best, install(part)))
 }
 
-fn nearer(
-    after: Option<Stamp>,
-    best: Option<Installer>,
-    other: Option<Installer>,
-) -> Option<Installer>
+fn nearer(after: VersionId, best: Option<Installer>, other: Option<Installer>) -> Option<Installer>
     ensures { result ≡ nearer after best other }
 {
     match other {
@@ -69,11 +65,11 @@ fn earlier(best: Option<Installer>, other: Installer) -> Option<Installer>
     }
 }
 
-fn is_after(after: Option<Stamp>, commit: Stamp) -> bool
+fn is_after(after: VersionId, commit: Stamp) -> bool
     ensures { result ≡ is_after after commit }
 {
     match after {
-        None => true,
-        Some(after) => after < commit,
+        VersionId::Initial => true,
+        VersionId::Installed(after) => after < commit,
     }
 }

@@ -4,6 +4,7 @@ use Rattle.std.proofs.lemmas.Bool.{cases_lt}
 use Rattle.std.proofs.lemmas.Bool.Decides.{nat_tests}
 use Rattle.std.proofs.lemmas.List.{take_all, take_min, length-take, take-append-drop}
 use Rattle.std.proofs.Math.Seq.{take-append-add}
+use Rattle.si_text.specs.declared.readings.TheConstants.{MOST_LINE_BYTES}
 use Rattle.si_text.specs.Inputs.{Item, is_line_feed, has_line_feed, with_first, lines_of, is_blank, item_of, numbered, items_after}
 use Rattle.si_text.specs.Lines.{edit_of}
 use Rattle.si_text.specs.declared.faults.LineFault.TheVariants.{TooLong}
@@ -65,22 +66,22 @@ last_items before line none =
 
 -- ---- lines that are too long
 
-item_of-long : (number : ℕ) (line : List ℕ) → 1048576 < length line → item_of number line ≡ (number, Err TooLong) ∷ []
+item_of-long : (number : ℕ) (line : List ℕ) → MOST_LINE_BYTES < length line → item_of number line ≡ (number, Err TooLong) ∷ []
 unfolding is_blank edit_of
 item_of-long number line long =
-    let not_short : leb (length line) 1048576 ≡ false = grind (arith, nat_tests) in
-    let too_long : ltb 1048576 (length line) ≡ true = grind (arith, nat_tests) in
+    let not_short : leb (length line) MOST_LINE_BYTES ≡ false = grind (arith, nat_tests) in
+    let too_long : ltb MOST_LINE_BYTES (length line) ≡ true = grind (arith, nat_tests) in
     rw (not_short, too_long) refl
 
 -- of a line that is too long only so many bytes matter that it still is
-item_of-kept : (number most : ℕ) (line rest : List ℕ) → 1048576 < most → (most < length line) ⊎ (length line ≤ most) → item_of number (take most line ++ rest) ≡ item_of number (line ++ rest)
+item_of-kept : (number most : ℕ) (line rest : List ℕ) → MOST_LINE_BYTES < most → (most < length line) ⊎ (length line ≤ most) → item_of number (take most line ++ rest) ≡ item_of number (line ++ rest)
 item_of-kept number most line rest enough (inr short) = ap (λ l. item_of number (l ++ rest)) (take_all most line short)
 item_of-kept number most line rest enough (inl long) =
-    let kept : 1048576 < length (take most line ++ rest) = simp (length-append, length-take) (omega arith) in
-    let whole : 1048576 < length (line ++ rest) = simp length-append (omega arith) in
+    let kept : MOST_LINE_BYTES < length (take most line ++ rest) = simp (length-append, length-take) (omega arith) in
+    let whole : MOST_LINE_BYTES < length (line ++ rest) = simp length-append (omega arith) in
     item_of-long number (take most line ++ rest) kept ∙ sym (item_of-long number (line ++ rest) whole)
 
-pub kept_items : (before most : ℕ) (line rest : List ℕ) → 1048576 < most → has_line_feed line ≡ false
+pub kept_items : (before most : ℕ) (line rest : List ℕ) → MOST_LINE_BYTES < most → has_line_feed line ≡ false
     → items_after before (take most line ++ rest) ≡ items_after before (line ++ rest)
 kept_items before most line rest enough none =
     items_split before (take most line) rest (has_line_feed-take most line none)
@@ -90,7 +91,7 @@ kept_items before most line rest enough none =
 -- ---- a line that grows by the front of a piece
 
 -- the line, so far as it is kept, and what is left of the piece
-pub gathered : (before most : ℕ) (line piece more : List ℕ) → 1048576 < most → has_line_feed line ≡ false
+pub gathered : (before most : ℕ) (line piece more : List ℕ) → MOST_LINE_BYTES < most → has_line_feed line ≡ false
     → items_after before ((line ++ piece) ++ more) ≡ items_after before ((take most (line ++ take (before_feed piece) piece) ++ drop (before_feed piece) piece) ++ more)
 gathered before most line piece more enough none =
     let count = before_feed piece in
@@ -125,7 +126,7 @@ pub kept_without : (most count : ℕ) (line piece one three kept : List ℕ) →
 kept_without most count line piece one three kept one_is count_is three_is kept_is none =
     ap has_line_feed (kept_same most count line piece one three kept one_is count_is three_is kept_is) ∙ gathered_without most line piece none
 
-pub gathered_as : (before most count : ℕ) (line piece one three kept rest more : List ℕ) → 1048576 < most → has_line_feed line ≡ false → one ≡ piece → count ≡ before_feed one → three ≡ piece
+pub gathered_as : (before most count : ℕ) (line piece one three kept rest more : List ℕ) → MOST_LINE_BYTES < most → has_line_feed line ≡ false → one ≡ piece → count ≡ before_feed one → three ≡ piece
     → kept ≡ take most (line ++ take count three) → rest ≡ drop count piece → items_after before ((line ++ piece) ++ more) ≡ items_after before ((kept ++ rest) ++ more)
 gathered_as before most count line piece one three kept rest more enough none one_is count_is three_is kept_is rest_is =
     let same = kept_same most count line piece one three kept one_is count_is three_is kept_is in

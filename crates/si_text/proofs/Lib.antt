@@ -1,7 +1,6 @@
 pub mod OpLemmas
 pub mod ValueLemmas
 pub mod DeviceLemmas
-pub mod ExplanationLemmas
 pub mod PieceLemmas
 pub mod FeedLemmas
 pub mod InputLemmas

@@ -1,7 +1,7 @@
 -- What is wrong with a line: the names of its members, and the numbers of the faults.
 use Rattle.std.specs.Prelude.{ℕ, List, codes, Option, Some, None}
 use Rattle.si_text.specs.declared.faults.Field.{Field}
-use Rattle.si_text.specs.declared.faults.Field.TheVariants.{Id, Start, Status, Commit, Ops}
+use Rattle.si_text.specs.declared.faults.Field.TheVariants.{Id, Start, Status, Commit, Ops, Key, Value}
 use Rattle.si_text.specs.declared.faults.LineFault.{LineFault}
 use Rattle.si_text.specs.declared.faults.LineFault.TheVariants.{TooLong, NotJson, NotObject, BadKind, BadField, BadStatus, TooManyOps, BadOp, OutOfMemory}
 
@@ -12,6 +12,8 @@ field_name Start = codes "start"
 field_name Status = codes "status"
 field_name Commit = codes "commit"
 field_name Ops = codes "ops"
+field_name Key = codes "key"
+field_name Value = codes "value"
 
 -- the number of a fault; want of memory has none
 abbrev pub fault_code : LineFault → Option ℕ

@@ -4,6 +4,7 @@ use Rattle.std.specs.List.{list_any, list_all}
 use Rattle.si_model.specs.declared.edits.Edit.{Edit}
 use Rattle.si_text.specs.Lines.{edit_of}
 use Rattle.si_text.specs.declared.faults.LineFault.{LineFault}
+use Rattle.si_text.specs.declared.readings.TheConstants.{MOST_LINE_BYTES}
 
 -- a line that isn't blank: its number, and its edit or its fault
 abbrev pub Item : Type 0
@@ -29,9 +30,9 @@ lines_of (byte ∷ bytes) = if is_line_feed byte then [] ∷ lines_of bytes else
 abbrev pub is_space : ℕ → Bool
 is_space byte = byte == 32 || byte == 9 || byte == 13
 
--- nothing but spaces, not too many of them
+-- nothing but spaces, no more of them than a line may have bytes
 unfoldable pub is_blank : List ℕ → Bool
-is_blank line = nat_le (length line) 1048576 && list_all is_space line
+is_blank line = nat_le (length line) MOST_LINE_BYTES && list_all is_space line
 
 -- the item that a line is; a blank one is none
 abbrev pub item_of : ℕ → List ℕ → List Item

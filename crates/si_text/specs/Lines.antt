@@ -5,10 +5,11 @@ use Rattle.serde_json.specs.Data.{Data, Items, no_items, item}
 use Rattle.serde_json.specs.Read.{read}
 use Rattle.serde_json.specs.Find.{get, at, as_null, as_number, as_u64, as_str, as_array, as_object}
 use Rattle.si_model.specs.declared.edits.Edit.{Edit}
-use Rattle.si_model.specs.declared.edits.Edit.TheVariants.{Arrive, Resolve, Withdraw}
+use Rattle.si_model.specs.declared.edits.Edit.TheVariants.{Arrive, Resolve, Withdraw, SetUp}
 use Rattle.si_model.specs.declared.numbers.Value.{Value}
 use Rattle.si_model.specs.declared.operations.Op.{Op}
 use Rattle.si_model.specs.declared.operations.Op.TheVariants.{Read, Write}
+use Rattle.si_model.specs.declared.operations.TheConstants.{MOST_OPS}
 use Rattle.si_model.specs.declared.transactions.Outcome.{Outcome}
 use Rattle.si_model.specs.declared.transactions.Outcome.TheVariants as outcomes
 use Rattle.si_model.specs.declared.transactions.Status.{Status}
@@ -18,6 +19,7 @@ use Rattle.si_text.specs.declared.faults.Field.{Field}
 use Rattle.si_text.specs.declared.faults.Field.TheVariants as fields
 use Rattle.si_text.specs.declared.faults.LineFault.{LineFault}
 use Rattle.si_text.specs.declared.faults.LineFault.TheVariants.{TooLong, NotJson, NotObject, BadKind, BadField, BadStatus, TooManyOps, BadOp, OutOfMemory}
+use Rattle.si_text.specs.declared.readings.TheConstants.{MOST_LINE_BYTES}
 
 infixl 10 ◌>>=◌
 -- the next step with what was read, or the first fault
@@ -91,7 +93,7 @@ key_in d = option_and_then (λ text. if nat_le 1 (length text) && nat_le (length
 abbrev pub written_in : Data → Option Value
 written_in d = option_map (λ number. record { 0 = number }) (number_in d)
 
--- what a read returned: null is the initial version
+-- what a read returned
 abbrev pub read_in : Data → Option (Option Value)
 read_in d = if is_some (as_null d) then Some None else option_map Some (written_in d)
 
@@ -118,9 +120,9 @@ ops_from index (d ∷ ds) = do
   others ← ops_from (index + 1) ds
   Ok (first ∷ others)
 
--- at most 4,096 operations
+-- the operations that the items of an array are, if they aren't too many
 unfoldable pub ops_in : List Data → Result (List Op) LineFault
-ops_in items = if nat_lt 4096 (length items) then Err TooManyOps else ops_from 0 items
+ops_in items = if nat_lt MOST_OPS (length items) then Err TooManyOps else ops_from 0 items
 
 -- ---- edits
 
@@ -149,12 +151,20 @@ withdrawal_of d = do
   id ← number_at fields.Id d
   Ok (Withdraw (record { 0 = id }))
 
+-- a value that a key had before the run
+unfoldable pub set_up_of : Data → Result Edit LineFault
+set_up_of d = do
+  key ← or_fault (BadField fields.Key) (option_and_then key_in (get (field_name fields.Key) d))
+  value ← number_at fields.Value d
+  Ok (SetUp key (record { 0 = value }))
+
 -- the edit of that kind
 unfoldable pub edit_named : List ℕ → Data → Result Edit LineFault
 edit_named word d =
     if bytes_eq word (codes "txn") then arrival_of d else
     (if bytes_eq word (codes "resolve") then resolution_of d else
-    (if bytes_eq word (codes "withdraw") then withdrawal_of d else Err BadKind))
+    (if bytes_eq word (codes "withdraw") then withdrawal_of d else
+    (if bytes_eq word (codes "setup") then set_up_of d else Err BadKind)))
 
 -- the edit that an object is
 unfoldable pub object_edit : Data → Result Edit LineFault
@@ -165,5 +175,5 @@ object_edit d = do
 -- the edit that a line is, or its first fault
 unfoldable pub edit_of : List ℕ → Result Edit LineFault
 edit_of line =
-    if nat_lt 1048576 (length line) then Err TooLong else
+    if nat_lt MOST_LINE_BYTES (length line) then Err TooLong else
     (or_fault NotJson (value_of line) >>= (λ d. if is_some (as_object d) then object_edit d else Err NotObject))

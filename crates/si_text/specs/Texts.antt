@@ -1,5 +1,5 @@
 -- The texts that are printed: findings and their evidence, refused items, the summary and the whole report.
-use Rattle.std.specs.Prelude.{ℕ, List, [], ◌∷◌, ◌++◌, length, codes, decimal, Bool, true, false, if◌then◌else◌, Option, Some, None}
+use Rattle.std.specs.Prelude.{ℕ, List, [], ◌∷◌, ◌++◌, length, codes, decimal, Bool, nat_lt, if◌then◌else◌, Option, Some, None}
 use Rattle.std.specs.List.{flat_map, list_any}
 use Rattle.serde_json.specs.Data.{string}
 use Rattle.serde_json.specs.Written.{compact_text}
@@ -9,14 +9,14 @@ use Rattle.si_model.specs.declared.kinds.Kind.TheVariants.{Unknown, Doubt, Own, 
 use Rattle.si_model.specs.declared.numbers.TxnId.{TxnId}
 use Rattle.si_model.specs.declared.numbers.Value.{Value}
 use Rattle.si_model.specs.declared.refusals.Refusal.{Refusal}
-use Rattle.si_model.specs.declared.refusals.Refusal.TheVariants.{Full, IdPresent, NoSuch, NotInDoubt, StampOrder, StampTaken, ValueTwice, ValueTaken}
-use Rattle.si_model.specs.declared.transactions.Txn.{Txn}
-use Rattle.si_graph.specs.declared.edges.Edge.{Edge}
-use Rattle.si_graph.specs.declared.edges.Label.{Label}
-use Rattle.si_graph.specs.declared.edges.Label.TheVariants as label
-use Rattle.si_graph.specs.declared.evidence.Evidence.{Evidence}
-use Rattle.si_graph.specs.declared.evidence.Evidence.TheVariants as evidence
-use Rattle.si_graph.specs.Explanations.{edge, missed_walk}
+use Rattle.si_model.specs.declared.refusals.Refusal.TheVariants.{Full, IdPresent, NoSuch, NotInDoubt, StampOrder, StampTaken, ValueTwice, ValueTaken, SetUpTwice, SetUpTaken, ValueSetUp}
+use Rattle.si_model.specs.declared.evidence.Edge.{Edge}
+use Rattle.si_model.specs.declared.evidence.Label.{Label}
+use Rattle.si_model.specs.declared.evidence.Label.TheVariants as label
+use Rattle.si_model.specs.declared.evidence.Evidence.{Evidence}
+use Rattle.si_model.specs.declared.evidence.Evidence.TheVariants as evidence
+use Rattle.si_model.specs.Evidence.{evidence_of}
+use Rattle.si_model.specs.Order.{number}
 use Rattle.si_text.specs.Faults.{field_name, fault_code}
 use Rattle.si_text.specs.declared.faults.LineFault.{LineFault}
 use Rattle.si_text.specs.declared.faults.LineFault.TheVariants.{TooLong, NotJson, NotObject, BadKind, BadField, BadStatus, TooManyOps, BadOp, OutOfMemory}
@@ -89,22 +89,20 @@ abbrev pub shown_text : Evidence → List ℕ
 shown_text (evidence.AbortedRead t i u) = read_from_text (codes "  G1a reader=") t i u
 shown_text (evidence.IntermediateRead t i u) = read_from_text (codes "  G1b reader=") t i u
 shown_text (evidence.Interference e) = codes "  G-SI(a)" ++ edge_text e
-shown_text (evidence.Missed walk) = missed_text walk.items
+shown_text (evidence.Missed walk) = missed_text walk
 
 -- the line of an evidence
 abbrev pub evidence_text : Evidence → List ℕ
 evidence_text e = shown_text e ++ line_end
 
+-- the line of an evidence, if there is one
+abbrev pub evidence_lines : Option Evidence → List ℕ
+evidence_lines None = []
+evidence_lines (Some e) = evidence_text e
+
 -- the line of the evidence for a finding of that kind, if it has one
 abbrev pub explanation_text : Kind → List ℕ
-explanation_text (Unknown t i v) = []
-explanation_text (Doubt t i v u) = []
-explanation_text (Own t i v w) = []
-explanation_text (Aborted t i v u) = read_from_text (codes "  G1a reader=") t i u ++ line_end
-explanation_text (Intermediate t i v u) = read_from_text (codes "  G1b reader=") t i u ++ line_end
-explanation_text (Future t i v u) = (codes "  G-SI(a)" ++ edge_text (edge label.Wr u t)) ++ line_end
-explanation_text (Stale t i v n) = missed_text (missed_walk t n) ++ line_end
-explanation_text (Overlap a b) = (codes "  G-SI(a)" ++ edge_text (edge label.Ww a b)) ++ line_end
+explanation_text k = evidence_lines (evidence_of k)
 
 -- the line of a finding, and its evidence if that is asked for
 abbrev pub finding_lines : Bool → Finding → List ℕ
@@ -134,6 +132,9 @@ refusal_code StampOrder = 15
 refusal_code (StampTaken stamp holder) = 16
 refusal_code (ValueTwice op) = 17
 refusal_code (ValueTaken op holder) = 18
+refusal_code SetUpTwice = 19
+refusal_code (SetUpTaken holder) = 20
+refusal_code (ValueSetUp op) = 21
 
 -- the reason word of a refusal, and its details
 abbrev pub refusal_text : Refusal → List ℕ
@@ -145,6 +146,9 @@ refusal_text StampOrder = codes "stamp-order"
 refusal_text (StampTaken stamp holder) = codes "stamp-taken stamp=" ++ decimal stamp.0 ++ codes " holder=" ++ decimal holder.0
 refusal_text (ValueTwice op) = codes "value-twice op=" ++ decimal op
 refusal_text (ValueTaken op holder) = codes "value-taken op=" ++ decimal op ++ codes " holder=" ++ decimal holder.0
+refusal_text SetUpTwice = codes "set-up-twice"
+refusal_text (SetUpTaken holder) = codes "set-up-taken holder=" ++ decimal holder.0
+refusal_text (ValueSetUp op) = codes "value-set-up op=" ++ decimal op
 
 -- the number of a reason; want of memory has none
 abbrev pub reason_code : Reason → Option ℕ
@@ -164,20 +168,15 @@ code_text (Some code) = codes " code=" ++ decimal code
 -- the line of an item that is refused
 abbrev pub refused_text : ℕ → ℕ → Reason → List ℕ
 refused_text source line reason =
-    codes "refused source=" ++ decimal source ++ codes " line=" ++ decimal line ++ code_text (reason_code reason) ++ codes " reason=" ++ reason_text reason ++ line_end
+    codes "refused source=" ++ decimal source ++ codes " line=" ++ decimal line ++ code_text (reason_code reason)
+    ++ codes " reason=" ++ reason_text reason ++ line_end
 
 -- ---- reports
 
--- a finding of this kind says that the history isn't a snapshot-isolated one, whatever else is still unknown
+-- a finding of a later kind than these, unknown and doubt, says that the history isn't a snapshot-isolated one, whatever else
+-- is still unknown
 abbrev pub is_violation : Kind → Bool
-is_violation (Unknown txn op read) = false
-is_violation (Doubt txn op read writer) = false
-is_violation (Own txn op read own) = true
-is_violation (Aborted txn op read writer) = true
-is_violation (Intermediate txn op read writer) = true
-is_violation (Future txn op read writer) = true
-is_violation (Stale txn op read missed) = true
-is_violation (Overlap first second) = true
+is_violation k = nat_lt 2 (number k)
 
 -- clean without findings, a violation where one of them is one, else open
 abbrev pub verdict_of : List Finding → Verdict
@@ -193,9 +192,10 @@ verdict_text Violation = codes "violation"
 -- the line of how many transactions are present, how many findings there are and how many items were refused
 abbrev pub summary_text : ℕ → ℕ → ℕ → Verdict → List ℕ
 summary_text transactions findings refused verdict =
-    codes "transactions=" ++ decimal transactions ++ codes " findings=" ++ decimal findings ++ codes " refused=" ++ decimal refused ++ codes " verdict=" ++ verdict_text verdict ++ line_end
+    codes "transactions=" ++ decimal transactions ++ codes " findings=" ++ decimal findings ++ codes " refused=" ++ decimal refused
+    ++ codes " verdict=" ++ verdict_text verdict ++ line_end
 
--- the findings, each in its lines, and the summary
-abbrev pub report_text : Bool → List Txn → List Finding → ℕ → List ℕ
-report_text explain present findings refused =
-    flat_map (finding_lines explain) findings ++ summary_text (length present) (length findings) refused (verdict_of findings)
+-- the findings, each in its lines, and the summary of so many transactions that are present
+abbrev pub report_text : Bool → ℕ → List Finding → ℕ → List ℕ
+report_text explain transactions findings refused =
+    flat_map (finding_lines explain) findings ++ summary_text transactions (length findings) refused (verdict_of findings)

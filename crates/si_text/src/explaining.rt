@@ -3,9 +3,8 @@ ghost use Rattle.std.specs.List.{flat_map};
 ghost use Rattle.si_text.specs.Texts.{edge_text, evidence_text, explanation_text, label_text, read_from_text, shown_text};
 
 use crate::printing::put_number;
-use si_graph::{Edge, Evidence, ExplainFault, Label, evidence_of};
-use si_model::{Kind, OutOfMemory, TxnId};
-use std::alloc::{AllocError, Global};
+use si_model::{Edge, Evidence, Kind, Label, OutOfMemory, TxnId, evidence_of};
+use std::alloc::Global;
 
 /// Appends the line of an evidence. For want of memory the bytes are as before.
 pub fn print_evidence(
@@ -21,14 +20,12 @@ pub fn print_evidence(
 }
 
 /// The line of the evidence for a finding of that kind; nothing where it has none.
-#[tactic(auto, using(crate::proofs::ExplanationLemmas::explained_text, crate::proofs::ExplanationLemmas::form_text))]
 pub(crate) fn explanation_line(alloc: Global, kind: Kind) -> Result<Vec<u8>, OutOfMemory>
     ensures { IfOk result (λ line. line.items ≡ explanation_text kind) }
 {
-    match evidence_of(alloc, kind) {
-        Ok(evidence) => evidence_line(alloc, &evidence),
-        Err(ExplainFault::OutOfMemory) => Err(AllocError),
-        Err(ExplainFault::FormFinding | ExplainFault::NotAFinding) => Ok(Vec::new(alloc)),
+    match evidence_of(alloc, kind)? {
+        Some(evidence) => evidence_line(alloc, &evidence),
+        None => Ok(Vec::new(alloc)),
     }
 }
 
@@ -57,7 +54,7 @@ fn put_evidence(out: &mut Vec<u8>, evidence: &Evidence) -> Result<(), OutOfMemor
         }
         Evidence::Missed(walk) => {
             out.extend_from_slice(b"  G-SI(b)")?;
-            put_edges(out, walk)
+            put_edges(out, walk.as_slice())
         }
     }
 }

@@ -12,6 +12,8 @@ pub enum Field {
     Status,
     Commit,
     Ops,
+    Key,
+    Value,
 }
 
 impl Field {
@@ -25,6 +27,8 @@ impl Field {
             Field::Status => "status",
             Field::Commit => "commit",
             Field::Ops => "ops",
+            Field::Key => "key",
+            Field::Value => "value",
         }
     }
 }
@@ -32,7 +36,7 @@ impl Field {
 /// What is wrong with a line: the first fault that applies, in this order.
 #[derive(Clone, Copy, Debug, PartialEq, Eq, Error)]
 pub enum LineFault {
-    /// It has over 1,048,576 bytes, whatever they are.
+    /// It has over `MOST_LINE_BYTES` bytes, whatever they are.
     #[error("the line is too long")]
     TooLong,
     /// It can't be read as one JSON value.
@@ -41,7 +45,7 @@ pub enum LineFault {
     /// The value is no object.
     #[error("the value is no object")]
     NotObject,
-    /// The member `do` is missing or isn't one of the three words.
+    /// The member `do` is missing or isn't one of the four words.
     #[error("the kind of the line isn't known")]
     BadKind,
     /// The first member that is missing or of another kind.

@@ -1,8 +1,8 @@
 //! The texts of the checker: lines in, report lines out, and the devices that carry their bytes.
 //!
 //! It carries the promise that an edit read from a line is what the line says by its definition, and that what is
-//! printed is exactly the text of its definition. It stands on `si_model` for the types, on `si_graph` for evidence, on `serde_json` for JSON and
-//! on `itoa` for numbers.
+//! printed is exactly the text of its definition. It stands on `si_model` for the types and evidence, on `serde_json` for JSON
+//! and on `itoa` for numbers.
 #![tactic(auto)]
 
 pub mod devices;

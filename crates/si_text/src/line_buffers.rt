@@ -2,6 +2,7 @@ ghost use Rattle.std.specs.Prelude.{◌≡◌, ◌≤◌, ◌<◌, ◌+◌, ◌^
 ghost use Rattle.std.specs.Option.{option_to_list};
 ghost use Rattle.std.specs.Io.KnownBytes.{Consumes, IsAtEnd, Keeps};
 ghost use Rattle.si_text.specs.Inputs.{has_line_feed, item_of, items_after, Yields};
+ghost use Rattle.si_text.specs.declared.readings.TheConstants.{MOST_LINE_BYTES};
 
 use crate::devices::{ByteSource, DeviceFailed};
 use crate::line_items::{LineItem, item_of, length_to_line_feed};
@@ -52,7 +53,7 @@ impl From<AllocError> for InputFault {
 #[derive(Drop)]
 pub struct LineBuffer {
     alloc: Global,
-    /// The line so far, without its line feed; of one that is too long the first 1,048,577 bytes.
+    /// The line so far, without its line feed; of one that is too long so many bytes that it still is.
     line: Vec<u8>,
     /// What was read and doesn't belong to the line yet.
     piece: Piece,
@@ -60,7 +61,7 @@ pub struct LineBuffer {
     lines: u64,
     /// How many reads gave bytes.
     reads: u64,
-    ghost kept: { vec_len line ≤ 1048577 },
+    ghost kept: { vec_len line ≤ MOST_LINE_BYTES + 1 },
     ghost unended: { has_line_feed line.items ≡ false },
 }
 
@@ -239,10 +240,10 @@ impl LineBuffer {
 
 /// Appends bytes to a line, and of one that is too long only so many that it still is.
 fn keep(line: &mut Vec<u8>, bytes: &[u8]) -> Result<(), OutOfMemory>
-    requires { vec_len line.old ≤ 1048577 }
+    requires { vec_len line.old ≤ MOST_LINE_BYTES + 1 }
     ensures ok { OnOk result
-        (line.new.items ≡ take 1048577 (line.old.items ++ bytes.now)) }
-    ensures within { vec_len line.new ≤ 1048577 }
+        (line.new.items ≡ take (MOST_LINE_BYTES + 1) (line.old.items ++ bytes.now)) }
+    ensures within { vec_len line.new ≤ MOST_LINE_BYTES + 1 }
     ensures err { OnErr result (line.new.items ≡ line.old.items) }
 {
     let room = MOST_LINE_BYTES + 1 - line.len();

@@ -21,7 +21,7 @@ pub(crate) fn ops_of(alloc: Global, items: &[Value]) -> Result<Ops, LineFault>
 }
 
 fn all_ops(alloc: Global, items: &[Value]) -> Result<Ops, LineFault>
-    requires { length items.now ≤ 4096 }
+    requires { length items.now ≤ MOST_OPS }
     ensures { Gives result (ops_from 0 (map view items.now)) }
 {
     let mut ops = Vec::new(alloc);

@@ -1,5 +1,6 @@
 ghost use Rattle.std.specs.Prelude.{◌≡◌, ◌++◌, decimal, codes, length, OnOk, OnErr, IfOk};
 ghost use Rattle.std.specs.List.{flat_map};
+ghost use Rattle.si_model.specs.Parts.{Present};
 ghost use Rattle.si_model.specs.Findings.{findings};
 ghost use Rattle.si_text.specs.Texts.{code_text, fault_text, finding_lines, finding_text, key_text, kind_text, own_text, read_text, reading_text, reason_text, refusal_text, refused_text, report_text, summary_text, verdict_of};
 
@@ -38,22 +39,29 @@ pub fn print_refusal(
 
 /// Appends a report: the findings, each in its line, and the summary of the transactions that are present, the findings
 /// and how many items were refused so far. With `explain` each finding that is a violation is followed by the line of its
-/// evidence. For want of memory the bytes are as before.
+/// evidence. The answer is the verdict that the summary tells. For want of memory the bytes are as before.
+///
+/// The findings have to be those of the transactions and the keys that were set up. The latter are printed nowhere: they
+/// are a parameter so that the contract can say so.
 pub fn print_report(
     alloc: Global,
     out: &mut Vec<u8>,
-    present: &[Txn],
+    txns: &[Txn],
+    _initial: &[(Key, si_model::Value)],
     found: &[Finding],
     refused: u64,
     explain: bool,
-) -> Result<(), OutOfMemory>
-    requires { found.now ≡ findings present.now }
+) -> Result<Verdict, OutOfMemory>
+    requires { found.now ≡ findings (record { txns = txns.now; initial = _initial.now }) }
+    ensures verdict { IfOk result (λ verdict. verdict ≡ verdict_of found.now) }
     ensures ok { OnOk result
-        (out.new.items ≡ out.old.items ++ report_text explain present.now found.now refused) }
+        (out.new.items ≡ out.old.items ++ report_text explain (length txns.now) found.now refused) }
     ensures err { OnErr result (out.new.items ≡ out.old.items) }
 {
-    let report = report_lines(alloc, present.len(), found, refused, explain)?;
-    out.extend_from_slice(&report)
+    let verdict = Verdict::of(found);
+    let report = report_lines(alloc, txns.len(), found, refused, verdict, explain)?;
+    out.extend_from_slice(&report)?;
+    Ok(verdict)
 }
 
 // ---- findings
@@ -300,6 +308,9 @@ fn put_refusal(out: &mut Vec<u8>, refusal: &Refusal) -> Result<(), OutOfMemory>
         Refusal::ValueTaken { op, holder } => {
             put_held(out, "value-taken op=", op as u64, holder)
         }
+        Refusal::SetUpTwice => out.extend_from_slice(b"set-up-twice"),
+        Refusal::SetUpTaken { holder } => put_number(out, "set-up-taken holder=", holder.0),
+        Refusal::ValueSetUp { op } => put_number(out, "value-set-up op=", op as u64),
     }
 }
 
@@ -319,13 +330,13 @@ fn report_lines(
     transactions: usize,
     findings: &[Finding],
     refused: u64,
+    verdict: Verdict,
     explain: bool,
 ) -> Result<Vec<u8>, OutOfMemory>
     ensures { IfOk result (λ text. text.items ≡ flat_map (finding_lines explain) findings.now
-        ++ summary_text transactions (length findings.now) refused (verdict_of findings.now)) }
+        ++ summary_text transactions (length findings.now) refused verdict) }
 {
     let mut text = finding_lines(alloc, findings, explain)?;
-    let verdict = Verdict::of(findings);
     let summary = summary_line(alloc, transactions, findings.len(), refused, verdict)?;
     text.extend_from_slice(&summary)?;
     Ok(text)

@@ -1,12 +1,12 @@
 ghost use Rattle.std.specs.Prelude.{◌≡◌, ◌≢◌, IfOk, IfErr};
 ghost use Rattle.serde_json.specs.View.{view};
-ghost use Rattle.si_text.specs.Lines.{Gives, value_of, object_edit, arrival_of, resolution_of, withdrawal_of, edit_of};
+ghost use Rattle.si_text.specs.Lines.{Gives, value_of, object_edit, arrival_of, resolution_of, withdrawal_of, set_up_of, edit_of};
 
 use crate::members::{number_at, outcome_of, status_at};
 use crate::operations::ops_of;
 use crate::{Field, LineFault};
 use serde_json::Value;
-use si_model::{Edit, Stamp, Txn, TxnId};
+use si_model::{Edit, Key, Stamp, Txn, TxnId};
 use std::alloc::Global;
 
 /// The most bytes that a line may have, without its line feed.
@@ -58,6 +58,9 @@ fn object_edit(alloc: Global, value: &Value) -> Result<Edit, LineFault>
     if word == "withdraw" {
         return withdrawal_of(value);
     }
+    if word == "setup" {
+        return set_up_of(alloc, value);
+    }
     Err(LineFault::BadKind)
 }
 
@@ -104,4 +107,20 @@ fn withdrawal_of(value: &Value) -> Result<Edit, LineFault>
 {
     let id = number_at(value, Field::Id)?;
     Ok(Edit::Withdraw(TxnId(id)))
+}
+
+/// A value that a key had before the run.
+#[tactic(auto, unfolding(crate::specs::Lines::set_up_of))]
+fn set_up_of(alloc: Global, value: &Value) -> Result<Edit, LineFault>
+    ensures { Gives result (set_up_of (view value.now)) }
+{
+    let Some(text) = value.get(Field::Key.name()).and_then(Value::as_str) else {
+        return Err(LineFault::BadField(Field::Key));
+    };
+    if !Key::fits(text) {
+        return Err(LineFault::BadField(Field::Key));
+    }
+    let number = number_at(value, Field::Value)?;
+    let key = Key::new(alloc, text)?;
+    Ok(Edit::SetUp(key, si_model::Value(number)))
 }

@@ -57,5 +57,8 @@ fn refusal_code(refusal: &Refusal) -> u64
         Refusal::StampTaken { .. } => 16,
         Refusal::ValueTwice { .. } => 17,
         Refusal::ValueTaken { .. } => 18,
+        Refusal::SetUpTwice => 19,
+        Refusal::SetUpTaken { .. } => 20,
+        Refusal::ValueSetUp { .. } => 21,
     }
 }

@@ -53,6 +53,7 @@ impl Timeline {
     pub fn remove(&mut self, commit: Stamp) -> Version
         requires { Has self.old commit }
         ensures removed { Adds commit result self.new self.old }
+        ensures gone { Lacks self.new commit }
         ensures rising { IsRising self.new }
     {
         match self.versions.remove(&commit) {

@@ -1,247 +1,179 @@
+//! What a book answers to edits that were worked out by hand, and beside the plain program.
+
 use super::*;
-use crate::plain;
-use si_model::{Key, Op, Ops, Outcome, Stamp, Status, Value};
+use scripts::{accept, answers, key, ops_of};
+use si_model::operations::MOST_OPS;
+use si_model::plain::{Walked, change};
+use si_model::{Op, Ops, Outcome, Stamp, Status, refusal_on};
 use std::process::Abort;
 use std::test::Fail;
 
 mod refused_memory;
-
-/// An edit as the worked examples write it. Reads have no part in acceptance, so only writes stand here.
-#[derive(Clone, Copy)]
-enum Line<'a> {
-    /// The id, the start stamp, the status, and the keys with the values written.
-    Txn(u64, u64, Status, &'a [(&'a str, u64)]),
-    Resolve(u64, Outcome),
-    Withdraw(u64),
-}
-
-use Line::{Resolve, Txn as Arrival, Withdraw};
-
-fn committed(commit: u64) -> Status {
-    Status::Committed(Stamp(commit))
-}
-
-fn edit_of(rt: &(impl Abort + AllocGlobal), line: Line<'_>) -> Result<Edit, Fail> {
-    Ok(match line {
-        Arrival(id, start, status, writes) => {
-            let mut ops = Vec::new(rt.alloc());
-            for (key, value) in writes {
-                assert!(rt; Key::fits(key));
-                ops.push(Op::Write(Key::new(rt.alloc(), key)?, Value(*value)))?;
-            }
-            assert!(rt; ops.len() <= 4096);
-            Edit::Arrive(Txn {
-                id: TxnId(id),
-                start: Stamp(start),
-                status,
-                ops: Ops::from_vec(ops)?,
-            })
-        }
-        Resolve(id, outcome) => Edit::Resolve(TxnId(id), outcome),
-        Withdraw(id) => Edit::Withdraw(TxnId(id)),
-    })
-}
-
-/// Gives the book each edit in turn, and compares what it answers: a number, or a refusal.
-fn run(
-    rt: &(impl Abort + AllocGlobal),
-    book: &mut Book,
-    lines: &[(Line<'_>, Result<u64, Refusal>)],
-) -> Result<(), Fail> {
-    for (place, (line, wanted)) in lines.iter().enumerate() {
-        let answer = book.accept(edit_of(rt, *line)?);
-        let wanted = match wanted {
-            Ok(number) => Ok(Number(*number)),
-            Err(refusal) => Err(AcceptFault::Refused(*refusal)),
-        };
-        assert_eq!(rt; answer, wanted, "at place {place}");
-    }
-    Ok(())
-}
-
-/// The ids of what is present, in order.
-fn ids(rt: &(impl Abort + AllocGlobal), book: &Book) -> Result<Vec<u64>, Fail> {
-    let mut ids = Vec::new(rt.alloc());
-    for txn in &book.present()? {
-        ids.push(txn.id.0)?;
-    }
-    assert_eq!(rt; ids.len(), book.len());
-    Ok(ids)
-}
-
-fn taken(stamp: u64, holder: u64) -> Result<u64, Refusal> {
-    Err(Refusal::StampTaken {
-        stamp: Stamp(stamp),
-        holder: TxnId(holder),
-    })
-}
+mod scripts;
 
 #[test]
 fn each_reason_comes_in_its_place(rt: HostRuntime) -> Result<(), Fail> {
-    let mut book = Book::new(rt.alloc(), MOST_EDITS);
-    let first = Arrival(1, 1, committed(2), &[("x", 1)]);
-    let lines = [
-        (first, Ok(1)),
-        (first, Err(Refusal::IdPresent)),
-        (
-            Resolve(9, Outcome::Committed(Stamp(3))),
-            Err(Refusal::NoSuch),
-        ),
-        (
-            Resolve(1, Outcome::Committed(Stamp(3))),
-            Err(Refusal::NotInDoubt),
-        ),
-        (Arrival(2, 4, committed(3), &[]), Err(Refusal::StampOrder)),
-        (Arrival(2, 2, committed(3), &[("x", 1)]), taken(2, 1)),
-        (Arrival(2, 0, committed(1), &[("z", 1)]), taken(1, 1)),
-        (
-            Arrival(2, 3, committed(4), &[("x", 1), ("x", 2), ("x", 2)]),
-            Err(Refusal::ValueTwice { op: 2 }),
-        ),
-        (
-            Arrival(2, 3, committed(4), &[("y", 1), ("x", 1)]),
-            Err(Refusal::ValueTaken {
-                op: 1,
-                holder: TxnId(1),
-            }),
-        ),
-    ];
-    run(&rt, &mut book, &lines)?;
-    assert_eq!(rt; book.journal().len(), 1);
-    assert_eq!(rt; ids(&rt, &book)?.as_slice(), [1].as_slice());
-    Ok(())
+    let script = "
+        arrive 1 1 2 x=1 | 1
+        arrive 1 1 2 x=1 | IdPresent
+        resolve 9 3 | NoSuch
+        resolve 1 3 | NotInDoubt
+        arrive 2 4 3 | StampOrder
+        arrive 2 2 3 x=1 | StampTaken { stamp: Stamp(2), holder: TxnId(1) }
+        arrive 2 0 1 z=1 | StampTaken { stamp: Stamp(1), holder: TxnId(1) }
+        arrive 2 3 4 x=1 x=2 x=2 | ValueTwice { op: 2 }
+        arrive 2 3 4 y=1 x=1 | ValueTaken { op: 1, holder: TxnId(1) }
+        journal | 1
+        present | 1";
+    answers(&rt, MOST_EDITS, script)
 }
 
 #[test]
 fn a_full_journal_comes_first(rt: HostRuntime) -> Result<(), Fail> {
-    let mut book = Book::new(rt.alloc(), 3);
-    let first = Arrival(1, 1, committed(2), &[("x", 1)]);
-    let lines = [
-        (first, Ok(1)),
-        (Arrival(2, 3, committed(4), &[]), Ok(2)),
-        (Arrival(3, 5, committed(6), &[("y", 3)]), Ok(3)),
-        (first, Err(Refusal::Full)),
-        (Withdraw(1), Err(Refusal::Full)),
-    ];
-    run(&rt, &mut book, &lines)?;
-    assert_eq!(rt; book.limit(), 3);
-    assert_eq!(rt; book.len(), 3);
-    Ok(())
+    let script = "
+        arrive 1 1 2 x=1 | 1
+        arrive 2 3 4 | 2
+        arrive 3 5 6 y=3 | 3
+        arrive 1 1 2 x=1 | Full
+        withdraw 1 | Full
+        limit | 3
+        present | 1 2 3";
+    answers(&rt, 3, script)
 }
 
 #[test]
 fn a_withdrawal_frees_values(rt: HostRuntime) -> Result<(), Fail> {
-    let mut book = Book::new(rt.alloc(), MOST_EDITS);
-    assert!(rt; book.is_empty());
-    let second = Arrival(2, 3, committed(4), &[("x", 5)]);
-    let lines = [
-        (Arrival(1, 1, committed(2), &[("x", 5)]), Ok(1)),
-        (
-            second,
-            Err(Refusal::ValueTaken {
-                op: 0,
-                holder: TxnId(1),
-            }),
-        ),
-        (Withdraw(1), Ok(2)),
-        (second, Ok(3)),
-    ];
-    run(&rt, &mut book, &lines)?;
-    assert!(rt; book.get(TxnId(1)).is_none());
-    assert_eq!(rt; ids(&rt, &book)?.as_slice(), [2].as_slice());
-    Ok(())
+    let script = "
+        empty | true
+        arrive 1 1 2 x=5 | 1
+        arrive 2 3 4 x=5 | ValueTaken { op: 0, holder: TxnId(1) }
+        withdraw 1 | 2
+        arrive 2 3 4 x=5 | 3
+        status 1 | absent
+        present | 2";
+    answers(&rt, MOST_EDITS, script)
 }
 
 #[test]
 fn a_withdrawn_writer_may_have_been_read(rt: HostRuntime) -> Result<(), Fail> {
-    let mut book = Book::new(rt.alloc(), MOST_EDITS);
-    let lines = [
-        (Arrival(1, 1, committed(2), &[("x", 1)]), Ok(1)),
-        (Arrival(2, 3, committed(4), &[]), Ok(2)),
-        (Withdraw(1), Ok(3)),
-    ];
-    run(&rt, &mut book, &lines)?;
-    assert_eq!(rt; ids(&rt, &book)?.as_slice(), [2].as_slice());
-    Ok(())
+    let script = "
+        arrive 1 1 2 x=1 | 1
+        arrive 2 3 4 | 2
+        withdraw 1 | 3
+        present | 2";
+    answers(&rt, MOST_EDITS, script)
 }
 
 #[test]
 fn a_resolution_meets_the_stamps(rt: HostRuntime) -> Result<(), Fail> {
-    let mut book = Book::new(rt.alloc(), MOST_EDITS);
-    let lines = [
-        (Arrival(1, 1, Status::InDoubt, &[("x", 1)]), Ok(1)),
-        (Arrival(2, 2, committed(5), &[]), Ok(2)),
-        (Resolve(1, Outcome::Committed(Stamp(5))), taken(5, 2)),
-        (
-            Resolve(1, Outcome::Committed(Stamp(1))),
-            Err(Refusal::StampOrder),
-        ),
-        (Resolve(1, Outcome::Aborted), Ok(3)),
-        (Withdraw(1), Ok(4)),
-        (Arrival(3, 1, committed(6), &[("x", 1)]), Ok(5)),
-    ];
-    run(&rt, &mut book, &lines)?;
-    assert_eq!(rt; ids(&rt, &book)?.as_slice(), [2, 3].as_slice());
-    Ok(())
+    let script = "
+        arrive 1 1 indoubt x=1 | 1
+        arrive 2 2 5 | 2
+        resolve 1 5 | StampTaken { stamp: Stamp(5), holder: TxnId(2) }
+        resolve 1 1 | StampOrder
+        resolve 1 aborted | 3
+        withdraw 1 | 4
+        arrive 3 1 6 x=1 | 5
+        present | 2 3";
+    answers(&rt, MOST_EDITS, script)
 }
 
 #[test]
 fn present_keeps_the_order_of_arrival(rt: HostRuntime) -> Result<(), Fail> {
-    let mut book = Book::new(rt.alloc(), MOST_EDITS);
-    let lines = [
-        (Arrival(7, 1, Status::InDoubt, &[]), Ok(1)),
-        (Arrival(5, 1, committed(10), &[]), Ok(2)),
-        (Arrival(9, 11, committed(20), &[]), Ok(3)),
-        (Arrival(3, 9, committed(30), &[]), Ok(4)),
-        (Resolve(7, Outcome::Committed(Stamp(40))), Ok(5)),
-    ];
-    run(&rt, &mut book, &lines)?;
-    assert_eq!(rt; ids(&rt, &book)?.as_slice(), [7, 5, 9, 3].as_slice());
-    let resolved = book.get(TxnId(7)).ok_or("the first is present")?;
-    assert_eq!(rt; resolved.status, committed(40));
-
-    let lines = [
-        (Withdraw(5), Ok(6)),
-        (Arrival(5, 1, committed(2), &[]), Ok(7)),
-    ];
-    run(&rt, &mut book, &lines)?;
-    assert_eq!(rt; ids(&rt, &book)?.as_slice(), [7, 9, 3, 5].as_slice());
-    Ok(())
+    let script = "
+        arrive 7 1 indoubt | 1
+        arrive 5 1 10 | 2
+        arrive 9 11 20 | 3
+        arrive 3 9 30 | 4
+        resolve 7 40 | 5
+        present | 7 5 9 3
+        status 7 | Committed(Stamp(40))
+        withdraw 5 | 6
+        arrive 5 1 2 | 7
+        present | 7 9 3 5";
+    answers(&rt, MOST_EDITS, script)
 }
 
 #[test]
 fn the_least_holder_of_a_stamp_is_named(rt: HostRuntime) -> Result<(), Fail> {
-    let mut book = Book::new(rt.alloc(), MOST_EDITS);
-    let lines = [
-        (Arrival(8, 5, committed(6), &[]), Ok(1)),
-        (Arrival(4, 5, committed(7), &[]), Ok(2)),
-        (Arrival(6, 5, committed(8), &[]), Ok(3)),
-        (Arrival(1, 2, committed(5), &[]), taken(5, 4)),
-        (Withdraw(4), Ok(4)),
-        (Arrival(1, 2, committed(5), &[]), taken(5, 6)),
-    ];
-    run(&rt, &mut book, &lines)
+    let script = "
+        arrive 8 5 6 | 1
+        arrive 4 5 7 | 2
+        arrive 6 5 8 | 3
+        arrive 1 2 5 x=1 | StampTaken { stamp: Stamp(5), holder: TxnId(4) }
+        withdraw 4 | 4
+        arrive 1 2 5 x=1 | StampTaken { stamp: Stamp(5), holder: TxnId(6) }
+        present | 8 6";
+    answers(&rt, MOST_EDITS, script)
+}
+
+#[test]
+fn readers_may_have_one_stamp_and_share_it(rt: HostRuntime) -> Result<(), Fail> {
+    let script = "
+        arrive 1 1 2 x=1 | 1
+        arrive 2 3 3 | 2
+        arrive 3 4 4 | 3
+        arrive 4 5 5 x=2 | StampOrder
+        arrive 5 3 3 | 4
+        arrive 6 0 3 x=2 | StampTaken { stamp: Stamp(3), holder: TxnId(2) }
+        arrive 7 2 9 | StampTaken { stamp: Stamp(2), holder: TxnId(1) }
+        arrive 7 0 2 | StampTaken { stamp: Stamp(2), holder: TxnId(1) }
+        present | 1 2 3 5";
+    answers(&rt, MOST_EDITS, script)
+}
+
+#[test]
+fn a_resolution_to_the_start_is_of_a_reader(rt: HostRuntime) -> Result<(), Fail> {
+    let script = "
+        arrive 1 4 indoubt | 1
+        resolve 1 3 | StampOrder
+        resolve 1 4 | 2
+        arrive 2 6 indoubt x=1 | 3
+        resolve 2 6 | StampOrder
+        present | 1 2";
+    answers(&rt, MOST_EDITS, script)
+}
+
+#[test]
+fn a_key_is_set_up_once(rt: HostRuntime) -> Result<(), Fail> {
+    let script = "
+        arrive 1 1 2 | 1
+        arrive 2 3 4 | 2
+        setup x=5 | 3
+        arrive 3 5 6 x=7 | 4
+        arrive 4 7 8 | 5
+        setup x=9 | SetUpTwice
+        present | 1 2 3 4";
+    answers(&rt, MOST_EDITS, script)
+}
+
+#[test]
+fn a_set_up_value_is_written_by_no_transaction(rt: HostRuntime) -> Result<(), Fail> {
+    let script = "
+        arrive 1 1 2 x=5 | 1
+        setup x=5 | SetUpTaken { holder: TxnId(1) }
+        setup y=1 | 2
+        arrive 2 3 4 x=6 y=1 | ValueSetUp { op: 1 }
+        initial | y=1
+        present | 1";
+    answers(&rt, MOST_EDITS, script)
+}
+
+/// 4,096 writes of a key, of which the last two are of one value.
+fn many_writes(rt: &impl AllocGlobal) -> Result<String, Fail> {
+    let mut line = format!(in rt.alloc(); "arrive 1 1 indoubt")?;
+    for place in 0..4096u64 {
+        let pair = format!(in rt.alloc(); " x={}", place.min(4094))?;
+        line.push_str(&pair)?;
+    }
+    line.push_str(" | ValueTwice { op: 4095 }")?;
+    Ok(line)
 }
 
 #[test]
 fn many_operations_are_compared_too(rt: HostRuntime) -> Result<(), Fail> {
-    let mut ops = Vec::new(rt.alloc());
-    for place in 0..4096u64 {
-        ops.push(Op::Write(Key::new(rt.alloc(), "x")?, Value(place.min(4094))))?;
-    }
-    assert!(rt; ops.len() <= 4096);
-    let mut book = Book::new(rt.alloc(), MOST_EDITS);
-    let answer = book.accept(Edit::Arrive(Txn {
-        id: TxnId(1),
-        start: Stamp(1),
-        status: Status::InDoubt,
-        ops: Ops::from_vec(ops)?,
-    }));
-    assert_eq!(rt;
-        answer,
-        Err(AcceptFault::Refused(Refusal::ValueTwice { op: 4095 }))
-    );
-    Ok(())
+    let script = many_writes(&rt)?;
+    answers(&rt, MOST_EDITS, &script)
 }
 
 /// The next of a row of numbers that look random (Knuth's linear congruential generator).
@@ -251,68 +183,134 @@ fn next_number(state: u64) -> u64 {
         .wrapping_add(1_442_695_040_888_963_407)
 }
 
-/// Some edit among few ids, stamps, keys and values, so that each reason comes up.
-fn some_edit(rt: &(impl Abort + AllocGlobal), state: u64) -> Result<Edit, Fail> {
-    let id = (state >> 8) % 24;
-    let start = (state >> 16) % 100;
-    let commit = (state >> 24) % 150;
-    let status = match (state >> 32) % 4 {
+fn some_status(state: u64, commit: u64) -> Status {
+    match (state >> 32) % 4 {
         0 => Status::InDoubt,
         1 => Status::Aborted,
-        _ => committed(commit),
-    };
-    let outcome = match (state >> 34) % 2 {
-        0 => Outcome::Aborted,
-        _ => Outcome::Committed(Stamp(commit)),
-    };
-    let first = ("x", (state >> 36) % 100);
-    let second = ("y", (state >> 42) % 100);
-    let third = ("x", (state >> 48) % 100);
-    let writes = [first, second, third];
-    let line = match (state >> 60) % 4 {
-        0 => Withdraw(id),
-        1 => Resolve(id, outcome),
-        _ => Arrival(id, start, status, &writes),
-    };
-    edit_of(rt, line)
+        _ => Status::Committed(Stamp(commit)),
+    }
 }
 
-/// Gives the edit to the book and to the plain program, and compares what they answer and what is present then.
-fn both_answer(
-    rt: &(impl Abort + AllocGlobal),
-    book: &mut Book,
-    txns: &mut Vec<Txn>,
-    edit: Edit,
-) -> Result<(), Fail> {
-    let refusal = plain::refusal_on(txns, &edit);
-    match (refusal, book.accept(edit.try_clone()?)) {
-        (Some(refusal), Err(fault)) => assert_eq!(rt; fault, AcceptFault::Refused(refusal)),
-        (None, Ok(_)) => plain::change(txns, edit)?,
-        _ => panic!(rt; "one accepts what the other refuses"),
+fn some_outcome(state: u64, commit: u64) -> Outcome {
+    match (state >> 34) % 2 {
+        0 => Outcome::Aborted,
+        _ => Outcome::Committed(Stamp(commit)),
     }
-    assert!(rt; book.present()?.as_slice() == txns.as_slice());
+}
+
+/// No operations, or three writes.
+fn some_ops(rt: &(impl Abort + AllocGlobal), state: u64, none: bool) -> Result<Ops, Fail> {
+    let mut ops = Vec::new(rt.alloc());
+    if !none {
+        for (text, bits) in [("x", 36), ("y", 42), ("x", 48)] {
+            ops.push(Op::Write(key(rt, text)?, Value((state >> bits) % 100)))?;
+        }
+    }
+    ops_of(rt, ops)
+}
+
+/// Some edit among few ids, stamps, keys and values, so that each reason comes up.
+fn some_edit(rt: &(impl Abort + AllocGlobal), state: u64) -> Result<Edit, Fail> {
+    let id = TxnId((state >> 8) % 24);
+    let commit = (state >> 24) % 150;
+    let few = (state >> 52) % 4 == 0;
+    Ok(match (state >> 60) % 8 {
+        0 | 1 => Edit::Withdraw(id),
+        2 | 3 => Edit::Resolve(id, some_outcome(state, commit)),
+        4 => Edit::SetUp(key(rt, if few { "x" } else { "z" })?, Value(commit)),
+        _ => Edit::Arrive(Txn {
+            id,
+            start: Stamp((state >> 16) % 100),
+            status: some_status(state, commit),
+            ops: some_ops(rt, state, few)?,
+        }),
+    })
+}
+
+/// The first reason that walking the lists finds.
+fn plain_refusal(txns: &[Txn], initial: &[(Key, Value)], edit: &Edit) -> Option<Refusal> {
+    let walked = Walked { txns, initial };
+    refusal_on(&walked, edit)
+}
+
+/// A book, and what is present as the plain program has it.
+#[derive(Drop)]
+struct Both {
+    book: Book,
+    txns: Vec<Txn>,
+    initial: Vec<(Key, Value)>,
+}
+
+impl Both {
+    fn new(alloc: Global) -> Both {
+        Both {
+            book: Book::new(alloc, MOST_EDITS),
+            txns: Vec::new(alloc),
+            initial: Vec::new(alloc),
+        }
+    }
+
+    /// Gives the edit to both, and compares what they answer and what is present then.
+    fn give(&mut self, rt: &impl Abort, edit: Edit) -> Result<(), Fail> {
+        let refusal = plain_refusal(self.txns.as_slice(), self.initial.as_slice(), &edit);
+        let answer = accept(&mut self.book, edit.try_clone()?);
+        if both_accept(rt, refusal, answer) {
+            change(&mut self.txns, &mut self.initial, edit)?;
+        }
+        assert_same_txns(rt, &self.book, &self.txns)?;
+        assert_same_initial(rt, &self.book, &self.initial)
+    }
+}
+
+/// Whether both accept; they refuse for one reason.
+fn both_accept(
+    rt: &impl Abort,
+    refusal: Option<Refusal>,
+    answer: Result<Number, AcceptFault>,
+) -> bool {
+    let wanted = match refusal {
+        Some(refusal) => Err(AcceptFault::Refused(refusal)),
+        None => Ok(()),
+    };
+    assert_eq!(rt; answer.map(|_| ()), wanted);
+    refusal.is_none()
+}
+
+fn assert_same_txns(rt: &impl Abort, book: &Book, txns: &[Txn]) -> Result<(), Fail> {
+    assert!(rt; book.present()?.as_slice() == txns);
+    Ok(())
+}
+
+fn assert_same_initial(rt: &impl Abort, book: &Book, initial: &[(Key, Value)]) -> Result<(), Fail> {
+    assert!(rt; book.initial()?.as_slice() == initial);
+    Ok(())
+}
+
+fn give_some(rt: &(impl Abort + AllocGlobal), both: &mut Both) -> Result<(), Fail> {
+    let mut state = 1u64;
+    for _ in 0..2000 {
+        state = next_number(state);
+        both.give(rt, some_edit(rt, state)?)?;
+    }
+    assert!(rt; both.book.journal().len() > 200);
     Ok(())
 }
 
 #[test]
 fn the_book_answers_as_the_plain_program(rt: HostRuntime) -> Result<(), Fail> {
-    let mut book = Book::new(rt.alloc(), MOST_EDITS);
-    let mut txns = Vec::new(rt.alloc());
-    let mut state = 1u64;
-    for _ in 0..2000 {
-        state = next_number(state);
-        let edit = some_edit(&rt, state)?;
-        both_answer(&rt, &mut book, &mut txns, edit)?;
-    }
-    assert!(rt; book.journal().len() > 200);
-    Ok(())
+    let mut both = Both::new(rt.alloc());
+    give_some(&rt, &mut both)
 }
 
 #[test]
 fn a_fault_is_printed(rt: HostRuntime) -> Result<(), Fail> {
-    let text = format!(in rt.alloc(); "{}", AcceptFault::OutOfMemory)?;
-    assert_eq!(rt; text.as_str(), "out of memory");
-    let text = format!(in rt.alloc(); "{}", AcceptFault::Refused(Refusal::Full))?;
-    assert_eq!(rt; text.as_str(), "the edit is refused: Full");
+    let refused = AcceptFault::Refused(Refusal::Full);
+    for (fault, wanted) in [
+        (AcceptFault::OutOfMemory, "out of memory"),
+        (refused, "the edit is refused: Full"),
+    ] {
+        let text = format!(in rt.alloc(); "{fault}")?;
+        assert_eq!(rt; text.as_str(), wanted);
+    }
     Ok(())
 }

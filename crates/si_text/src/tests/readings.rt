@@ -52,6 +52,14 @@ fn lines_that_are_edits(rt: HostRuntime) -> Result<(), Fail> {
             "{\"do\":\"resolve\",\"id\":1,\"status\":\"aborted\",\"commit\":\"never\"}",
             Edit::Resolve(TxnId(1), Outcome::Aborted),
         ),
+        (
+            "{\"do\":\"setup\",\"key\":\"x\",\"value\":5}",
+            Edit::SetUp(Key::new(alloc, "x")?, Value(5)),
+        ),
+        (
+            "{\"value\":0,\"id\":1,\"key\":\"\\u0041\",\"do\":\"setup\"}",
+            Edit::SetUp(Key::new(alloc, "A")?, Value(0)),
+        ),
     ];
     for (line, edit) in rows {
         assert_eq!(rt; read_edit(alloc, line.as_bytes()), Ok(edit), "{line}");
@@ -108,6 +116,26 @@ fn lines_that_are_faulty(rt: HostRuntime) {
         (
             "{\"do\":\"resolve\",\"id\":1,\"status\":\"indoubt\"}",
             LineFault::BadStatus,
+        ),
+        (
+            "{\"do\":\"setup\",\"value\":\"5\"}",
+            LineFault::BadField(Field::Key),
+        ),
+        (
+            "{\"do\":\"setup\",\"key\":\"\",\"value\":5}",
+            LineFault::BadField(Field::Key),
+        ),
+        (
+            "{\"do\":\"setup\",\"key\":7,\"value\":5}",
+            LineFault::BadField(Field::Key),
+        ),
+        (
+            "{\"do\":\"setup\",\"key\":\"x\"}",
+            LineFault::BadField(Field::Value),
+        ),
+        (
+            "{\"do\":\"setup\",\"key\":\"x\",\"value\":null}",
+            LineFault::BadField(Field::Value),
         ),
     ];
     for (line, fault) in rows {

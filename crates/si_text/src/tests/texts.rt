@@ -1,9 +1,11 @@
 ghost use Rattle.std.specs.Prelude.{◌≤◌, vec_len};
 
-use crate::{Field, LineFault, Reason, print_evidence, print_finding, print_refusal, print_report};
-use si_graph::{Edge, Evidence, Label};
+use crate::{
+    Field, LineFault, Reason, Verdict, print_evidence, print_finding, print_refusal, print_report,
+};
 use si_model::{
-    Finding, Key, Kind, Op, Ops, Refusal, Stamp, Status, Txn, TxnId, Value, findings_of, is_history,
+    Edge, Evidence, Finding, Key, Kind, Label, Op, Ops, Refusal, Stamp, Status, Txn, TxnId, Value,
+    Walk, findings_of, is_history,
 };
 use std::alloc::Global;
 use std::process::Abort;
@@ -160,6 +162,14 @@ fn faulty_lines(rt: HostRuntime) -> Result<(), Fail> {
             LineFault::BadField(Field::Ops),
             "5 reason=bad-field field=ops",
         ),
+        (
+            LineFault::BadField(Field::Key),
+            "5 reason=bad-field field=key",
+        ),
+        (
+            LineFault::BadField(Field::Value),
+            "5 reason=bad-field field=value",
+        ),
         (LineFault::BadStatus, "6 reason=bad-status"),
         (LineFault::TooManyOps, "7 reason=too-many-ops"),
         (LineFault::BadOp(4095), "8 reason=bad-op op=4095"),
@@ -191,6 +201,12 @@ fn refused_edits(rt: HostRuntime) -> Result<(), Fail> {
             Refusal::ValueTaken { op: 0, holder },
             "18 reason=value-taken op=0 holder=1",
         ),
+        (Refusal::SetUpTwice, "19 reason=set-up-twice"),
+        (
+            Refusal::SetUpTaken { holder },
+            "20 reason=set-up-taken holder=1",
+        ),
+        (Refusal::ValueSetUp { op: 1 }, "21 reason=value-set-up op=1"),
     ];
     for (refusal, text) in rows {
         check_refusal(&rt, rt.alloc(), 1, Reason::from(refusal), text)?;
@@ -218,23 +234,24 @@ fn check_report(
     refused: u64,
     text: &str,
 ) -> Result<(), Fail> {
-    check_explained(rt, alloc, present, refused, false, text)
+    check_explained(rt, alloc, (present, &[]), refused, false, text)
 }
 
-/// The same, with or without evidence.
+/// The same beside keys that were set up, with or without evidence.
 fn check_explained(
     rt: &impl Abort,
     alloc: Global,
-    present: &[Txn],
+    (txns, initial): (&[Txn], &[(Key, Value)]),
     refused: u64,
     explain: bool,
     text: &str,
 ) -> Result<(), Fail> {
-    assert!(rt; is_history(present));
-    let findings = findings_of(alloc, present)?;
+    assert!(rt; is_history(txns, initial));
+    let findings = findings_of(alloc, txns, initial)?;
     let mut out = Vec::new(alloc);
-    print_report(alloc, &mut out, present, &findings, refused, explain)?;
+    let verdict = print_report(alloc, &mut out, txns, initial, &findings, refused, explain)?;
     assert_eq!(rt; out.as_slice(), text.as_bytes());
+    assert_eq!(rt; verdict, Verdict::of(&findings));
     Ok(())
 }
 
@@ -276,7 +293,7 @@ fn lines_of_evidence(rt: HostRuntime) -> Result<(), Fail> {
     check_evidence_line(
         &rt,
         alloc,
-        &Evidence::Missed(walk),
+        &Evidence::Missed(Walk::from_vec(walk)),
         "  G-SI(b) 2-rw->1 1-st->2\n",
     )?;
     Ok(())
@@ -306,7 +323,25 @@ fn reports(rt: HostRuntime) -> Result<(), Fail> {
     check_report(&rt, alloc, &both, 0, violation)?;
     let explained =
         "overlap key=\"x\" first=1 second=2\n  G-SI(a) 1-ww->2\ntransactions=2 findings=1 refused=0 verdict=violation\n";
-    check_explained(&rt, alloc, &both, 0, true, explained)?;
-    check_explained(&rt, alloc, &[], 0, true, clean)?;
+    check_explained(&rt, alloc, (&both, &[]), 0, true, explained)?;
+    check_explained(&rt, alloc, (&[], &[]), 0, true, clean)?;
     Ok(())
+}
+
+#[test]
+fn a_report_beside_set_up_keys(rt: HostRuntime) -> Result<(), Fail> {
+    let alloc = rt.alloc();
+    let x = Key::new(alloc, "x")?;
+    let second = vec![in alloc; Op::Read(x.try_clone()?, None)]?;
+    let third = vec![in alloc; Op::Write(x.try_clone()?, Value(7))]?;
+    let fourth = vec![in alloc; Op::Read(x.try_clone()?, Some(Value(5)))]?;
+    let txns = [
+        transaction(alloc, 3, 4, second)?,
+        transaction(alloc, 5, 6, third)?,
+        transaction(alloc, 7, 8, fourth)?,
+    ];
+    let initial = [(x, Value(5))];
+    let text =
+        "unknown key=\"x\" txn=3 op=0 read=initial\nstale key=\"x\" txn=7 op=0 read=5 missed=5\n  G-SI(b) 7-rw->5 5-st->7\ntransactions=3 findings=2 refused=0 verdict=violation\n";
+    check_explained(&rt, alloc, (&txns, &initial), 0, true, text)
 }

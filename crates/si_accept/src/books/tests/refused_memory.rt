@@ -5,38 +5,33 @@
 //! `refused`, and the book is compared with what it was. Where that memory was wanted for the edits themselves, the test
 //! ends with an error and says nothing of the book.
 
+use super::scripts::{accept, edit_of, key, ops_of, txn_of};
 use super::*;
 
-/// What a book has accepted, and what is present before and after one more edit, each as it would arrive.
+/// What a book has accepted, and what is present before and after one more edit: edits, and transactions as they would
+/// arrive, a line for each.
 #[derive(Clone, Copy)]
 struct Case<'a> {
-    accepted: &'a [Line<'a>],
-    before: &'a [Line<'a>],
-    after: &'a [Line<'a>],
+    accepted: &'a str,
+    before: &'a str,
+    after: &'a str,
+    // How long the journal is, and how many keys are set up, before and after.
+    journal: (usize, usize),
+    set_up: (usize, usize),
 }
 
-fn txns_of(rt: &(impl Abort + AllocGlobal), lines: &[Line<'_>]) -> Result<Vec<Txn>, Fail> {
+fn txns_of(rt: &(impl Abort + AllocGlobal), lines: &str) -> Result<Vec<Txn>, Fail> {
     let mut txns = Vec::new(rt.alloc());
-    for line in lines {
-        match edit_of(rt, *line)? {
-            Edit::Arrive(txn) => txns.push(txn)?,
-            _ => panic!(rt; "only a transaction can be present"),
-        }
+    for line in lines.trim().lines() {
+        txns.push(txn_of(rt, line.trim())?)?;
     }
     Ok(txns)
 }
 
-/// The book shows exactly these transactions, and a journal of that length.
-fn assert_shown(
-    rt: &(impl Abort + AllocGlobal),
-    book: &Book,
-    lines: &[Line<'_>],
-    journal: usize,
-) -> Result<(), Fail> {
-    let wanted = txns_of(rt, lines)?;
-    assert_eq!(rt; book.journal().len(), journal);
+/// The book shows these transactions, and finds each by its id and no other.
+fn assert_found(rt: &impl Abort, book: &Book, wanted: &[Txn]) -> Result<(), Fail> {
     assert_eq!(rt; book.len(), wanted.len());
-    assert!(rt; book.present()?.as_slice() == wanted.as_slice());
+    assert!(rt; book.present()?.as_slice() == wanted);
     for id in 0..12u64 {
         let found = wanted.iter().find(|txn| txn.id.0 == id);
         assert!(rt; book.get(TxnId(id)) == found, "at id {id}");
@@ -44,102 +39,192 @@ fn assert_shown(
     Ok(())
 }
 
+/// The book shows exactly these transactions, so many keys that are set up, and a journal of that length.
+fn assert_shown(
+    rt: &(impl Abort + AllocGlobal),
+    book: &Book,
+    lines: &str,
+    journal: usize,
+    set_up: usize,
+) -> Result<(), Fail> {
+    assert_eq!(rt; book.initial()?.len(), set_up);
+    assert_eq!(rt; book.journal().len(), journal);
+    let wanted = txns_of(rt, lines)?;
+    assert_found(rt, book, &wanted)
+}
+
 /// Gives the book the edit. Where memory is refused, the book has to be as before and is given the edit again.
+fn give_in_the_end(
+    rt: &(impl Abort + AllocGlobal + Print),
+    book: &mut Book,
+    case: Case<'_>,
+    edit: &Edit,
+) -> Result<(), Fail> {
+    let mut answer = accept(book, edit.try_clone()?);
+    if answer == Err(AcceptFault::OutOfMemory) {
+        println!(rt; "refused")?;
+        assert_shown(rt, book, case.before, case.journal.0, case.set_up.0)?;
+        answer = accept(book, edit.try_clone()?);
+    }
+    assert_eq!(rt; answer, Ok(Number(case.journal.1 as u64)));
+    assert_shown(rt, book, case.after, case.journal.1, case.set_up.1)?;
+    assert!(rt; book.journal().last() == Some(edit));
+    Ok(())
+}
+
+fn give_all(rt: &(impl Abort + AllocGlobal), book: &mut Book, lines: &str) -> Result<(), Fail> {
+    for line in lines.trim().lines() {
+        accept(book, edit_of(rt, line.trim())?)?;
+    }
+    Ok(())
+}
+
+/// The book accepts what the case says, and the edit in the end.
+fn give_case(
+    rt: &(impl Abort + AllocGlobal + Print),
+    book: &mut Book,
+    case: Case<'_>,
+    edit: &Edit,
+) -> Result<(), Fail> {
+    give_all(rt, book, case.accepted)?;
+    give_in_the_end(rt, book, case, edit)
+}
+
 fn accept_in_the_end(
     rt: &(impl Abort + AllocGlobal + Print),
     case: Case<'_>,
-    edit: Edit,
+    edit: &Edit,
 ) -> Result<(), Fail> {
-    let journal = case.accepted.len();
     let mut book = Book::new(rt.alloc(), MOST_EDITS);
-    for line in case.accepted {
-        let _number = book.accept(edit_of(rt, *line)?)?;
-    }
-    let mut answer = book.accept(edit.try_clone()?);
-    if answer == Err(AcceptFault::OutOfMemory) {
-        println!(rt; "refused")?;
-        assert_shown(rt, &book, case.before, journal)?;
-        answer = book.accept(edit.try_clone()?);
-    }
-    assert_eq!(rt; answer, Ok(Number(journal as u64 + 1)));
-    assert_shown(rt, &book, case.after, journal + 1)?;
-    assert!(rt; book.journal().last() == Some(&edit));
-    Ok(())
+    give_case(rt, &mut book, case, edit)
+}
+
+fn accept_line_in_the_end(
+    rt: &(impl Abort + AllocGlobal + Print),
+    case: Case<'_>,
+    line: &str,
+) -> Result<(), Fail> {
+    let edit = edit_of(rt, line)?;
+    accept_in_the_end(rt, case, &edit)
 }
 
 #[test]
 fn an_arrival_is_accepted_in_the_end(rt: HostRuntime) -> Result<(), Fail> {
     // The first edit of a book: the journal, what is present and each index have to grow.
-    let line = Arrival(5, 3, committed(10), &[("x", 1), ("y", 1)]);
     let case = Case {
-        accepted: &[],
-        before: &[],
-        after: &[line],
+        accepted: "",
+        before: "",
+        after: "5 3 10 x=1 y=1",
+        journal: (0, 1),
+        set_up: (0, 0),
     };
-    accept_in_the_end(&rt, case, edit_of(&rt, line)?)
+    accept_line_in_the_end(&rt, case, "arrive 5 3 10 x=1 y=1")
+}
+
+/// A transaction, and one with over 32 operations, which writes each value to both of two keys.
+fn many_writes(rt: &impl AllocGlobal) -> Result<String, Fail> {
+    let mut lines = format!(in rt.alloc(); "5 3 10 a=24\n6 3 11")?;
+    for value in 0..24u64 {
+        let pair = format!(in rt.alloc(); " a={value} b={value}")?;
+        lines.push_str(&pair)?;
+    }
+    Ok(lines)
+}
+
+fn push_writes(ops: &mut Vec<Op>, key: &Key, other: &Key, value: u64) -> Result<(), Fail> {
+    ops.push(Op::Write(key.try_clone()?, Value(value)))?;
+    ops.push(Op::Write(other.try_clone()?, Value(value)))?;
+    Ok(())
+}
+
+/// The operations of that transaction. The keys share their texts, so that few allocations come before `accept`.
+fn many_operations(rt: &(impl Abort + AllocGlobal)) -> Result<Ops, Fail> {
+    let mut ops = Vec::with_capacity(rt.alloc(), 48)?;
+    let first = key(rt, "a")?;
+    let second = key(rt, "b")?;
+    for value in 0..24u64 {
+        push_writes(&mut ops, &first, &second, value)?;
+    }
+    ops_of(rt, ops)
 }
 
 #[test]
 fn many_operations_are_accepted_in_the_end(rt: HostRuntime) -> Result<(), Fail> {
-    // Over 32 operations are looked up in an index of their own. Each value is written to both keys, which share their
-    // texts so that few allocations come before `accept`.
-    let mut writes = Vec::with_capacity(rt.alloc(), 48)?;
-    let mut ops = Vec::with_capacity(rt.alloc(), 48)?;
-    let first_key = Key::new(rt.alloc(), "a")?;
-    let second_key = Key::new(rt.alloc(), "b")?;
-    for value in 0..24u64 {
-        writes.push(("a", value))?;
-        writes.push(("b", value))?;
-        ops.push(Op::Write(first_key.try_clone()?, Value(value)))?;
-        ops.push(Op::Write(second_key.try_clone()?, Value(value)))?;
-    }
-    assert!(rt; ops.len() <= 4096);
+    // Over 32 operations are looked up in an index of their own.
     let edit = Edit::Arrive(Txn {
         id: TxnId(6),
         start: Stamp(3),
-        status: committed(11),
-        ops: Ops::from_vec(ops)?,
+        status: Status::Committed(Stamp(11)),
+        ops: many_operations(&rt)?,
     });
-    let first = Arrival(5, 3, committed(10), &[("a", 24)]);
+    let after = many_writes(&rt)?;
     let case = Case {
-        accepted: &[first],
-        before: &[first],
-        after: &[first, Arrival(6, 3, committed(11), writes.as_slice())],
+        accepted: "arrive 5 3 10 a=24",
+        before: "5 3 10 a=24",
+        after: &after,
+        journal: (1, 2),
+        set_up: (0, 0),
     };
-    accept_in_the_end(&rt, case, edit)
+    accept_in_the_end(&rt, case, &edit)
 }
 
 #[test]
 fn a_resolution_is_accepted_in_the_end(rt: HostRuntime) -> Result<(), Fail> {
     // After four edits the journal has to grow, and no transaction has a commit yet.
-    let first = Arrival(7, 1, Status::InDoubt, &[("x", 1)]);
-    let second = Arrival(5, 1, Status::InDoubt, &[]);
-    let third = Arrival(9, 11, Status::Aborted, &[]);
-    let fourth = Arrival(3, 9, Status::InDoubt, &[]);
     let case = Case {
-        accepted: &[first, second, third, fourth],
-        before: &[first, second, third, fourth],
-        after: &[first, Arrival(5, 1, committed(40), &[]), third, fourth],
+        accepted: "
+            arrive 7 1 indoubt x=1
+            arrive 5 1 indoubt
+            arrive 9 11 aborted
+            arrive 3 9 indoubt",
+        before: "
+            7 1 indoubt x=1
+            5 1 indoubt
+            9 11 aborted
+            3 9 indoubt",
+        after: "
+            7 1 indoubt x=1
+            5 1 40
+            9 11 aborted
+            3 9 indoubt",
+        journal: (4, 5),
+        set_up: (0, 0),
     };
-    let line = Resolve(5, Outcome::Committed(Stamp(40)));
-    accept_in_the_end(&rt, case, edit_of(&rt, line)?)
+    accept_line_in_the_end(&rt, case, "resolve 5 40")
 }
 
 #[test]
 fn a_withdrawal_is_accepted_in_the_end(rt: HostRuntime) -> Result<(), Fail> {
     // After eight edits the journal has to grow. One of five is left, so the empty slots are closed up.
-    let first = Arrival(7, 1, Status::InDoubt, &[]);
-    let second = Arrival(5, 1, committed(10), &[("x", 1)]);
-    let third = Arrival(9, 11, committed(20), &[]);
-    let fourth = Arrival(3, 9, Status::Aborted, &[]);
-    let fifth = Arrival(4, 9, committed(30), &[]);
-    let leave = [Withdraw(7), Withdraw(9), Withdraw(4)];
     let case = Case {
-        accepted: &[
-            first, second, third, fourth, fifth, leave[0], leave[1], leave[2],
-        ],
-        before: &[second, fourth],
-        after: &[fourth],
+        accepted: "
+            arrive 7 1 indoubt
+            arrive 5 1 10 x=1
+            arrive 9 11 20
+            arrive 3 9 aborted
+            arrive 4 9 30
+            withdraw 7
+            withdraw 9
+            withdraw 4",
+        before: "
+            5 1 10 x=1
+            3 9 aborted",
+        after: "3 9 aborted",
+        journal: (8, 9),
+        set_up: (0, 0),
     };
-    accept_in_the_end(&rt, case, edit_of(&rt, Withdraw(5))?)
+    accept_line_in_the_end(&rt, case, "withdraw 5")
+}
+
+#[test]
+fn a_set_up_is_accepted_in_the_end(rt: HostRuntime) -> Result<(), Fail> {
+    // The first key that is set up: the journal and the values have to grow.
+    let case = Case {
+        accepted: "",
+        before: "",
+        after: "",
+        journal: (0, 1),
+        set_up: (0, 1),
+    };
+    accept_line_in_the_end(&rt, case, "setup x=1")
 }

@@ -3,8 +3,8 @@ use Rattle.std.proofs.lemmas.Result.{err_from_is_err_and}
 use Rattle.si_text.specs.LineBuffers.{bytes_to_come}
 use Rattle.si_text.specs.declared.line_buffers.InputFault.TheVariants as input
 use Rattle.si_cli.specs.Runs.{MayBeTooLong}
-use Rattle.si_cli.specs.Engines.{progress_of, rules_of}
-use Rattle.si_cli.specs.Outputs.{Rules, Progress, sourced, item_text, progress_after, report_at, status_at, status_by}
+use Rattle.si_cli.specs.Engines.{progress_of, terms_of}
+use Rattle.si_cli.specs.Outputs.{Terms, Progress, sourced, item_text, progress_after, report_at, status_at, status_by}
 use Rattle.si_cli.proofs.Runnings.{begins, goes_on, ends, spends, many_items, input_fault, decided_one, CountsBytes-none, CountsBytes-then}
 use Rattle.si_cli.proofs.runs.run.Goals as goal
 
@@ -17,7 +17,7 @@ items-init g c =
       way = begins (record { limit = c.args.options.limit; every = c.args.options.every; explain = c.args.options.explain }) buffer left written (progress_of c.new-engine.result) c.in_ok-lines.ensures c.new-engine.ensures.progress;
       counts = (buffer, c.in_ok-lines.ensures, CountsBytes-none buffer left);
       turns = ap (λ (p : Progress). p.decided) c.new-engine.ensures.progress;
-      rules = c.new-engine.ensures.rules;
+      terms = c.new-engine.ensures.terms;
       reads = c.requires.source;
       writes = c.requires.writer;
     }
@@ -26,24 +26,24 @@ pub items-preserved : goal.items-preserved
 items-preserved g c =
     let left = g.S.ByteSource.left in
     let written = g.W.ByteSink.written in
-    let rules : Rules = record { limit = c.args.options.limit; every = c.args.options.every; explain = c.args.options.explain } in
+    let terms : Terms = record { limit = c.args.options.limit; every = c.args.options.every; explain = c.args.options.explain } in
     let at = c.items.invariant in
     let p = progress_of c.items.engine in
     let q = progress_of c.decide.new.self in
     let item = c.in-Some.item in
     let one = rw c.in-Some.is at c.in_ok-item.ensures.items in
-    let text_is : c.deref-in-items.result.now ≡ item_text rules p (sourced 0 item) =
-    c.deref-in-items.ensures.value ∙ c.in_ok-decide.ensures.text ∙ ap (λ (l : List ℕ). l ++ item_text (rules_of c.items.engine) p (sourced 0 item)) c.clear.ensures.items
-    ∙ ap (λ (r : Rules). item_text r p (sourced 0 item)) at.rules in
-    let progress_is : q ≡ progress_after rules p (sourced 0 item) = c.in_ok-decide.ensures.progress ∙ ap (λ (r : Rules). progress_after r p (sourced 0 item)) at.rules in
+    let text_is : c.deref-in-items.result.now ≡ item_text terms p (sourced 0 item) =
+    c.deref-in-items.ensures.value ∙ c.in_ok-decide.ensures.text ∙ ap (λ (l : List ℕ). l ++ item_text (terms_of c.items.engine) p (sourced 0 item)) c.clear.ensures.items
+    ∙ ap (λ (r : Terms). item_text r p (sourced 0 item)) at.terms in
+    let progress_is : q ≡ progress_after terms p (sourced 0 item) = c.in_ok-decide.ensures.progress ∙ ap (λ (r : Terms). progress_after r p (sourced 0 item)) at.terms in
     record {
-      way = goes_on rules (left c.args.source.now) (written c.args.writer.now) c.items.lines.lines c.next_item.new.self.lines
+      way = goes_on terms (left c.args.source.now) (written c.args.writer.now) c.items.lines.lines c.next_item.new.self.lines
           (bytes_to_come c.items.lines (left c.items.source)) (bytes_to_come c.next_item.new.self (left c.next_item.new.source))
           (written c.items.writer) (written c.write_all-in-items.new.writer) p q item c.deref-in-items.result.now
           at.way one c.in_ok-write_all-2.ensures.ok text_is progress_is;
       counts = (at.counts.0, at.counts.1, CountsBytes-then at.counts.0 c.items.lines c.next_item.new.self (left c.args.source.now) (left c.items.source) (left c.next_item.new.source) at.counts.2 c.next_item.ensures.counts);
-      turns = ap (λ (r : Progress). r.decided) progress_is ∙ decided_one rules p (sourced 0 item) ∙ ap (λ (k : ℕ). k + 1) at.turns;
-      rules = c.in_ok-decide.ensures.rules ∙ at.rules;
+      turns = ap (λ (r : Progress). r.decided) progress_is ∙ decided_one terms p (sourced 0 item) ∙ ap (λ (k : ℕ). k + 1) at.turns;
+      terms = c.in_ok-decide.ensures.terms ∙ at.terms;
       reads = c.in_ok-item.ensures.works ∙ at.reads;
       writes = c.in_ok-write_all-2.ensures.failed ∙ ap (λ (b : Bool). b || false) at.writes;
     }
@@ -53,15 +53,15 @@ unfolding status_at
 returns-in_default-clause-output g c =
     let left = g.S.ByteSource.left in
     let written = g.W.ByteSink.written in
-    let rules : Rules = record { limit = c.args.options.limit; every = c.args.options.every; explain = c.args.options.explain } in
+    let terms : Terms = record { limit = c.args.options.limit; every = c.args.options.every; explain = c.args.options.explain } in
     let at = c.items.invariant in
     let p = progress_of c.items.engine in
     let none = rw c.in_default.is at c.in_ok-item.ensures.items in
     let end = rw c.in_default.is at c.in_ok-item.ensures.end in
-    let text_is : c.deref.result.now ≡ report_at rules p = c.deref.ensures.value ∙ c.in_ok-verdict.ensures.text ∙ ap (λ (l : List ℕ). l ++ report_at (rules_of c.items.engine) p) c.clear.ensures.items
-    ∙ ap (λ (r : Rules). report_at r p) at.rules in
+    let text_is : c.deref.result.now ≡ report_at terms p = c.deref.ensures.value ∙ c.in_ok-verdict.ensures.text ∙ ap (λ (l : List ℕ). l ++ report_at (terms_of c.items.engine) p) c.clear.ensures.items
+    ∙ ap (λ (r : Terms). report_at r p) at.terms in
     let status_is : c.of.result ≡ status_at p = c.of.ensures ∙ (λ i. status_by (c.in_ok-verdict.ensures.verdict i) (c.refused.ensures i)) in
-    ends rules (left c.args.source.now) (written c.args.writer.now) c.items.lines.lines c.next_item.new.self.lines
+    ends terms (left c.args.source.now) (written c.args.writer.now) c.items.lines.lines c.next_item.new.self.lines
     (bytes_to_come c.items.lines (left c.items.source)) (bytes_to_come c.next_item.new.self (left c.next_item.new.source))
     (written c.items.writer) (written c.write_all.new.writer) p c.of.result c.deref.result.now
     at.way none (end refl) c.in_ok-write_all.ensures.ok text_is status_is

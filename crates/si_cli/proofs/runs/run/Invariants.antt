@@ -1,8 +1,8 @@
 use Rattle.std.proofs.Common.{◌≡◌, false}
 use Rattle.si_text.specs.LineBuffers.{bytes_to_come, IsFresh, CountsBytes}
 use Rattle.si_text.specs.declared.line_buffers.LineBuffer.{LineBuffer}
-use Rattle.si_cli.specs.Engines.{progress_of, rules_of}
-use Rattle.si_cli.specs.Outputs.{Rules}
+use Rattle.si_cli.specs.Engines.{progress_of, terms_of}
+use Rattle.si_cli.specs.Outputs.{Terms}
 use Rattle.si_cli.proofs.Runnings.{IsUnderWay}
 use Rattle.si_cli.proofs.runs.run.Given as goal
 
@@ -10,12 +10,12 @@ abbrev pub invariant-items : goal.invariant-items
 invariant-items g l =
     let left = g.S.ByteSource.left in
     let written = g.W.ByteSink.written in
-    let rules : Rules = record { limit = l.fn.options.limit; every = l.fn.options.every; explain = l.fn.options.explain } in
+    let terms : Terms = record { limit = l.fn.options.limit; every = l.fn.options.every; explain = l.fn.options.explain } in
     record {
-      way : IsUnderWay rules (left l.fn.source) (written l.fn.writer) l.lines.lines (bytes_to_come l.lines (left l.source)) (written l.writer) (progress_of l.engine);
+      way : IsUnderWay terms (left l.fn.source) (written l.fn.writer) l.lines.lines (bytes_to_come l.lines (left l.source)) (written l.writer) (progress_of l.engine);
       counts : (fresh : LineBuffer) × IsFresh fresh × CountsBytes fresh (left l.fn.source) l.lines (left l.source);
       turns : l.engine.decided ≡ l._turn;
-      rules : rules_of l.engine ≡ rules;
+      terms : terms_of l.engine ≡ terms;
       reads : g.S.ByteSource.failed l.source ≡ false;
       writes : g.W.ByteSink.failed l.writer ≡ false;
     }

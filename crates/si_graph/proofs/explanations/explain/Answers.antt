@@ -1,9 +1,8 @@
-use Rattle.si_graph.proofs.Explaining.{explained, all_ok}
-use Rattle.si_graph.specs.Shown.{Shows}
-use Rattle.si_graph.specs.Explanations.{Explains}
+use Rattle.std.proofs.Common.{◌∙◌, sym}
+use Rattle.si_graph.proofs.Explained.{explained}
 use Rattle.si_graph.proofs.explanations.explain.Goals as goal
 
-pub returns-then-branch-clause-shows : goal.returns-then-branch-clause-shows
-returns-then-branch-clause-shows c =
-    let is = c.in_ok-is_found.ensures.0 c.if-branch.true in
-    all_ok c.evidence_of.result (Explains c.args.finding.now.kind) (Shows c.args.txns.now) (explained c.args.txns.now c.requires c.args.finding.now is) c.evidence_of.ensures.explains
+pub returns-in-Some-clause-shows : goal.returns-in-Some-clause-shows
+returns-in-Some-clause-shows c =
+    let is = c.in_ok-is_found.ensures.0 c.if-not-branch.false in
+    explained c.model_laws.ensures (record { txns = c.args.txns.now; initial = c.args.initial.now }) c.requires c.args.finding.now is c.in-Some.evidence (sym c.in_ok-evidence.ensures ∙ c.in-Some.is)

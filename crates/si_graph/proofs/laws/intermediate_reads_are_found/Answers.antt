@@ -1,5 +1,5 @@
-use Rattle.si_graph.proofs.Emptied.{intermediate_both}
+use Rattle.si_graph.proofs.Emptiness.{intermediate_both}
 use Rattle.si_graph.proofs.laws.intermediate_reads_are_found.Goals as goal
 
 pub returns : goal.returns
-returns c = λ P h f n. intermediate_both P h (λ x. c.parts_are_of_history.ensures P x h) (c.findings_are_exact.ensures P h) (c.form_is_found.ensures P h) f n
+returns c = intermediate_both c.model_laws.ensures

@@ -1,5 +1,5 @@
 use Rattle.std.proofs.Common.{◌≡◌, ◌++◌, drop, map}
-use Rattle.si_model.specs.Parts.{key_of}
+use Rattle.si_model.specs.Operations.{key_of}
 use Rattle.si_model.proofs.findings.add_keys.Given as goal
 
 abbrev pub invariant-loop-op : goal.invariant-loop-op

@@ -2,4 +2,4 @@ use Rattle.si_model.proofs.Exact.{key_findings_exact}
 use Rattle.si_model.proofs.laws.key_findings_are_exact.Goals as goal
 
 pub returns : goal.returns
-returns c = key_findings_exact
+returns c = λ J x Q h. key_findings_exact J Q h x

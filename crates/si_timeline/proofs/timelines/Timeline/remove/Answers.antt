@@ -16,3 +16,6 @@ returns-clause-removed c =
 
 pub returns-clause-rising : goal.returns-clause-rising
 returns-clause-rising c = rising c.remove.new.self.entries c.remove.ensures.ordered
+
+pub returns-clause-gone : goal.returns-clause-gone
+returns-clause-gone c = λ version there. found c.remove.new.self.entries (c.args.commit, version) there c.remove.ensures.updates.1

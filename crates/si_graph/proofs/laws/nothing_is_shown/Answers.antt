@@ -1,5 +1,0 @@
-use Rattle.si_graph.proofs.Present.{nothing_is_shown}
-use Rattle.si_graph.proofs.laws.nothing_is_shown.Goals as goal
-
-pub returns : goal.returns
-returns c = nothing_is_shown

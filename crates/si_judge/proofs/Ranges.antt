@@ -1,0 +1,97 @@
+-- The range of the readers of a value has them all.
+use Rattle.std.proofs.Common.{Ordering}
+use Rattle.std.proofs.Common.{◌≡◌, ◌∙◌, ℕ, ◌+◌, ◌-◌, ◌^◌, ◌≤◌, Bool, true, false, cond, ◌&&◌, not, nat_eq, List, [], ◌∷◌, Option, Some, None, refl, sym, ap, ap₂, subst, arith, true≢false}
+use Rattle.std.specs.BTreeMap.Range.{entries_between, is_from_start, is_past_end, range_contains}
+use Rattle.std.specs.Cmp.{ranked, nat_cmp_is}
+use Rattle.std.specs.List.{filter}
+use Rattle.std.specs.Option.{option_cmp, option_eq}
+use Rattle.std.specs.Ordering.{is_le, nat_cmp, ordering_then}
+use Rattle.std.specs.declared.cmp.Ordering.TheVariants.{Less, Equal, Greater}
+use Rattle.std.specs.declared.ops.Bound.TheVariants.{Unbounded}
+use Rattle.std.proofs.lemmas.Bool.{and_parts, ltb-true}
+use Rattle.si_model.specs.declared.numbers.Stamp.{Stamp}
+use Rattle.si_model.specs.declared.numbers.Value.{Value}
+use Rattle.si_model.specs.Operations.{same_value}
+use Rattle.si_model.proofs.Equalities.{read_is}
+use Rattle.si_judge.specs.declared.reads.Reader.{Reader}
+use Rattle.si_judge.specs.Indexes.{beyond, is_later, is_reader_of, least_of, least_reader, reader_cmp, value_cmp}
+
+-- ---- from the least reader on
+
+from_zero : (n : ℕ) (o : Ordering) → is_le o ≡ true → is_le (ordering_then (nat_cmp 0 n) o) ≡ true
+from_zero n o le = by (nat_cmp 0 n) refl
+  where
+    by : (r : Ordering) → nat_cmp 0 n ≡ r → is_le (ordering_then r o) ≡ true
+    by Less e = refl
+    by Equal e = le
+    by Greater e = absurd (let lt = ranked 0 n Greater (sym e) in omega (arith, lt))
+
+zero_le : (n : ℕ) → is_le (nat_cmp 0 n) ≡ true
+zero_le n = by (nat_cmp 0 n) refl
+  where
+    by : (r : Ordering) → nat_cmp 0 n ≡ r → is_le r ≡ true
+    by Less e = refl
+    by Equal e = refl
+    by Greater e = absurd (let lt = ranked 0 n Greater (sym e) in omega (arith, lt))
+
+from_least : (c n : ℕ) (o : Ordering) → c ≤ n → is_le o ≡ true → is_le (ordering_then (nat_cmp c n) o) ≡ true
+from_least c n o most le = by (nat_cmp c n) refl
+  where
+    by : (r : Ordering) → nat_cmp c n ≡ r → is_le (ordering_then r o) ≡ true
+    by Less e = refl
+    by Equal e = le
+    by Greater e = absurd (let lt = ranked c n Greater (sym e) in omega (arith, lt, most))
+
+tied_values : (v : Option Value) → option_cmp value_cmp v v ≡ Equal
+tied_values None = refl
+tied_values (Some v) = sym (nat_cmp_is v.0 v.0 Equal refl)
+
+from_start : (c : ℕ) (r : Reader) → c ≤ r.start.0
+    → is_le (reader_cmp (record { value = r.value; start = record { 0 = c }; txn = record { 0 = 0 }; place = 0 }) r) ≡ true
+from_start c r most = ap (λ o. is_le (ordering_then o (ordering_then (nat_cmp c r.start.0) (ordering_then (nat_cmp 0 r.txn.0) (nat_cmp 0 r.place))))) (tied_values r.value)
+    ∙ from_least c r.start.0 (ordering_then (nat_cmp 0 r.txn.0) (nat_cmp 0 r.place)) most (from_zero r.txn.0 (nat_cmp 0 r.place) (zero_le r.place))
+
+from_its_least : (after : Option Stamp) (r : Reader) → is_later after r.start ≡ true → is_from_start reader_cmp (least_reader r.value after) r ≡ true
+from_its_least None r later = from_start 0 r (omega arith)
+from_its_least (Some c) r later = from_start c.0 r (let lt = ltb-true c.0 r.start.0 later in omega (arith, lt))
+
+-- ---- up to the next value
+
+past : (n : ℕ) (r : Reader) → option_cmp value_cmp (Some (record { 0 = n })) r.value ≡ Greater → is_past_end reader_cmp (least_of n) r ≡ false
+past n r e = ap (λ o. is_le (ordering_then o (ordering_then (nat_cmp 0 r.start.0) (ordering_then (nat_cmp 0 r.txn.0) (nat_cmp 0 r.place))))) e
+
+up_to_next : (v : Option Value) (r : Reader) → r.value ≡ v → is_past_end reader_cmp (beyond v) r ≡ false
+up_to_next None r e = past 0 r (ap (option_cmp value_cmp (Some (record { 0 = 0 }))) e)
+up_to_next (Some v) r e = by (nat_eq v.0 (2 ^ 64 - 1)) refl
+  where
+    next : (n : ℕ) → nat_cmp (n + 1) n ≡ Greater
+    next n = sym (nat_cmp_is (n + 1) n Greater (omega arith))
+
+    by : (b : Bool) → nat_eq v.0 (2 ^ 64 - 1) ≡ b → is_past_end reader_cmp (cond b Unbounded (least_of (v.0 + 1))) r ≡ false
+    by true s = refl
+    by false s = past (v.0 + 1) r (ap (option_cmp value_cmp (Some (record { 0 = v.0 + 1 }))) e ∙ next v.0)
+
+in_range : (v : Option Value) (after : Option Stamp) (r : Reader) → is_reader_of v after r ≡ true → range_contains reader_cmp (least_reader v after) (beyond v) r ≡ true
+in_range v after r e =
+    let both = and_parts (option_eq same_value r.value v) (is_later after r.start) e in
+    let value : r.value ≡ v = (read_is r.value v).0 both.0 in
+    let from = subst (λ w. is_from_start reader_cmp (least_reader w after) r ≡ true) value (from_its_least after r both.1) in
+    ap₂ (λ a b. a && not b) from (up_to_next v r value)
+
+-- no reader of the value is outside
+pub range_has_all : (v : Option Value) (after : Option Stamp) (es : List (Reader × Option Value))
+    → filter (λ p. is_reader_of v after p.0) (entries_between reader_cmp (least_reader v after) (beyond v) es) ≡ filter (λ p. is_reader_of v after p.0) es
+range_has_all v after [] = refl
+range_has_all v after (p ∷ es) = by (range_contains reader_cmp (least_reader v after) (beyond v) p.0) (is_reader_of v after p.0) refl refl (range_has_all v after es)
+  where
+    keep : Reader × Option Value → Bool
+    keep p = is_reader_of v after p.0
+
+    by : (a b : Bool) → range_contains reader_cmp (least_reader v after) (beyond v) p.0 ≡ a → is_reader_of v after p.0 ≡ b
+        → filter (λ p. is_reader_of v after p.0) (entries_between reader_cmp (least_reader v after) (beyond v) es) ≡ filter (λ p. is_reader_of v after p.0) es
+        → filter (λ p. is_reader_of v after p.0) (cond a (p ∷ entries_between reader_cmp (least_reader v after) (beyond v) es) (entries_between reader_cmp (least_reader v after) (beyond v) es))
+        ≡ cond b (p ∷ filter (λ p. is_reader_of v after p.0) es) (filter (λ p. is_reader_of v after p.0) es)
+    by true true e f rest = rw f (ap (λ l. p ∷ l) rest)
+    by true false e f rest = rw f rest
+    by false true e f rest = absurd (true≢false (sym (in_range v after p.0 f) ∙ e))
+    by false false e f rest = rest

@@ -1,0 +1,214 @@
+-- The indexes of what is on a key. All of it is this project's choice.
+use Rattle.std.specs.Prelude.{◌≡◌, ◌≢◌, ◌⊎◌, ◌↔◌, ℕ, ◌<◌, ◌+◌, ◌-◌, ◌^◌, Bool, true, ◌&&◌, if◌then◌else◌, nat_eq, nat_lt, List, [], ◌∷◌, ◌++◌, Some, None, Option, ⊤}
+use Rattle.std.specs.BTreeMap.{get, IsOrdered}
+use Rattle.std.specs.Map.{values_of}
+use Rattle.std.specs.Ordering.{nat_cmp, ordering_then}
+use Rattle.std.specs.declared.cmp.Ordering.{Ordering}
+use Rattle.std.specs.declared.ops.Bound.{Bound}
+use Rattle.std.specs.declared.ops.Bound.TheVariants.{Included, Excluded, Unbounded}
+use Rattle.si_model.specs.declared.numbers.TxnId.{TxnId}
+use Rattle.std.specs.List.{Contains, AllPairs, filter, filter_map, flat_map}
+use Rattle.std.specs.Option.{option_cmp, option_eq}
+use Rattle.si_model.specs.declared.numbers.Stamp.{Stamp}
+use Rattle.si_model.specs.declared.numbers.Value.{Value}
+use Rattle.si_model.specs.declared.parts.Access.{Access}
+use Rattle.si_model.specs.declared.parts.Access.TheVariants as access
+use Rattle.si_model.specs.declared.parts.Placed.{Placed}
+use Rattle.si_model.specs.declared.parts.Part.{Part}
+use Rattle.si_model.specs.declared.parts.OnKey.{OnKey}
+use Rattle.si_model.specs.Operations.{same_value}
+use Rattle.si_model.specs.Versions.{Writes, commit_of, last_write, written}
+use Rattle.si_model.specs.Reads.{own_value}
+use Rattle.si_model.specs.History.{IsOfHistory}
+use Rattle.si_timeline.specs.Timelines.{Adds, Dated, Has, IsNearestBefore, Lacks}
+use Rattle.si_timeline.specs.declared.versions.Version.{Version}
+use Rattle.si_judge.specs.declared.indexes.Indexes.{Indexes}
+use Rattle.si_judge.specs.declared.reads.Reader.{Reader}
+use Rattle.si_judge.specs.declared.reads.Write.{Write}
+
+-- ---- the reads and writes of a transaction
+
+-- a read of T that returned v at the place i
+abbrev pub reader_of : Part → ℕ → Option Value → Reader
+reader_of T i v = record { value = v; start = T.start; txn = T.id; place = i }
+
+-- a read of T with T's own value there, if the access is a read
+abbrev pub read_by : Part → ℕ → Access → Option (Reader × Option Value)
+read_by T i (access.Read v) = Some (reader_of T i v, own_value T i)
+read_by T i (access.Write v) = None
+
+-- the same of an access with its place
+abbrev pub read_at : Part → Placed → Option (Reader × Option Value)
+read_at T a = read_by T a.place a.access
+
+-- the reads of T
+abbrev pub reads_of : Part → List (Reader × Option Value)
+reads_of T = filter_map (read_at T) T.accesses
+
+-- the reads of a transaction with that commit stamp, if it has one
+abbrev pub reads_by : Part → Option Stamp → List (Reader × Option Value)
+reads_by T None = []
+reads_by T (Some c) = reads_of T
+
+-- the reads of T if it is committed, and else none
+unfoldable pub reads_in : Part → List (Reader × Option Value)
+reads_in T = reads_by T (commit_of T.status)
+
+-- T's write of the value at the place i
+abbrev pub write_of : Part → ℕ → Value → Value × Write
+write_of T i v = (v, record { txn = T.id; place = i; last = option_eq same_value (last_write T.accesses) (Some v) })
+
+-- the write, if a value is written
+abbrev pub write_by : Part → ℕ → Option Value → Option (Value × Write)
+write_by T i None = None
+write_by T i (Some v) = Some (write_of T i v)
+
+-- the same of an access with its place
+abbrev pub write_at : Part → Placed → Option (Value × Write)
+write_at T a = write_by T a.place (written a.access)
+
+-- the writes of T
+abbrev pub writes_of : Part → List (Value × Write)
+writes_of T = filter_map (write_at T) T.accesses
+
+-- the version that T installs, where there are a commit stamp and a last write
+abbrev pub version_with : Part → Option Stamp → Option Value → Option Dated
+version_with T None v = None
+version_with T (Some c) None = None
+version_with T (Some c) (Some v) = Some (c, record { writer = T.id; start = T.start; value = v })
+
+-- the version that T installs, if it installs one
+abbrev pub version_of : Part → Option Dated
+version_of T = version_with T (commit_of T.status) (last_write T.accesses)
+
+-- ---- what the indexes hold
+
+-- ids, values and readers in their orders
+abbrev pub id_cmp : TxnId → TxnId → Ordering
+id_cmp u w = nat_cmp u.0 w.0
+
+abbrev pub value_cmp : Value → Value → Ordering
+value_cmp v w = nat_cmp v.0 w.0
+
+abbrev pub reader_cmp : Reader → Reader → Ordering
+reader_cmp r s = ordering_then (option_cmp value_cmp r.value s.value)
+    (ordering_then (nat_cmp r.start.0 s.start.0) (ordering_then (nat_cmp r.txn.0 s.txn.0) (nat_cmp r.place s.place)))
+
+-- an index of what f gives for each transaction: under a key stands what f gives for one of them, and nothing else
+abbrev pub IsIndexOf : {K V : Type 0} → (Part → List (K × V)) → List Part → (K → Option V) → Type 0
+IsIndexOf {K} {V} f parts at = (k : K) (v : V) → (at k ≡ Some v) ↔ ((T : Part) × Contains parts T × Contains (f T) (k, v))
+
+-- T itself, under its id
+abbrev pub itself : Part → List (TxnId × Part)
+itself T = (T.id, T) ∷ []
+
+-- what is on the key
+abbrev pub present_in : Indexes → OnKey
+present_in ix = record { initial = ix.initial; parts = values_of ix.parts.entries }
+
+-- the indexes are those of what is on the key, which is of a history
+pub record AreIndexes (ix : Indexes) : Type 0 where
+  pub history : IsOfHistory (present_in ix)
+  pub parts : IsIndexOf itself (present_in ix).parts (get id_cmp ix.parts)
+  pub timeline : (d : Dated) → Contains ix.timeline d ↔ ((T : Part) × Contains (present_in ix).parts T × (version_of T ≡ Some d))
+  pub writes : IsIndexOf writes_of (present_in ix).parts (get value_cmp ix.writes)
+  pub readers : IsIndexOf reads_in (present_in ix).parts (get reader_cmp ix.readers)
+  pub ordered : IsOrdered reader_cmp ix.readers
+
+-- R has T besides what M has, which has no other transaction of that id
+pub record Joins (T : Part) (M R : OnKey) : Type 0 where
+  pub initial : M.initial ≡ R.initial
+  pub absent : (X : Part) → Contains M.parts X → X.id ≢ T.id
+  pub parts : (X : Part) → Contains R.parts X ↔ (Contains M.parts X ⊎ (X ≡ T))
+
+-- no version was installed at the commit of this one, if there is one
+abbrev pub LacksVersion : Option Dated → List Dated → Type 0
+LacksVersion None ds = ⊤
+LacksVersion (Some d) ds = Lacks ds d.0
+
+-- one was
+abbrev pub HasVersion : Option Dated → List Dated → Type 0
+HasVersion None ds = ⊤
+HasVersion (Some d) ds = Has ds d.0
+
+-- the second list is the first one with the version in it, if there is one
+abbrev pub AddsVersion : Option Dated → List Dated → List Dated → Type 0
+AddsVersion None old new = new ≡ old
+AddsVersion (Some d) old new = Adds d.0 d.1 old new
+
+-- the second list is the first one without what was installed at the commit of the version, if there is one
+abbrev pub RemovesVersion : Option Dated → List Dated → List Dated → Type 0
+RemovesVersion None old new = new ≡ old
+RemovesVersion (Some d) old new = ((v : Version) × Adds d.0 v new old) × Lacks new d.0
+
+-- the transaction can come to what is on the key
+abbrev pub Fits : Part → OnKey → Type 0
+Fits T M = (R : OnKey) × Joins T M R × IsOfHistory R
+
+-- ---- which reads a transaction touches
+
+-- what a read of the version returns, or of the initial version where there is none
+abbrev pub returned_by : Option Value → Option Dated → Option Value
+returned_by initial None = initial
+returned_by initial (Some d) = Some d.1.value
+
+-- what a read of the version returns that was installed last before the stamp
+abbrev pub IsValueBefore : Indexes → Stamp → Option Value → Type 0
+IsValueBefore ix c v = (o : Option Dated) × IsNearestBefore ix.timeline c o × (v ≡ returned_by ix.initial o)
+
+-- the stamp is later, if there is one
+abbrev pub IsLaterThan : Option Stamp → Stamp → Type 0
+IsLaterThan None s = ⊤
+IsLaterThan (Some c) s = c.0 < s.0
+
+-- the least reader that the bounds let in for reads of a value after the stamp
+abbrev pub least_reader : Option Value → Option Stamp → Bound Reader
+least_reader v None = Included (record { value = v; start = record { 0 = 0 }; txn = record { 0 = 0 }; place = 0 })
+least_reader v (Some c) = Included (record { value = v; start = c; txn = record { 0 = 0 }; place = 0 })
+
+-- the least reader of a value beyond n
+abbrev pub least_of : ℕ → Bound Reader
+least_of n = Excluded (record { value = Some (record { 0 = n }); start = record { 0 = 0 }; txn = record { 0 = 0 }; place = 0 })
+
+-- where the readers of a greater value begin
+abbrev pub beyond : Option Value → Bound Reader
+beyond None = least_of 0
+beyond (Some v) = if nat_eq v.0 (2 ^ 64 - 1) then Unbounded else least_of (v.0 + 1)
+
+-- a read of the value by a reader that started after the stamp
+abbrev pub IsReaderOf : Option Value → Option Stamp → Reader → Type 0
+IsReaderOf v after r = (r.value ≡ v) × IsLaterThan after r.start
+
+-- the same as tests
+abbrev pub is_later : Option Stamp → Stamp → Bool
+is_later None s = true
+is_later (Some c) s = nat_lt c.0 s.0
+
+abbrev pub is_reader_of : Option Value → Option Stamp → Reader → Bool
+is_reader_of v after r = option_eq same_value r.value v && is_later after r.start
+
+-- the reads of the value by readers that started after the stamp
+abbrev pub readers_in : Indexes → Option Value → Option Stamp → List (Reader × Option Value)
+readers_in ix v after = filter (λ p. is_reader_of v after p.0) ix.readers.entries
+
+-- the reads of the version before this one, by readers that started after its commit, if there is one
+abbrev pub AreReadsBefore : Indexes → Option Dated → List (Reader × Option Value) → Type 0
+AreReadsBefore ix None reads = reads ≡ []
+AreReadsBefore ix (Some d) reads = (v : Option Value) × IsValueBefore ix d.0 v × (reads ≡ readers_in ix v (Some d.0))
+
+-- the reads of what T writes, and those of the version before its own
+abbrev pub AreTouchedReads : Indexes → Part → List (Value × Write) → List (Reader × Option Value) → Type 0
+AreTouchedReads ix T writes reads = (more : List (Reader × Option Value)) × AreReadsBefore ix (version_of T) more
+    × (reads ≡ flat_map (λ w. readers_in ix (Some w.0) None) writes ++ more)
+
+-- a read of another transaction that T touches: of a value that T writes, or of the version before T's by a reader that started
+-- after T's commit
+abbrev pub IsTouchedBy : Indexes → Part → Reader → Type 0
+IsTouchedBy ix T r = ((w : Value) × Writes T w × (r.value ≡ Some w))
+    ⊎ ((d : Dated) × (v : Option Value) × (version_of T ≡ Some d) × IsValueBefore ix d.0 v × IsReaderOf v (Some d.0) r)
+
+-- the reads that P holds of, each once
+pub record AreReadsOf (ix : Indexes) (P : Reader → Type 0) (reads : List (Reader × Option Value)) : Type 0 where
+  pub all : (r : Reader) (own : Option Value) → get reader_cmp ix.readers r ≡ Some own → P r → Contains reads (r, own)
+  pub only : (p : Reader × Option Value) → Contains reads p → (get reader_cmp ix.readers p.0 ≡ Some p.1) × P p.0
+  pub once : AllPairs (λ p q. p.0 ≢ q.0) reads

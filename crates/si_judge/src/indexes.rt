@@ -1,0 +1,316 @@
+//! What is on a key, found without a walk over it.
+
+ghost use Rattle.std.specs.Prelude.{◌≡◌, ◌++◌, [], None, Some, Option, IfOk, OnOk};
+ghost use Rattle.std.specs.List.{Contains, filter};
+ghost use Rattle.si_model.specs.declared.parts.Part.{Part};
+ghost use Rattle.si_model.specs.Versions.{next_after};
+ghost use Rattle.si_model.specs.Reads.{missed_of};
+ghost use Rattle.si_model.specs.Reads.{version_of as version_read};
+ghost use Rattle.si_judge.specs.Indexes.{AddsVersion, AreIndexes, Fits, HasVersion, IsValueBefore, Joins, LacksVersion, RemovesVersion, beyond, is_later, is_reader_of, least_reader, readers_in, present_in, reads_in, version_of, writes_of};
+ghost use Rattle.si_judge.specs.Sights.{is_later_write, sight_in, source_by, source_in, stamp_of, status_in, write_in};
+ghost use Rattle.si_judge.specs.Mending.{installer};
+
+use crate::maps::{insert_all, remove_all};
+use crate::reads::{OwnRead, Reader, Write, reads_in, version_of, writes_of};
+use si_model::reads::{if_before, version_of as version_read};
+use si_model::{
+    Installer, OutOfMemory, Part, Sight, Source, Stamp, Status, TxnId, Value, VersionId,
+};
+use si_timeline::{Timeline, Version};
+use std::alloc::Global;
+use std::collections::BTreeMap;
+use std::ops::Bound;
+
+/// What is on a key: the transactions by their ids, and what is looked for in them.
+#[derive(Drop)]
+pub struct Indexes {
+    /// What the initial version returns.
+    pub initial: Option<Value>,
+    pub parts: BTreeMap<TxnId, Part>,
+    /// The installed versions.
+    pub timeline: Timeline,
+    /// The writes of all transactions, by their values.
+    pub writes: BTreeMap<Value, Write>,
+    /// The reads of the committed transactions, each with its transaction's own value there.
+    pub readers: BTreeMap<Reader, Option<Value>>,
+}
+
+/// A transaction that was taken out, with its reads and writes.
+#[derive(Drop)]
+pub struct TakenOut {
+    pub part: Part,
+    pub reads: Vec<OwnRead>,
+    pub writes: Vec<(Value, Write)>,
+}
+
+impl Indexes {
+    pub fn new(alloc: Global) -> Self
+        ensures indexes { AreIndexes result }
+        ensures none { present_in result ≡ record { initial = None; parts = [] } }
+    {
+        Indexes {
+            initial: None,
+            parts: BTreeMap::new(alloc),
+            timeline: Timeline::new(alloc),
+            writes: BTreeMap::new(alloc),
+            readers: BTreeMap::new(alloc),
+        }
+    }
+
+    /// Puts a transaction in, whose reads and writes these are.
+    pub fn put_in(
+        &mut self,
+        part: Part,
+        reads: &[OwnRead],
+        writes: &[(Value, Write)],
+    ) -> Result<(), OutOfMemory>
+        requires indexes { AreIndexes self.old }
+        requires fits { Fits part (present_in self.old) }
+        requires reads { reads.now ≡ reads_in part }
+        requires writes { writes.now ≡ writes_of part }
+        ensures indexes { OnOk result (AreIndexes self.new) }
+        ensures joined { OnOk result (Joins part (present_in self.old) (present_in self.new)) }
+    {
+        insert_all(&mut self.writes, writes)?;
+        insert_all(&mut self.readers, reads)?;
+        add_version(&mut self.timeline, &part)?;
+        self.parts.insert(part.id, part)?;
+        Ok(())
+    }
+
+    /// Takes the transaction of that id out.
+    pub fn take_out(&mut self, alloc: Global, id: TxnId) -> Result<TakenOut, OutOfMemory>
+        requires indexes { AreIndexes self.old }
+        requires there { (T : Part) × Contains (present_in self.old).parts T × (T.id ≡ id) }
+        ensures indexes { OnOk result (AreIndexes self.new) }
+        ensures joined { IfOk result (λ taken. Joins taken.part (present_in self.new) (present_in self.old)) }
+        ensures reads { IfOk result (λ taken. taken.reads.items ≡ reads_in taken.part) }
+        ensures writes { IfOk result (λ taken. taken.writes.items ≡ writes_of taken.part) }
+        ensures id { IfOk result (λ taken. taken.part.id ≡ id) }
+    {
+        let Some(part) = self.parts.remove(&id) else {
+            unreachable!();
+        };
+        let reads = reads_in(alloc, &part)?;
+        let writes = writes_of(alloc, &part)?;
+        remove_all(&mut self.writes, writes.as_slice());
+        remove_all(&mut self.readers, reads.as_slice());
+        remove_version(&mut self.timeline, &part);
+        Ok(TakenOut {
+            part,
+            reads,
+            writes,
+        })
+    }
+
+    /// Adds the reads that returned the value, by readers that started after the stamp, if there is one.
+    pub fn add_readers(
+        &self,
+        reads: &mut Vec<OwnRead>,
+        value: Option<Value>,
+        after: Option<Stamp>,
+    ) -> Result<(), OutOfMemory>
+        ensures { OnOk result (reads.new.items ≡ reads.old.items ++ readers_in self.now value after) }
+    {
+        let range = (least_reader(value, after), beyond(value));
+        for (reader, own) in self.readers.range(range) {
+            if is_reader_of(value, after, *reader) {
+                reads.push((*reader, *own))?;
+            }
+        }
+        Ok(())
+    }
+
+    /// What a read of the version returns that stands before all that were installed at the stamp or later.
+    pub fn value_before(&self, stamp: Stamp) -> Option<Value>
+        ensures { IsValueBefore self.now stamp result }
+    {
+        match self.timeline.before(stamp) {
+            Some((_, version)) => Some(version.value),
+            None => self.initial,
+        }
+    }
+
+    /// The installer of the version next after that one.
+    pub fn next_after(&self, after: VersionId) -> Option<Installer>
+        requires { AreIndexes self.now }
+        ensures { result ≡ next_after (present_in self.now).parts after }
+    {
+        match self.timeline.after(stamp_of(after)) {
+            Some((commit, version)) => Some(installer(commit, version)),
+            None => None,
+        }
+    }
+
+    /// All that is seen at a read.
+    pub fn sight_of(&self, read: OwnRead) -> Sight
+        requires { AreIndexes self.now }
+        ensures { result ≡ sight_in self.now read }
+    {
+        let (reader, own) = read;
+        let write = self.write_of(reader.value);
+        let source = self.source_of(reader.value, write);
+        Sight {
+            txn: reader.txn,
+            op: reader.place,
+            start: reader.start,
+            read: reader.value,
+            own,
+            later: is_later_write(reader, write),
+            source,
+            next: self.missed_at(reader.start, source),
+        }
+    }
+
+    fn write_of(&self, value: Option<Value>) -> Option<Write>
+        ensures { result ≡ write_in self.now value }
+    {
+        match self.writes.get(&value?) {
+            Some(write) => Some(*write),
+            None => None,
+        }
+    }
+
+    /// Where what a read returned comes from, which that write wrote, if there is one.
+    fn source_of(&self, value: Option<Value>, write: Option<Write>) -> Source
+        ensures { result ≡ source_in self.now value write }
+    {
+        if value == self.initial {
+            return Source::Initial;
+        }
+        match write {
+            None => Source::Missing,
+            Some(write) => source_by(write, self.status_of(write.txn)),
+        }
+    }
+
+    fn status_of(&self, id: TxnId) -> Option<Status>
+        ensures { result ≡ status_in self.now id }
+    {
+        match self.parts.get(&id) {
+            Some(part) => Some(part.status),
+            None => None,
+        }
+    }
+
+    fn missed_at(&self, start: Stamp, source: Source) -> Option<Installer>
+        requires { AreIndexes self.now }
+        ensures { result ≡ missed_of (present_in self.now).parts start (version_read source) }
+    {
+        let read = version_read(source)?;
+        if_before(start, self.next_after(read))
+    }
+}
+
+/// Adds the version that the transaction installs, if it installs one.
+fn add_version(timeline: &mut Timeline, part: &Part) -> Result<(), OutOfMemory>
+    requires { LacksVersion (version_of part.now) timeline.old }
+    ensures { OnOk result (AddsVersion (version_of part.now) timeline.old timeline.new) }
+{
+    match version_of(part) {
+        Some((commit, version)) => timeline.insert(commit, version),
+        None => Ok(()),
+    }
+}
+
+/// Takes out the version that the transaction installs, if it installs one.
+fn remove_version(timeline: &mut Timeline, part: &Part)
+    requires { HasVersion (version_of part.now) timeline.old }
+    ensures { RemovesVersion (version_of part.now) timeline.old timeline.new }
+{
+    if let Some((commit, _)) = version_of(part) {
+        timeline.remove(commit);
+    }
+}
+
+/// Where a value comes from, by its write and what became of the transaction that wrote it.
+fn source_by(write: Write, status: Option<Status>) -> Source
+    ensures { result ≡ source_by write status }
+{
+    match status {
+        None => Source::Missing,
+        Some(Status::Aborted) => Source::Aborted(write.txn),
+        Some(Status::InDoubt) => Source::InDoubt(write.txn),
+        Some(Status::Committed(commit)) if write.last => Source::Installed(write.txn, commit),
+        Some(Status::Committed(_)) => Source::Earlier(write.txn),
+    }
+}
+
+/// Whether the write is one of the reader, after the read.
+fn is_later_write(reader: Reader, write: Option<Write>) -> bool
+    ensures { result ≡ is_later_write reader write }
+{
+    match write {
+        None => false,
+        Some(write) => write.txn == reader.txn && reader.place < write.place,
+    }
+}
+
+/// The stamp after which the versions are that come after this one. No version is installed at 0.
+fn stamp_of(version: VersionId) -> Stamp
+    ensures { result ≡ stamp_of version }
+{
+    match version {
+        VersionId::Initial => Stamp(0),
+        VersionId::Installed(commit) => commit,
+    }
+}
+
+/// The installer of a version.
+pub fn installer(commit: Stamp, version: Version) -> Installer
+    ensures { result ≡ installer (commit, version) }
+{
+    Installer {
+        txn: version.writer,
+        start: version.start,
+        commit,
+    }
+}
+
+fn least_reader(value: Option<Value>, after: Option<Stamp>) -> Bound<Reader>
+    ensures { result ≡ least_reader value after }
+{
+    let start = match after {
+        Some(stamp) => stamp,
+        None => Stamp(0),
+    };
+    Bound::Included(Reader {
+        value,
+        start,
+        txn: TxnId(0),
+        place: 0,
+    })
+}
+
+/// Where the readers begin that returned a greater value.
+fn beyond(value: Option<Value>) -> Bound<Reader>
+    ensures { result ≡ beyond value }
+{
+    let next = match value {
+        None => Value(0),
+        Some(Value(u64::MAX)) => return Bound::Unbounded,
+        Some(Value(value)) => Value(value + 1),
+    };
+    Bound::Excluded(Reader {
+        value: Some(next),
+        start: Stamp(0),
+        txn: TxnId(0),
+        place: 0,
+    })
+}
+
+/// Whether it is a read of the value by a reader that started after the stamp, if there is one.
+fn is_reader_of(value: Option<Value>, after: Option<Stamp>, reader: Reader) -> bool
+    ensures { result ≡ is_reader_of value after reader }
+{
+    reader.value == value && is_later(after, reader.start)
+}
+
+fn is_later(after: Option<Stamp>, start: Stamp) -> bool
+    ensures { result ≡ is_later after start }
+{
+    match after {
+        Some(stamp) => stamp < start,
+        None => true,
+    }
+}

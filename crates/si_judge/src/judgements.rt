@@ -1,0 +1,172 @@
+//! What a judge found on a key, kept under what was judged.
+
+ghost use Rattle.std.specs.Prelude.{◌≡◌, ◌+◌, ◌≤◌, None, Option, OnOk, length};
+ghost use Rattle.std.specs.BTreeMap.{get};
+ghost use Rattle.si_model.specs.Findings.{overlap_with};
+ghost use Rattle.si_judge.specs.Indexes.{AreIndexes, present_in};
+ghost use Rattle.si_judge.specs.Mending.{AreForgotten, RisesBy, IsVersionForgotten, IsVersionJudged, AreReadsJudged, IsPairJudged, IsPairJudgedBefore, id_of, read_cmp, risen, stamp_cmp, with_kind};
+
+use crate::Judge;
+use crate::indexes::{Indexes, installer};
+use crate::maps::put;
+use crate::reads::OwnRead;
+use si_model::{Installer, Kind, OutOfMemory, Stamp, TxnId, VersionId};
+use si_timeline::Version;
+use std::alloc::Global;
+use std::collections::BTreeMap;
+
+/// A read, by its transaction and its place there.
+#[derive(Clone, Copy, Debug, PartialEq, Eq, PartialOrd, Ord)]
+pub struct ReadId {
+    pub txn: TxnId,
+    pub place: usize,
+}
+
+/// A judge, and what it found.
+#[derive(Drop)]
+pub struct Judgements<J> {
+    pub judge: J,
+    /// The findings of reads.
+    pub reads: BTreeMap<ReadId, Kind>,
+    /// The overlaps, under the commit stamps of their first versions.
+    pub overlaps: BTreeMap<Stamp, Kind>,
+}
+
+impl<J: Judge + Drop> Judgements<J> {
+    pub fn new(alloc: Global, judge: J) -> Self
+        ensures judge { result.judge ≡ judge }
+        ensures reads { (o : ReadId) → get read_cmp result.reads o ≡ None }
+        ensures overlaps { (c : Stamp) → get stamp_cmp result.overlaps c ≡ None }
+    {
+        Judgements {
+            judge,
+            reads: BTreeMap::new(alloc),
+            overlaps: BTreeMap::new(alloc),
+        }
+    }
+
+    /// Judges these reads.
+    pub fn judge_reads(&mut self, indexes: &Indexes, reads: &[OwnRead]) -> Result<(), OutOfMemory>
+        requires indexes { AreIndexes indexes.now }
+        ensures reads { OnOk result (AreReadsJudged J.rules indexes.now reads.now (get read_cmp self.old.reads) (get read_cmp self.new.reads)) }
+        ensures overlaps { OnOk result (self.new.overlaps ≡ self.old.overlaps) }
+        ensures counted { OnOk result (J.answers self.new.judge ≡ risen (J.answers self.old.judge) (length reads.now)) }
+    {
+        for read in reads {
+            let kind = self.judge.read(&indexes.sight_of(*read));
+            put(&mut self.reads, id_of(*read), kind)?;
+        }
+        Ok(())
+    }
+
+    /// Forgets what was found of these reads.
+    pub fn forget_reads(&mut self, reads: &[OwnRead])
+        ensures reads { AreForgotten reads.now (get read_cmp self.old.reads) (get read_cmp self.new.reads) }
+        ensures overlaps { self.new.overlaps ≡ self.old.overlaps }
+        ensures judge { self.new.judge ≡ self.old.judge }
+    {
+        for read in reads {
+            self.reads.remove(&id_of(*read));
+        }
+    }
+
+    /// Judges a version with the one next after it.
+    pub fn judge_pair(&mut self, indexes: &Indexes, first: Installer) -> Result<(), OutOfMemory>
+        requires { AreIndexes indexes.now }
+        ensures overlaps { OnOk result
+            (IsPairJudged J.rules (present_in indexes.now) first (get stamp_cmp self.old.overlaps) (get stamp_cmp self.new.overlaps)) }
+        ensures reads { OnOk result (self.new.reads ≡ self.old.reads) }
+        ensures counted { OnOk result (RisesBy 1 (J.answers self.old.judge) (J.answers self.new.judge)) }
+    {
+        let kind = self.overlap_with(
+            first,
+            indexes.next_after(VersionId::Installed(first.commit)),
+        );
+        put(&mut self.overlaps, first.commit, kind)?;
+        Ok(())
+    }
+
+    /// Judges the version that was installed last before the stamp with the one next after it.
+    pub fn judge_pair_before(&mut self, indexes: &Indexes, stamp: Stamp) -> Result<(), OutOfMemory>
+        requires { AreIndexes indexes.now }
+        ensures overlaps { OnOk result (IsPairJudgedBefore J.rules indexes.now stamp (get stamp_cmp self.old.overlaps) (get stamp_cmp self.new.overlaps)) }
+        ensures reads { OnOk result (self.new.reads ≡ self.old.reads) }
+        ensures counted { OnOk result (RisesBy 1 (J.answers self.old.judge) (J.answers self.new.judge)) }
+    {
+        match indexes.timeline.before(stamp) {
+            Some((commit, version)) => self.judge_pair(indexes, installer(commit, version)),
+            None => Ok(()),
+        }
+    }
+
+    /// Forgets the overlap of the version that was installed at the stamp.
+    pub fn forget_pair(&mut self, commit: Stamp)
+        ensures overlaps { (c : Stamp) → get stamp_cmp self.new.overlaps c ≡ with_kind (get stamp_cmp self.old.overlaps) commit None c }
+        ensures reads { self.new.reads ≡ self.old.reads }
+        ensures judge { self.new.judge ≡ self.old.judge }
+    {
+        self.overlaps.remove(&commit);
+    }
+
+    /// Judges the version with the one before it and the one after it, if there is a version.
+    pub fn judge_version(
+        &mut self,
+        indexes: &Indexes,
+        version: Option<(Stamp, Version)>,
+    ) -> Result<(), OutOfMemory>
+        requires { AreIndexes indexes.now }
+        ensures overlaps { OnOk result (IsVersionJudged J.rules indexes.now version (get stamp_cmp self.old.overlaps) (get stamp_cmp self.new.overlaps)) }
+        ensures reads { OnOk result (self.new.reads ≡ self.old.reads) }
+        ensures counted { OnOk result (RisesBy 2 (J.answers self.old.judge) (J.answers self.new.judge)) }
+    {
+        if let Some((commit, version)) = version {
+            self.judge_pair_before(indexes, commit)?;
+            self.judge_pair(indexes, installer(commit, version))?;
+        }
+        Ok(())
+    }
+
+    /// Forgets the version, and judges the one before it with the one after it, if there is a version.
+    pub fn forget_version(
+        &mut self,
+        indexes: &Indexes,
+        version: Option<(Stamp, Version)>,
+    ) -> Result<(), OutOfMemory>
+        requires { AreIndexes indexes.now }
+        ensures overlaps { OnOk result (IsVersionForgotten J.rules indexes.now version (get stamp_cmp self.old.overlaps) (get stamp_cmp self.new.overlaps)) }
+        ensures reads { OnOk result (self.new.reads ≡ self.old.reads) }
+        ensures counted { OnOk result (RisesBy 2 (J.answers self.old.judge) (J.answers self.new.judge)) }
+    {
+        if let Some((commit, _)) = version {
+            self.forget_pair(commit);
+            self.judge_pair_before(indexes, commit)?;
+        }
+        Ok(())
+    }
+
+    fn overlap_with(&mut self, first: Installer, next: Option<Installer>) -> Option<Kind>
+        ensures overlap { result ≡ overlap_with J.rules first next }
+        ensures reads { self.new.reads ≡ self.old.reads }
+        ensures overlaps { self.new.overlaps ≡ self.old.overlaps }
+        ensures counted { RisesBy 1 (J.answers self.old.judge) (J.answers self.new.judge) }
+    {
+        let next = next?;
+        if self.judge.pair(first.commit, next.start) {
+            Some(Kind::Overlap {
+                first: first.txn,
+                second: next.txn,
+            })
+        } else {
+            None
+        }
+    }
+}
+
+fn id_of(read: OwnRead) -> ReadId
+    ensures { result ≡ id_of read }
+{
+    ReadId {
+        txn: read.0.txn,
+        place: read.0.place,
+    }
+}

@@ -1,0 +1,129 @@
+//! The reads and writes of one transaction on a key, as they are looked for.
+
+ghost use Rattle.std.specs.Prelude.{◌≡◌, ◌<◌, IfOk, None, length};
+ghost use Rattle.std.specs.List.{AllPairs};
+ghost use Rattle.si_judge.specs.Indexes.{read_at, reads_of, reads_in, write_at, writes_of, version_of};
+ghost use Rattle.si_model.specs.Versions.{last_write};
+ghost use Rattle.si_model.specs.Reads.{own_value};
+
+use si_model::versions::last_write;
+use si_model::{Access, OutOfMemory, Part, Placed, Stamp, TxnId, Value};
+use si_timeline::Version;
+use std::alloc::Global;
+
+/// A read of a committed transaction. Readers are in the order of what they returned, and then of their starts.
+#[derive(Clone, Copy, Debug, PartialEq, Eq, PartialOrd, Ord)]
+pub struct Reader {
+    /// What the read returned: `None` for `null`.
+    pub value: Option<Value>,
+    pub start: Stamp,
+    pub txn: TxnId,
+    /// The place of the read among the transaction's operations.
+    pub place: usize,
+}
+
+/// A read, and its transaction's own value there.
+pub type OwnRead = (Reader, Option<Value>);
+
+/// The write of a value.
+#[derive(Clone, Copy, Debug, PartialEq, Eq)]
+pub struct Write {
+    pub txn: TxnId,
+    /// The place of the write among the transaction's operations.
+    pub place: usize,
+    /// Whether the value is what the transaction writes last.
+    pub last: bool,
+}
+
+/// The reads of the transaction if it is committed, and else none.
+#[tactic(auto, unfolding(crate::specs::Indexes::reads_in))]
+pub fn reads_in(alloc: Global, part: &Part) -> Result<Vec<OwnRead>, OutOfMemory>
+    requires { AllPairs (λ a b. a.place < b.place) part.now.accesses }
+    ensures { IfOk result (λ reads. reads.items ≡ reads_in part.now) }
+{
+    match part.status.commit() {
+        None => Ok(Vec::new(alloc)),
+        Some(_) => reads_of(alloc, part),
+    }
+}
+
+#[tactic(auto, using(crate::proofs::OwnValues::own_is, crate::proofs::OwnValues::last_grows))]
+fn reads_of(alloc: Global, part: &Part) -> Result<Vec<OwnRead>, OutOfMemory>
+    requires { AllPairs (λ a b. a.place < b.place) part.now.accesses }
+    ensures { IfOk result (λ reads. reads.items ≡ reads_of part.now) }
+{
+    let mut own = None;
+    let mut reads = Vec::new(alloc);
+    for placed in part.accesses.as_slice() {
+        if let Some(read) = read_at(part, own, *placed) {
+            reads.push(read)?;
+        }
+        own = placed.access.written().or(own);
+    }
+    Ok(reads)
+}
+
+/// The read, if the access is one, where the transaction's own value is `own`.
+fn read_at(part: &Part, own: Option<Value>, placed: Placed) -> Option<OwnRead>
+    requires { own ≡ own_value part.now placed.place }
+    ensures { result ≡ read_at part.now placed }
+{
+    match placed.access {
+        Access::Write(_) => None,
+        Access::Read(value) => {
+            let reader = Reader {
+                value,
+                start: part.start,
+                txn: part.id,
+                place: placed.place,
+            };
+            Some((reader, own))
+        }
+    }
+}
+
+/// The writes of the transaction, each with its value.
+pub fn writes_of(alloc: Global, part: &Part) -> Result<Vec<(Value, Write)>, OutOfMemory>
+    ensures { IfOk result (λ writes. writes.items ≡ writes_of part.now) }
+{
+    let last = last_write(part.accesses.as_slice());
+    let mut writes = Vec::new(alloc);
+    for placed in part.accesses.as_slice() {
+        if let Some(write) = write_at(part, last, *placed) {
+            writes.push(write)?;
+        }
+    }
+    Ok(writes)
+}
+
+/// The write, if the access is one, of a transaction that writes `last` last.
+fn write_at(part: &Part, last: Option<Value>, placed: Placed) -> Option<(Value, Write)>
+    requires { last ≡ last_write part.now.accesses }
+    ensures { result ≡ write_at part.now placed }
+{
+    let value = placed.access.written()?;
+    Some((
+        value,
+        Write {
+            txn: part.id,
+            place: placed.place,
+            last: last == Some(value),
+        },
+    ))
+}
+
+/// The version that the transaction installs, if it installs one, with its commit stamp.
+pub fn version_of(part: &Part) -> Option<(Stamp, Version)>
+    ensures { result ≡ version_of part.now }
+{
+    let commit = part.status.commit()?;
+    let value = last_write(part.accesses.as_slice())?;
+    Some((
+        commit,
+        Version {
+            writer: part.id,
+            start: part.start,
+            value,
+        },
+    ))
+}

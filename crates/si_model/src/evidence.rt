@@ -1,0 +1,140 @@
+//! What stands for a phenomenon: edges of the start-ordered serialization graph, walks of them, and evidence. Its meaning
+//! stands in `si_graph`; the types stand here, so that texts need no graph.
+
+ghost use Rattle.std.specs.Prelude.{◌≡◌, IfOk};
+ghost use Rattle.si_model.specs.Evidence.{edge, missed_walk, evidence_of};
+
+use crate::{Kind, OutOfMemory, TxnId};
+use std::alloc::Global;
+use std::marker::Model;
+
+/// What an edge stands for.
+#[derive(Clone, Copy, Debug, PartialEq, Eq)]
+pub enum Label {
+    /// A write dependency: the second transaction installs the version next after one of the first's.
+    Ww,
+    /// A read dependency: the second transaction read a version of the first's.
+    Wr,
+    /// An anti-dependency: the second transaction installs the version next after one that the first read.
+    Rw,
+    /// A start dependency: the first transaction commits before the second starts.
+    St,
+}
+
+/// An edge from one transaction to another.
+#[derive(Clone, Copy, Debug, PartialEq, Eq)]
+pub struct Edge {
+    pub from: TxnId,
+    pub to: TxnId,
+    pub label: Label,
+}
+
+/// Edges in their order. Contracts see the list.
+#[derive(Debug, Drop)]
+pub struct Walk {
+    edges: Vec<Edge>,
+}
+
+impl Model for Walk {
+    ghost use Rattle.std.specs.Prelude.{List};
+    ghost use Rattle.si_model.specs.declared.evidence.Edge.{Edge};
+
+    ghost Value = { List Edge };
+
+    ghost view = { λ w. w.edges.items };
+}
+
+impl Walk {
+    /// These edges, which aren't copied.
+    pub fn from_vec(edges: Vec<Edge>) -> Self
+        ensures { result ≡ edges.items }
+    {
+        Walk { edges }
+    }
+
+    pub fn as_slice(&self) -> &[Edge]
+        ensures { result.now ≡ self.now }
+    {
+        self.edges.as_slice()
+    }
+}
+
+impl PartialEq for Walk {
+    ghost use Rattle.std.specs.Cmp.Lexicographic.{pointwise, lists_per};
+    ghost use Rattle.si_model.specs.contracts.evidence.EdgePartialEq.TheImpl.Laws as of_edge;
+
+    ghost eq = { pointwise (⟦<Edge as PartialEq>⟧.eq) };
+
+    ghost laws = { lists_per of_edge.laws-law };
+
+    fn eq(&self, other: &Self) -> bool {
+        self.edges == other.edges
+    }
+}
+
+/// What shows that a phenomenon is there.
+#[derive(Debug, PartialEq, Drop)]
+pub enum Evidence {
+    /// The reader's operation read a value that the writer wrote, which aborted: G1a.
+    AbortedRead {
+        reader: TxnId,
+        op: usize,
+        writer: TxnId,
+    },
+    /// The reader's operation read a value that isn't the writer's last write of the key: G1b.
+    IntermediateRead {
+        reader: TxnId,
+        op: usize,
+        writer: TxnId,
+    },
+    /// A ww or wr edge with no start edge beside it: G-SI(a).
+    Interference(Edge),
+    /// A closed walk with exactly one rw edge: G-SI(b).
+    Missed(Walk),
+}
+
+/// The evidence for a finding of that kind. None stands for a finding of form.
+///
+/// It looks at no history, so that who has the findings needn't have them computed again.
+pub fn evidence_of(alloc: Global, kind: Kind) -> Result<Option<Evidence>, OutOfMemory>
+    ensures { IfOk result (λ evidence. evidence ≡ evidence_of kind) }
+{
+    Ok(match kind {
+        Kind::Unknown { .. } | Kind::Doubt { .. } | Kind::Own { .. } => None,
+        Kind::Aborted {
+            txn: reader,
+            op,
+            writer,
+            ..
+        } => Some(Evidence::AbortedRead { reader, op, writer }),
+        Kind::Intermediate {
+            txn: reader,
+            op,
+            writer,
+            ..
+        } => Some(Evidence::IntermediateRead { reader, op, writer }),
+        Kind::Future { txn, writer, .. } => {
+            Some(Evidence::Interference(labelled(Label::Wr, writer, txn)))
+        }
+        Kind::Stale { txn, missed, .. } => Some(Evidence::Missed(missed_walk(alloc, txn, missed)?)),
+        Kind::Overlap { first, second } => {
+            Some(Evidence::Interference(labelled(Label::Ww, first, second)))
+        }
+    })
+}
+
+/// The walk from a reader to the installer of the version that it missed, and back.
+fn missed_walk(alloc: Global, reader: TxnId, missed: TxnId) -> Result<Walk, OutOfMemory>
+    ensures { IfOk result (λ walk. walk ≡ missed_walk reader missed) }
+{
+    let mut edges = Vec::new(alloc);
+    edges.push(labelled(Label::Rw, reader, missed))?;
+    edges.push(labelled(Label::St, missed, reader))?;
+    Ok(Walk::from_vec(edges))
+}
+
+fn labelled(label: Label, from: TxnId, to: TxnId) -> Edge
+    ensures { result ≡ edge label from to }
+{
+    Edge { from, to, label }
+}

@@ -1,0 +1,11 @@
+pub mod Apart
+pub mod Keeping
+pub mod Lists
+pub mod Loads
+pub mod Writes
+pub mod Partings
+pub mod Handing
+pub mod Telling
+pub mod Taken
+pub mod Joined
+pub mod Shared

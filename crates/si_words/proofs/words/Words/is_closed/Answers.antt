@@ -1,0 +1,9 @@
+use Rattle.std.proofs.Common.{rules, sym, ap, ◌∙◌}
+use Rattle.si_words.proofs.Taken.{taken, asks_as}
+use Rattle.si_words.proofs.words.Words.is_closed.Goals as goal
+
+pub load-found-requires : goal.load-found-requires
+load-found-requires c =
+    let t = c.take_seat-place.ensures in
+    let is = taken _ _ _ c.pass.invariant.0 t.1 t.2 in
+    (t.0 ∙ ap (λ s. s.table) c.pass.view_is ∙ c.requires.own ∙ sym (ap (λ w. w.table) c.self.view_is), search rules, asks_as _ _ _ _ _ _ is)

@@ -1,0 +1,6 @@
+pub mod Entries
+pub mod Views
+pub mod Rule
+pub mod Steps
+pub mod Seats
+pub mod Laws
