@@ -23,3 +23,4 @@ pub mod Asked
 pub mod Mendings
 pub mod SetUps
 pub mod Listed
+pub mod Following

@@ -1,3 +1,4 @@
+pub mod Following
 pub mod Indexes
 pub mod Judges
 pub mod Maps
