@@ -1,0 +1,33 @@
+-- The beginnings of an accepted journal.
+use Rattle.std.proofs.Common.{◌≡◌, ◌∙◌, ◌<◌, ◌+◌, ℕ, false, suc, List, [], ◌∷◌, ◌++◌, drop, length, take, sym, ap, subst, arith, slice_index_or}
+use Rattle.std.proofs.Math.Seq.{drop-cons}
+use Rattle.std.proofs.lemmas.List.{append_assoc, take-append-drop}
+use Rattle.si_model.specs.declared.edits.Edit.{Edit}
+use Rattle.si_model.specs.Edits.{IsAcceptable}
+use Rattle.si_model.specs.Journals.{IsAccepted, present}
+use Rattle.si_model.proofs.Acceptance.{accepted_begins}
+use Rattle.si_shard.specs.declared.accesses.ShardId.{ShardId}
+use Rattle.si_shard.specs.declared.applied.Applied.{Applied}
+use Rattle.si_shard.specs.Applied.{AreApplied}
+use Rattle.si_shard.specs.Shards.{IsShard}
+
+-- the empty journal is accepted
+pub none_accepted : IsAccepted []
+none_accepted before e rest is = by before is
+  where
+    by : (xs : List Edit) → [] ≡ xs ++ e ∷ rest → IsAcceptable (present before) e
+    by [] f = cc
+    by (x ∷ xs) f = cc
+
+-- a beginning with one more edit is accepted
+pub begins_accepted : (edits : List Edit) (i : ℕ) (e : Edit) → i < length edits → e ≡ slice_index_or edits i e → IsAccepted edits → IsAccepted (take i edits ++ e ∷ [])
+begins_accepted edits i e within is accepted =
+    let one : suc i ≡ i + 1 = omega arith in
+    let cons : drop i edits ≡ e ∷ drop (i + 1) edits = drop-cons edits i e within ∙ ap (λ n. slice_index_or edits i e ∷ drop n edits) one ∙ ap (λ f. f ∷ drop (i + 1) edits) (sym is) in
+    let whole : (take i edits ++ e ∷ []) ++ drop (i + 1) edits ≡ edits = append_assoc (take i edits) (e ∷ []) (drop (i + 1) edits) ∙ ap (λ l. take i edits ++ l) (sym cons) ∙ take-append-drop i edits in
+    accepted_begins (take i edits ++ e ∷ []) (drop (i + 1) edits) (subst IsAccepted (sym whole) accepted)
+
+-- a shard that has stored no edit
+pub new_shard : (id : ShardId) (stored : List Edit) (a : Applied) → id.shard < id.shards → stored ≡ [] → ((s : ShardId) → AreApplied s [] a) → IsShard id stored a false
+new_shard id stored a within is applied =
+    subst (λ edits. IsShard id edits a false) (sym is) (record { within = within; accepted = none_accepted; whole = λ e. applied id })

@@ -1,0 +1,9 @@
+pub mod OnKeys
+pub mod Together
+pub mod Gathering
+pub mod ArrivalPlaces
+pub mod KeyChanges
+pub mod ChangeLists
+pub mod Applying
+pub mod ShardFindings
+pub mod Beginnings

@@ -1,0 +1,6 @@
+use Rattle.std.proofs.Common.{◌∙◌}
+use Rattle.si_shard.proofs.ShardFindings.{shard_findings}
+use Rattle.si_shard.proofs.applied.Applied.findings.Goals as goal
+
+pub returns : goal.returns
+returns c = λ id edits accepted sound. c.in_ok-found.ensures.found ∙ shard_findings id edits c.args.self.now accepted sound c.in_ok-found.ensures.ordered

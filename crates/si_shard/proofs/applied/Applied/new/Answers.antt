@@ -1,0 +1,6 @@
+use Rattle.std.proofs.Common.{rules}
+use Rattle.si_shard.proofs.KeyChanges.{none_applied}
+use Rattle.si_shard.proofs.applied.Applied.new.Goals as goal
+
+pub returns : goal.returns
+returns c = λ id. none_applied id (record { alloc = c.args.alloc; keys = c.new.result; arrivals = c.new-2.result }) c.new.ensures.states c.new.ensures.nothing (λ n. search rules)

@@ -1,0 +1,31 @@
+-- What is known of a shard, and its findings. All of it is this project's choice.
+use Rattle.std.specs.Prelude.{◌≡◌, ◌<◌, Bool, false, List}
+use Rattle.std.specs.List.{filter}
+use Rattle.si_model.specs.declared.findings.Finding.{Finding}
+use Rattle.si_model.specs.declared.edits.Edit.{Edit}
+use Rattle.si_model.specs.Parts.{Present}
+use Rattle.si_model.specs.Findings.{findings}
+use Rattle.si_model.specs.Journals.{IsAccepted}
+use Rattle.si_shard.specs.declared.accesses.ShardId.{ShardId}
+use Rattle.si_shard.specs.declared.applied.Applied.{Applied}
+use Rattle.si_shard.specs.Accesses.{is_ours}
+use Rattle.si_shard.specs.Applied.{AreApplied}
+
+-- the findings of what is present that are on keys of the shard, in order
+abbrev pub findings_in : ShardId → Present → List Finding
+findings_in id P = filter (λ f. is_ours id f.key) (findings P)
+
+-- the state of a shard
+pub record ShardState : Type 0 where
+  -- which shard of how many it is
+  pub id : ShardId
+  -- the edits that it applied, in the order of their numbers
+  pub stored : List Edit
+  -- whether an edit wanted memory
+  pub spoiled : Bool
+
+-- what a shard keeps
+pub record IsShard (id : ShardId) (stored : List Edit) (applied : Applied) (spoiled : Bool) : Type 0 where
+  pub within : id.shard < id.shards
+  pub accepted : IsAccepted stored
+  pub whole : spoiled ≡ false → AreApplied id stored applied

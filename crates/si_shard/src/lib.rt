@@ -1,0 +1,13 @@
+//! One shard's keys: the findings on them, mended by each edit of the journal in turn.
+//!
+//! It carries the promise that a shard's findings are those of what is present after its stored edits, on its keys. It stands
+//! on `si_model` and `si_judge`, and its proofs on `si_lists`.
+#![tactic(auto)]
+
+mod accesses;
+mod applied;
+mod changes;
+mod keyed;
+pub mod shards;
+
+pub use shards::{MOST_SHARDS, Shard};
