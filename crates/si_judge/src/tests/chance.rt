@@ -22,18 +22,18 @@ impl Dice {
     }
 }
 
-/// How many edits of each kind were accepted, and after how many something was found.
+/// How many edits of each kind were accepted, and which kinds of findings there were, as bits.
 #[derive(Clone, Copy)]
 struct Tally {
     arrivals: u64,
     resolutions: u64,
     withdrawals: u64,
     set_ups: u64,
-    findings: u64,
+    kinds: u64,
 }
 
 impl Tally {
-    fn count(&mut self, edit: &Edit, found: bool) {
+    fn count(&mut self, edit: &Edit, found: &[Finding]) {
         let kind = match edit {
             Edit::Arrive(_) => &mut self.arrivals,
             Edit::Resolve(..) => &mut self.resolutions,
@@ -41,9 +41,22 @@ impl Tally {
             Edit::SetUp(..) => &mut self.set_ups,
         };
         *kind = kind.saturating_add(1);
-        if found {
-            self.findings = self.findings.saturating_add(1);
+        for finding in found {
+            self.kinds |= bit_of(finding.kind);
         }
+    }
+}
+
+fn bit_of(kind: Kind) -> u64 {
+    match kind {
+        Kind::Unknown { .. } => 1,
+        Kind::Doubt { .. } => 2,
+        Kind::Own { .. } => 4,
+        Kind::Aborted { .. } => 8,
+        Kind::Intermediate { .. } => 16,
+        Kind::Future { .. } => 32,
+        Kind::Stale { .. } => 64,
+        Kind::Overlap { .. } => 128,
     }
 }
 
@@ -118,7 +131,7 @@ fn give_some(
     for _ in 0..500 {
         let edit = some_edit(rt, dice)?;
         if beside.compare(rt, &edit)?.is_none() {
-            tally.count(&edit, beside.state.has_findings());
+            tally.count(&edit, &beside.state.findings()?);
         }
     }
     Ok(())
@@ -132,7 +145,7 @@ fn findings_are_those_of_the_plain_program(rt: HostRuntime) -> Result<(), Fail> 
         resolutions: 0,
         withdrawals: 0,
         set_ups: 0,
-        findings: 0,
+        kinds: 0,
     };
     for _ in 0..20 {
         give_some(&rt, &mut dice, &mut tally)?;
@@ -145,6 +158,6 @@ fn findings_are_those_of_the_plain_program(rt: HostRuntime) -> Result<(), Fail> 
         tally.withdrawals >= 500 && tally.set_ups >= 20,
         "too few edits"
     );
-    assert!(rt; tally.findings >= 500, "too few findings");
+    assert_eq!(rt; tally.kinds, 255, "too few kinds of findings");
     Ok(())
 }

@@ -82,7 +82,8 @@ fn give(rt: &impl Abort, beside: &mut Beside, edit: &Edit) -> Result<(), Fail> {
     Ok(())
 }
 
-/// Readers of 1, each with stamps of its own.
+/// Readers of 1, each with stamps of its own. The plain program of acceptance walks all that is present for each, so that this
+/// takes minutes where a run is compiled with checks (`rt try --test --seconds 600`).
 fn read_often(rt: &(impl Abort + AllocGlobal), beside: &mut Beside) -> Result<(), Fail> {
     for reader in 0..10_000u64 {
         let read = Op::Read(key(rt, "x")?, Some(Value(1)));
