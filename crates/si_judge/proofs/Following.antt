@@ -1,12 +1,12 @@
 -- The state of one key follows what is present.
-use Rattle.std.proofs.Common.{◌≡◌, ◌≢◌, ◌∙◌, inl, inr, ℕ, Bool, true, false, cond, not, List, [], ◌∷◌, ◌++◌, map, Option, Some, None, refl, sym, ap, subst}
+use Rattle.std.proofs.Common.{◌≡◌, ◌≢◌, ◌∙◌, inl, inr, ◌↔◌, ℕ, Bool, true, false, cond, not, List, [], ◌∷◌, ◌++◌, map, Option, Some, None, refl, sym, ap, subst}
 use Rattle.std.specs.List.{Contains, AllPairs, filter}
 use Rattle.std.specs.Option.{is_some}
 use Rattle.std.proofs.lemmas.List.Kept.{AllPairs-filter}
 use Rattle.si_lists.proofs.Members.{Contains-nil, Contains-filter, Contains-filter_map, Contains-from_filter, Contains-from_map, Contains-map, here, there}
 use Rattle.si_lists.proofs.Names.{Differ, names_map, pairs_last, pairs_nil, pairs_push, same_named}
 use Rattle.si_lists.proofs.Pushes.{push_cases, push_keeps, push_last}
-use Rattle.si_lists.proofs.Tests.{none_both}
+use Rattle.si_lists.proofs.Tests.{find-None, none_both}
 use Rattle.si_model.specs.declared.numbers.TxnId.{TxnId}
 use Rattle.si_model.specs.declared.numbers.Value.{Value}
 use Rattle.si_model.specs.declared.transactions.Outcome.{Outcome}
@@ -19,15 +19,16 @@ use Rattle.si_model.specs.declared.refusals.Refusal.TheVariants as refusal
 use Rattle.si_model.specs.Operations.{same_key}
 use Rattle.si_model.specs.Parts.{Present, part, set_up_value, on_key}
 use Rattle.si_model.specs.History.{IsHistory, IsOfHistory}
-use Rattle.si_model.specs.Edits.{IsAcceptable, after, refusal_on, same_id, status_after}
+use Rattle.si_model.specs.Edits.{IsAcceptable, after, refusal_on, same_id, status_after, with_id}
+use Rattle.si_model.specs.Journals.{nothing}
 use Rattle.si_model.specs.KeyEdits.{arrived_on, edited_on, is_another_part, perhaps_arrived_on, resolved_on, resolved_part, set_up_on, withdrawn_on}
-use Rattle.si_model.proofs.Equalities.{same_id_is}
+use Rattle.si_model.proofs.Equalities.{same_id_from, same_id_is}
 use Rattle.si_model.proofs.Histories.{key_of_history}
 use Rattle.si_model.proofs.KeyEditing.{key_edits}
 use Rattle.si_model.proofs.KeyParts.{part_is, part_some, parts_are}
 use Rattle.si_model.proofs.PresentHistories.{acceptance_exact}
-use Rattle.si_judge.specs.Following.{EditsFollow, NothingIsOfHistory, OthersPass, SameIsSame}
-use Rattle.si_judge.specs.States.{AreSameOnKey, HasDoubt, HasPart}
+use Rattle.si_judge.specs.Following.{EditsFollow, IsStateOf, NothingIsOfHistory, OthersPass, SameIsSame, empty_key}
+use Rattle.si_judge.specs.States.{AreSameOnKey, HasDoubt, HasPart, IsMended, State}
 
 -- ---- the same on a key
 
@@ -214,3 +215,69 @@ nothing_of_history = record {
     places = λ T a. absurd (Contains-nil T a);
   };
 }
+
+-- ---- the state of a key
+
+pub edited_state : (P : Present) (e : Edit) (x : List ℕ) (IsTouchedRead : TxnId × ℕ → Type 0) (old new : State) → IsHistory P → IsAcceptable P e → IsStateOf P x old
+    → IsMended IsTouchedRead (edited_on x e old.present) old new → IsStateOf (after e P) x new
+edited_state P e x IsTouchedRead old new h acceptable is mended =
+    let f = edits_follow P e x old.present h acceptable is.same is.history in
+    record {
+      key = mended.key ∙ is.key;
+      same = same_on (on_key x (after e P)) (edited_on x e old.present) new.present f.1 mended.present;
+      history = mended.history;
+      whole = mended.whole;
+    }
+
+pub same_state : (P : Present) (e : Edit) (x : List ℕ) (s : State) → IsHistory P → IsAcceptable P e → IsStateOf P x s → edited_on x e s.present ≡ s.present → IsStateOf (after e P) x s
+same_state P e x s h acceptable is same =
+    let f = edits_follow P e x s.present h acceptable is.same is.history in
+    record { key = is.key; same = subst (AreSameOnKey (on_key x (after e P))) same f.1; history = is.history; whole = is.whole }
+
+pub edited_history : (P : Present) (e : Edit) (x : List ℕ) (s : State) → IsHistory P → IsAcceptable P e → IsStateOf P x s → IsOfHistory (edited_on x e s.present)
+edited_history P e x s h acceptable is = (edits_follow P e x s.present h acceptable is.same is.history).0
+
+pub arrival_is : (x : List ℕ) (T : Txn) (Q : OnKey) (o : Option Part) → part x T ≡ o → edited_on x (edit.Arrive T) Q ≡ perhaps_arrived_on o Q
+unfolding edited_on
+arrival_is x T Q o e = ap (λ p. perhaps_arrived_on p Q) e
+
+pub resolution_is : (x : List ℕ) (u : TxnId) (o : Outcome) (Q : OnKey) → edited_on x (edit.Resolve u o) Q ≡ resolved_on u o Q
+unfolding edited_on
+resolution_is x u o Q = refl
+
+pub withdrawal_is : (x : List ℕ) (u : TxnId) (Q : OnKey) → edited_on x (edit.Withdraw u) Q ≡ withdrawn_on u Q
+unfolding edited_on
+withdrawal_is x u Q = refl
+
+pub set_up_is : (x y : List ℕ) (v : Value) (Q : OnKey) → edited_on x (edit.SetUp y v) Q ≡ cond (same_key y x) (set_up_on v Q) Q
+unfolding edited_on
+set_up_is x y v Q = refl
+
+-- what is on the one is on the other
+pub part_moved : (Q R : OnKey) (u : TxnId) → AreSameOnKey Q R → HasPart Q u → HasPart R u
+part_moved Q R u s had = (had.0, (s.parts had.0).0 had.1, had.2)
+
+-- a transaction is on the key where it does something there
+pub part_or_none : (P : Present) (x : List ℕ) (T : Txn) (o : Option Part) → IsHistory P → Contains P.txns T → part x T ≡ o → (is_some o ≡ true) ↔ HasPart (on_key x P) T.id
+part_or_none P x T None h c e = (λ t. cc, λ had. absurd (others_not_had P x T (on_key x P) h (same_itself (on_key x P)) c e had))
+part_or_none P x T (Some R) h c e = (λ t. parts_had P x T R (on_key x P) (same_itself (on_key x P)) c e, λ had. refl)
+
+-- the state of a key on which nothing is
+pub nothing_state : (P : Present) (x : List ℕ) (s : State) → P ≡ nothing → s.key ≡ x → s.present ≡ empty_key → s.spoiled ≡ false → IsHistory P × IsStateOf P x s
+unfolding set_up_value
+nothing_state P x s e key present whole =
+    let of : AreSameOnKey (on_key x nothing) s.present = subst (AreSameOnKey (on_key x nothing)) (sym present) (same_itself empty_key) in (
+      subst IsHistory (sym e) nothing_of_history.present,
+      record {
+        key = key;
+        same = subst (λ R. AreSameOnKey (on_key x R) s.present) (sym e) of;
+        history = subst IsOfHistory (sym present) nothing_of_history.of_history;
+        whole = whole;
+      },
+    )
+
+-- where no transaction has the id, none with it is on a key
+pub none_on : (P : Present) (x : List ℕ) (u : TxnId) → with_id P.txns u ≡ None → HasPart (on_key x P) u → ⊥
+none_on P x u e had =
+    let f = (parts_are x P.txns had.0).0 had.1 in
+    (let none = find-None (λ U. same_id U.id u) P.txns e f.0 f.1 in let some = same_id_from f.0.id u (sym f.2.id ∙ had.2) in cc)

@@ -1,6 +1,6 @@
 -- The state of one key follows what is present, in whatever order its transactions are: what an edit of what is present makes of
 -- the key, and what it asks of the key. All of it is this project's choice.
-use Rattle.std.specs.Prelude.{◌≡◌, ℕ, List, [], Some, None}
+use Rattle.std.specs.Prelude.{◌≡◌, ℕ, false, List, [], Some, None}
 use Rattle.std.specs.List.{Contains}
 use Rattle.si_model.specs.declared.numbers.TxnId.{TxnId}
 use Rattle.si_model.specs.declared.numbers.Value.{Value}
@@ -15,7 +15,7 @@ use Rattle.si_model.specs.History.{IsHistory, IsOfHistory}
 use Rattle.si_model.specs.Edits.{IsAcceptable, after}
 use Rattle.si_model.specs.Journals.{nothing}
 use Rattle.si_model.specs.KeyEdits.{edited_on, resolved_on, withdrawn_on}
-use Rattle.si_judge.specs.States.{AreSameOnKey, HasDoubt, HasPart}
+use Rattle.si_judge.specs.States.{AreSameOnKey, HasDoubt, HasPart, State}
 
 -- ---- the same on a key
 
@@ -34,6 +34,13 @@ pub record NothingIsOfHistory : Type 0 where
   pub present : IsHistory nothing
   pub on_key : (x : List ℕ) → on_key x nothing ≡ empty_key
   pub of_history : IsOfHistory empty_key
+
+-- the state is that of the key x of what is present
+pub record IsStateOf (P : Present) (x : List ℕ) (s : State) : Type 0 where
+  pub key : s.key ≡ x
+  pub same : AreSameOnKey (on_key x P) s.present
+  pub history : IsOfHistory s.present
+  pub whole : s.spoiled ≡ false
 
 -- ---- what an edit makes of a key
 

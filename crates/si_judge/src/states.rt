@@ -26,13 +26,13 @@ use std::collections::BTreeMap;
 use std::marker::Model;
 use thiserror::Error;
 
-/// Why an edit of a key, or its findings, weren't had.
+/// Why a call on the state of a key gave nothing.
 #[derive(Clone, Copy, Debug, PartialEq, Eq, Error)]
 pub enum KeyFault {
-    /// An earlier edit of the key wanted memory.
+    /// An earlier edit of the state wanted memory. The state is spoiled for good, and the call changed nothing.
     #[error("spoiled")]
     Spoiled,
-    /// The growth of some memory was refused.
+    /// The growth of some memory was refused. An edit that answers this has spoiled the state; `findings` leaves it as it was.
     #[error("out of memory")]
     OutOfMemory,
 }
@@ -60,6 +60,9 @@ impl<T: Drop> From<AllocFailed<T>> for KeyFault {
 }
 
 /// What is on one key, and the findings there, mended after each edit.
+///
+/// An edit for which the growth of some memory is refused spoils the state for good: what is on the key is then not known, and
+/// every later edit and `findings` answers `Spoiled`.
 #[derive(Drop)]
 pub struct KeyState<J: Judge + Drop> {
     alloc: Global,
@@ -92,7 +95,7 @@ impl<J: Judge + Drop> Model for KeyState<J> {
 }
 
 impl<J: Judge + Drop> KeyState<J> {
-    /// The state of a key on which nothing is.
+    /// The state of a key on which nothing is. It takes no memory.
     pub fn new(alloc: Global, key: Key, judge: J) -> Self
         ensures { result ≡ record {
           key = key;
@@ -111,6 +114,9 @@ impl<J: Judge + Drop> KeyState<J> {
     }
 
     /// A transaction arrives that does this on the key.
+    ///
+    /// `Spoiled` says that an earlier edit wanted memory, and the state stays as it is; `OutOfMemory` that the growth of some
+    /// memory was refused, and the state is spoiled from then on.
     pub fn arrive(&mut self, part: Part) -> Result<(), KeyFault>
         requires { self.old.spoiled ≡ false → IsOfHistory (arrived_on part self.old.present) }
         ensures ok { OnOk result (IsMended (IsTouched self.old.present self.new.present part.id) (arrived_on part self.old.present) self.old self.new) }
@@ -128,6 +134,9 @@ impl<J: Judge + Drop> KeyState<J> {
     }
 
     /// The transaction, which is in doubt, is resolved.
+    ///
+    /// `Spoiled` says that an earlier edit wanted memory, and the state stays as it is; `OutOfMemory` that the growth of some
+    /// memory was refused, and the state is spoiled from then on.
     pub fn resolve(&mut self, id: TxnId, outcome: Outcome) -> Result<(), KeyFault>
         requires { self.old.spoiled ≡ false → HasDoubt self.old.present id × IsOfHistory (resolved_on id outcome self.old.present) }
         ensures ok { OnOk result (IsMended (IsTouched self.old.present self.new.present id) (resolved_on id outcome self.old.present) self.old self.new) }
@@ -152,6 +161,9 @@ impl<J: Judge + Drop> KeyState<J> {
     }
 
     /// The transaction is withdrawn.
+    ///
+    /// `Spoiled` says that an earlier edit wanted memory, and the state stays as it is; `OutOfMemory` that the growth of some
+    /// memory was refused, and the state is spoiled from then on.
     pub fn withdraw(&mut self, id: TxnId) -> Result<(), KeyFault>
         requires { self.old.spoiled ≡ false → HasPart self.old.present id }
         ensures ok { OnOk result (IsMended (IsTouched self.old.present self.new.present id) (withdrawn_on id self.old.present) self.old self.new) }
@@ -170,6 +182,9 @@ impl<J: Judge + Drop> KeyState<J> {
     }
 
     /// The key is set up with the value.
+    ///
+    /// `Spoiled` says that an earlier edit wanted memory, and the state stays as it is; `OutOfMemory` that the growth of some
+    /// memory was refused, and the state is spoiled from then on.
     pub fn set_up(&mut self, value: Value) -> Result<(), KeyFault>
         requires { self.old.spoiled ≡ false → (self.old.present.initial ≡ None) × IsOfHistory (set_up_on value self.old.present) }
         ensures ok { OnOk result (IsMended (IsTouchedBySetUp self.new.present value) (set_up_on value self.old.present) self.old self.new) }
@@ -192,6 +207,9 @@ impl<J: Judge + Drop> KeyState<J> {
     }
 
     /// The findings on the key, in order.
+    ///
+    /// `Spoiled` says that an earlier edit wanted memory, `OutOfMemory` that the growth of some memory was refused for them. The
+    /// state stays as it is.
     pub fn findings(&self) -> Result<Vec<Finding>, KeyFault>
         ensures ok { IfOk result (λ found. found.items ≡ findings_on J.rules self.now.key self.now.present) }
         ensures spoiled { (result ≡ Err fault.Spoiled) ↔ (self.now.spoiled ≡ true) }
@@ -206,27 +224,28 @@ impl<J: Judge + Drop> KeyState<J> {
         Ok(found)
     }
 
-    /// How many answers the judge has given.
+    /// How many answers the judge has given, in this state's time and before it.
     pub fn judged(&self) -> u64
         ensures { result ≡ self.now.judged }
     {
         self.judgements.judge.calls()
     }
 
+    /// Whether an edit wanted memory. It stays so for good.
     pub fn is_spoiled(&self) -> bool
         ensures { result ≡ self.now.spoiled }
     {
         self.spoiled
     }
 
-    /// Whether nothing is on the key: no transaction and no set-up value.
+    /// Whether nothing is on the key: no transaction and no set-up value. It means nothing of a spoiled state.
     pub fn is_empty(&self) -> bool
         ensures { IsTrue result ↔ ((self.now.present.parts ≡ []) × (self.now.present.initial ≡ None)) }
     {
         self.indexes.parts.is_empty() && self.indexes.initial == None
     }
 
-    /// Whether anything is found on the key.
+    /// Whether anything is found on the key. It means nothing of a spoiled state.
     pub fn has_findings(&self) -> bool
         ensures { self.now.spoiled ≡ false → IsTrue result ↔ ((f : Finding) × Contains (findings_on J.rules self.now.key self.now.present) f) }
     {

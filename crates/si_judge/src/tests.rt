@@ -1,7 +1,17 @@
-//! What the judge of snapshot isolation answers.
+//! What the judge of snapshot isolation answers, and what the state of a key does call by call.
 
-use crate::{Cases, Judge};
-use si_model::{Kind, Sight, Source, Stamp, TxnId, Value};
+use crate::{Cases, Judge, KeyFault, KeyState};
+use beside::Beside;
+use si_model::{Finding, Kind, Sight, Source, Stamp, TxnId, Value};
+use std::process::Abort;
+use std::test::Fail;
+
+mod beside;
+mod bounds;
+mod chance;
+mod refused_memory;
+mod rows;
+mod scripts;
 
 fn seen(source: Source) -> Sight {
     Sight {
@@ -34,4 +44,16 @@ fn answers_are_counted(rt: HostRuntime) {
     assert!(rt; judge.pair(Stamp(5), Stamp(2)));
     assert!(rt; !judge.pair(Stamp(2), Stamp(5)));
     assert_eq!(rt; judge.calls(), 4);
+}
+
+#[test]
+fn a_fault_is_printed(rt: HostRuntime) -> Result<(), Fail> {
+    for (fault, wanted) in [
+        (KeyFault::Spoiled, "spoiled"),
+        (KeyFault::OutOfMemory, "out of memory"),
+    ] {
+        let text = format!(in rt.alloc(); "{fault}")?;
+        assert_eq!(rt; text.as_str(), wanted);
+    }
+    Ok(())
 }
