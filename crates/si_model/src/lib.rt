@@ -39,8 +39,5 @@ pub use refusals::{Holders, Refusal, refusal_on};
 pub use sights::{Installer, Sight, Source, VersionId};
 pub use transactions::{Outcome, Status, Txn};
 
-#[cfg(test)]
-mod tests;
-
 /// The growth of some memory was refused.
 pub type OutOfMemory = AllocError;

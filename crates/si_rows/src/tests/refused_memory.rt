@@ -5,8 +5,11 @@
 //! `refused`, and the book is compared with what it was. Where that memory was wanted for the edits themselves, the test
 //! ends with an error and says nothing of the book.
 
-use super::scripts::{accept, edit_of, key, ops_of, txn_of};
+use super::book_scripts::accept;
+use super::scripts::{edit_of, key, ops_of, present};
 use super::*;
+use si_accept::{AcceptFault, Book};
+use si_model::{Edit, Key, MOST_EDITS, Number, Op, Ops, Stamp, Status, Txn, TxnId, Value};
 
 /// What a book has accepted, and what is present before and after one more edit: edits, and transactions as they would
 /// arrive, a line for each.
@@ -18,14 +21,6 @@ struct Case<'a> {
     // How long the journal is, and how many keys are set up, before and after.
     journal: (usize, usize),
     set_up: (usize, usize),
-}
-
-fn txns_of(rt: &(impl Abort + AllocGlobal), lines: &str) -> Result<Vec<Txn>, Fail> {
-    let mut txns = Vec::new(rt.alloc());
-    for line in lines.trim().lines() {
-        txns.push(txn_of(rt, line.trim())?)?;
-    }
-    Ok(txns)
 }
 
 /// The book shows these transactions, and finds each by its id and no other.
@@ -49,8 +44,8 @@ fn assert_shown(
 ) -> Result<(), Fail> {
     assert_eq!(rt; book.initial()?.len(), set_up);
     assert_eq!(rt; book.journal().len(), journal);
-    let wanted = txns_of(rt, lines)?;
-    assert_found(rt, book, &wanted)
+    let wanted = present(rt, lines)?;
+    assert_found(rt, book, &wanted.txns)
 }
 
 /// Gives the book the edit. Where memory is refused, the book has to be as before and is given the edit again.

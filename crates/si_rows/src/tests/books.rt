@@ -1,15 +1,15 @@
 //! What a book answers to edits that were worked out by hand, and beside the plain program.
 
+use super::book_scripts::{accept, answers};
+use super::scripts::{key, ops_of};
 use super::*;
-use scripts::{accept, answers, key, ops_of};
-use si_model::operations::MOST_OPS;
+use si_accept::{AcceptFault, Book};
 use si_model::plain::{Walked, change};
-use si_model::{Op, Ops, Outcome, Stamp, Status, refusal_on};
-use std::process::Abort;
-use std::test::Fail;
-
-mod refused_memory;
-mod scripts;
+use si_model::{
+    Edit, Key, MOST_EDITS, Number, Op, Ops, Outcome, Refusal, Stamp, Status, Txn, TxnId, Value,
+    refusal_on,
+};
+use std::alloc::Global;
 
 #[test]
 fn each_reason_comes_in_its_place(rt: HostRuntime) -> Result<(), Fail> {
