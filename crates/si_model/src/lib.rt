@@ -11,7 +11,7 @@ pub mod edits;
 pub mod evidence;
 pub mod findings;
 pub mod history;
-mod holders;
+pub mod holders;
 pub mod keys;
 pub mod kinds;
 pub mod laws;
