@@ -144,6 +144,3 @@ impl Book {
         self.limit
     }
 }
-
-#[cfg(test)]
-mod tests;

@@ -26,7 +26,7 @@ use Rattle.si_model.specs.Versions.{IsNext, commit_of, last_write}
 use Rattle.si_model.specs.Reads.{IsSource, ReturnsVersion, version_of}
 use Rattle.si_model.specs.History.{IsHistory}
 use Rattle.si_model.specs.Edits.{with_id}
-use Rattle.si_graph.specs.Edges.{IsWriteDependency, IsReadDependency, IsAntiDependency, IsStartDependency, Connects, IsEdge}
+use Rattle.si_graph.specs.Edges.{IsWriteDependency, IsReadDependency, IsAntiDependency, AreTimed, IsStartDependency, Connects, IsEdge}
 use Rattle.si_graph.specs.EvidenceTests.{part_on, install_on, is_committed, write_depends_at, reads_last_of, precedes, one_precedes, reads_before, is_before, connects, both_pass, is_edge}
 use Rattle.si_graph.specs.Laws.{ModelLaws}
 use Rattle.si_lists.proofs.Members.{same_some, get_contains, contains_get}
@@ -47,6 +47,32 @@ pub record ArePair (P : Present) (R : Txn → Txn → Type 0) (a b : TxnId) : Ty
 -- the transaction committed
 abbrev pub HasCommitted : Txn → Type 0
 HasCommitted T = (c : Stamp) × (T.status ≡ status.Committed c)
+
+-- both committed, the one at a stamp that is so related to the other's start
+abbrev pub AreSoTimed : (ℕ → ℕ → Type 0) → Txn → Txn → Type 0
+AreSoTimed R A B = ((c : Stamp) × (A.status ≡ status.Committed c) × R c.0 B.start.0) × HasCommitted B
+
+pub timed_is : (P : Present) (R : ℕ → ℕ → Type 0) (u w : TxnId) → ArePair P (AreSoTimed R) u w → AreTimed P R u w
+timed_is P R u w p = let r = p.related in record {
+  first = p.first;
+  second = p.second;
+  commit = r.0.0;
+  later = r.1.0;
+  from = record { txn = p.from; id = p.from_id; committed = r.0.1 };
+  to = record { txn = p.to; id = p.to_id; committed = r.1.1 };
+  timed = r.0.2;
+}
+
+pub timed_from : (P : Present) (R : ℕ → ℕ → Type 0) (u w : TxnId) → AreTimed P R u w → ArePair P (AreSoTimed R) u w
+timed_from P R u w t = record {
+  first = t.first;
+  second = t.second;
+  from = t.from.txn;
+  to = t.to.txn;
+  from_id = t.from.id;
+  to_id = t.to.id;
+  related = ((t.commit, t.from.committed, t.timed), (t.later, t.to.committed));
+}
 
 pub committed_decides : (T : Txn) → Decides (is_committed T) (HasCommitted T)
 committed_decides T = by T.status
@@ -290,29 +316,10 @@ module _ (laws : ModelLaws) (P : Present) (h : IsHistory P) where
       by status.InDoubt = (λ e. cc, λ r. (let f = r.1 in cc))
 
   abbrev StartDepends : Txn → Txn → Type 0
-  StartDepends A B = ((c : Stamp) × (A.status ≡ status.Committed c) × (c.0 < B.start.0)) × HasCommitted B
+  StartDepends = AreSoTimed (λ c s. c < s)
 
   st_is : (A B : Txn) → Contains P.txns A → Contains P.txns B → StartDepends A B → IsStartDependency P A.id B.id
-  st_is A B a b d = record {
-    first = A;
-    second = B;
-    commit = d.0.0;
-    later = d.1.0;
-    from = record { txn = a; id = refl; committed = d.0.1 };
-    to = record { txn = b; id = refl; committed = d.1.1 };
-    before = d.0.2;
-  }
-
-  st_from : (u w : TxnId) → IsStartDependency P u w → ArePair P StartDepends u w
-  st_from u w d = record {
-    first = d.first;
-    second = d.second;
-    from = d.from.txn;
-    to = d.to.txn;
-    from_id = d.from.id;
-    to_id = d.to.id;
-    related = ((d.commit, d.from.committed, d.before), (d.later, d.to.committed));
-  }
+  st_is A B a b d = timed_is P (λ c s. c < s) A.id B.id (record { first = A; second = B; from = a; to = b; from_id = refl; to_id = refl; related = d })
 
   -- ---- edges
 
@@ -338,7 +345,7 @@ module _ (laws : ModelLaws) (P : Present) (h : IsHistory P) where
   connected_from label.Ww u w d = ww_from u w d
   connected_from label.Wr u w d = wr_from u w d
   connected_from label.Rw u w d = rw_from u w d
-  connected_from label.St u w d = st_from u w d
+  connected_from label.St u w d = timed_from P (λ c s. c < s) u w d
 
   pub edge_decides : (e : Edge) → Decides (is_edge P e) (IsEdge P e)
   edge_decides e = Decides-like _

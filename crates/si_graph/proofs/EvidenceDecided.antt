@@ -24,13 +24,13 @@ use Rattle.si_model.specs.History.{IsHistory}
 use Rattle.si_graph.specs.Edges.{IsEdge, IsDependency}
 use Rattle.si_graph.specs.Walks.{IsWalk, IsClosed, is_rw_edge}
 use Rattle.si_graph.specs.Phenomena.{IsAbortedRead, IsIntermediateRead}
-use Rattle.si_graph.specs.Shown.{IsReadFrom, IsNotBefore, Shows}
+use Rattle.si_graph.specs.Shown.{IsReadFrom, Shows}
 use Rattle.si_graph.specs.EvidenceTests.{part_on, is_not_before, commits_late, is_edge, is_dependency, is_walk, is_closed, is_aborted, reads_write_of, reads_earlier_of, passes_there, is_aborted_read, is_intermediate_read, holds}
 use Rattle.si_graph.specs.Laws.{ModelLaws}
 use Rattle.si_lists.proofs.Members.{same_some}
 use Rattle.si_graph.proofs.ListTests.{all_decides}
 use Rattle.si_graph.proofs.OnKeys.{part_from, read_by, read_at, writes_decides, part_of_write, last_decides, final_exact}
-use Rattle.si_graph.proofs.EdgesDecided.{ArePair, HasCommitted, committed_decides, both_decide, edge_decides}
+use Rattle.si_graph.proofs.EdgesDecided.{ArePair, HasCommitted, AreSoTimed, timed_is, timed_from, committed_decides, both_decide, edge_decides}
 
 -- ---- tests of labels and statuses
 
@@ -78,32 +78,10 @@ module _ (laws : ModelLaws) (P : Present) (h : IsHistory P) where
 
   -- ---- interference
 
-  late_is : (u w : TxnId) → ArePair P (λ A B. CommitsLate A.status B.start × HasCommitted B) u w → IsNotBefore P u w
-  late_is u w p = let r = p.related in record {
-    first = p.first;
-    second = p.second;
-    commit = r.0.0;
-    later = r.1.0;
-    from = record { txn = p.from; id = p.from_id; committed = r.0.1 };
-    to = record { txn = p.to; id = p.to_id; committed = r.1.1 };
-    not_before = r.0.2;
-  }
-
-  late_from : (u w : TxnId) → IsNotBefore P u w → ArePair P (λ A B. CommitsLate A.status B.start × HasCommitted B) u w
-  late_from u w n = record {
-    first = n.first;
-    second = n.second;
-    from = n.from.txn;
-    to = n.to.txn;
-    from_id = n.from.id;
-    to_id = n.to.id;
-    related = ((n.commit, n.from.committed, n.not_before), (n.later, n.to.committed));
-  }
-
   interference_decides : (e : Edge) → Decides (holds P (evidence.Interference e)) (Shows P (evidence.Interference e))
-  interference_decides e = Decides-like _ (λ r. (r.1.0, r.0, late_is e.from e.to r.1.1)) (λ s. (s.1, (s.0, late_from e.from e.to s.2)))
+  interference_decides e = Decides-like _ (λ r. (r.1.0, r.0, timed_is P (λ c s. s ≤ c) e.from e.to r.1.1)) (λ s. (s.1, (s.0, timed_from P (λ c s. s ≤ c) e.from e.to s.2)))
       (Decides-and _ _ (dependency_decides e.label) (Decides-and _ _ (edge_decides laws P h e)
-      (both_decide laws P h commits_late (λ A B. CommitsLate A.status B.start × HasCommitted B) (λ A B a b. Decides-and _ _ (late_decides A.status B.start) (committed_decides B)) e.from e.to)))
+      (both_decide laws P h commits_late (AreSoTimed (λ c s. s ≤ c)) (λ A B a b. Decides-and _ _ (late_decides A.status B.start) (committed_decides B)) e.from e.to)))
 
   -- the transactions of a read and of a writer, where they are related
   pair_from : (x : List ℕ) (i : ℕ) (v : Value) (R S : Part) (u w : TxnId) (Related : Txn → Txn → Type 0) → IsRead (on_key x P) R i (Some v) → Contains (on_key x P).parts S → R.id ≡ u → S.id ≡ w

@@ -88,7 +88,7 @@ module _ (laws : ModelLaws) (P : Present) (h : IsHistory P) (x : List ℕ) where
               later = read.committed.0;
               from = subst (λ a. IsNode P a from.0 c) (sym W.id) from.1;
               to = to.1;
-              not_before = omega (arith, late, start);
+              timed = omega (arith, late, start);
             },
           )
 
@@ -162,7 +162,7 @@ module _ (laws : ModelLaws) (P : Present) (h : IsHistory P) (x : List ℕ) where
           connects = record { key = x; first = m; second = n; installs = is; next = next; from = refl; to = refl };
         },
         tt,
-        record { first = from.0; second = to.0; commit = m.commit; later = n.commit; from = from.1; to = to.1; not_before = omega (arith, start, before) },
+        record { first = from.0; second = to.0; commit = m.commit; later = n.commit; from = from.1; to = to.1; timed = omega (arith, start, before) },
       )
 
   read_explained : (k : Kind) → IsOfRead cases (on_key x P) k → IsExplained P k

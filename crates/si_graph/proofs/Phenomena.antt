@@ -19,7 +19,7 @@ no_start P h e n is =
     let d : IsStartDependency P e.from e.to = is.connects in
     let commit : d.commit.0 ≡ n.commit.0 = ap (λ (k : Stamp). k.0) (same_node P h e.from d.first n.first d.commit n.commit d.from n.from).1 in
     let start : d.second.start.0 ≡ n.second.start.0 = ap (λ (T : Txn). T.start.0) (same_node P h e.to d.second n.second d.later n.later d.to n.to).0 in
-    omega (arith, d.before, n.not_before, commit, start)
+    omega (arith, d.timed, n.timed, commit, start)
 
 pub shown_is_there : ShownIsThere
 shown_is_there P (evidence.AbortedRead t i w) h s = (s.key, s.reader, i, s.writer, s.related)

@@ -38,7 +38,7 @@ module _ (P : Present) (h : IsHistory P) where
         later = t.later;
         from = s.from;
         to = t.to;
-        before = omega (arith, s.before, t.before, forward, commit);
+        timed = omega (arith, s.timed, t.timed, forward, commit);
       }
 
   -- and none leads back to where it began
@@ -46,7 +46,7 @@ module _ (P : Present) (h : IsHistory P) where
   no_loop a s =
       let commit : s.commit.0 ≡ s.later.0 = ap (λ (k : Stamp). k.0) (same_node a s.first s.second s.commit s.later s.from s.to).1 in
       let forward = h.forward s.second s.later s.to.txn (ap commit_of s.to.committed) in
-      omega (arith, s.before, forward, commit)
+      omega (arith, s.timed, forward, commit)
 
 module _ (laws : ModelLaws) (P : Present) (x : List ℕ) where
   -- the node of a committed part
@@ -68,7 +68,7 @@ module _ (laws : ModelLaws) (P : Present) (x : List ℕ) where
         let X = node_of A b a_in a_is in
         let Y = node_of B c b_in b_is in
         let start : B.start.0 ≡ Y.0.start.0 = ap (λ (k : Stamp). k.0) Y.2 in
-        record { first = X.0; second = Y.0; commit = b; later = c; from = X.1; to = Y.1; before = omega (arith, before, start) }
+        record { first = X.0; second = Y.0; commit = b; later = c; from = X.1; to = Y.1; timed = omega (arith, before, start) }
 
     -- and the other way round: the stamps of a start edge are those of the parts
     pub starts_back : IsStartDependency P A.id B.id → b.0 < B.start.0
@@ -78,7 +78,7 @@ module _ (laws : ModelLaws) (P : Present) (x : List ℕ) where
         let commit : s.commit.0 ≡ b.0 = ap (λ (k : Stamp). k.0) (same_node P h A.id s.first X.0 s.commit b s.from X.1).1 in
         let second : s.second.start.0 ≡ Y.0.start.0 = ap (λ (T : Txn). T.start.0) (same_node P h B.id s.second Y.0 s.later c s.to Y.1).0 in
         let start : B.start.0 ≡ Y.0.start.0 = ap (λ (k : Stamp). k.0) Y.2 in
-        omega (arith, s.before, commit, second, start)
+        omega (arith, s.timed, commit, second, start)
 
     -- a part that writes commits before another one's start, or after it
     pub starts_or_late : (v : Value) → Writes A v → A.id ≢ B.id → IsStartDependency P A.id B.id ⊎ (B.start.0 < b.0)

@@ -60,15 +60,19 @@ pub record IsAntiDependency (P : Present) (a b : TxnId) : Type 0 where
   pub from : reader.id ≡ a
   pub to : second.txn ≡ b
 
--- st: a commits before b starts
-pub record IsStartDependency (P : Present) (a b : TxnId) : Type 0 where
+-- a and b are nodes, and the commit stamp of a and the start stamp of b are so related
+pub record AreTimed (P : Present) (R : ℕ → ℕ → Type 0) (a b : TxnId) : Type 0 where
   pub first : Txn
   pub second : Txn
   pub commit : Stamp
   pub later : Stamp
   pub from : IsNode P a first commit
   pub to : IsNode P b second later
-  pub before : commit.0 < second.start.0
+  pub timed : R commit.0 second.start.0
+
+-- st: a commits before b starts
+abbrev pub IsStartDependency : Present → TxnId → TxnId → Type 0
+IsStartDependency P a b = AreTimed P (λ c s. c < s) a b
 
 -- a dependency of that label connects a to b
 abbrev pub Connects : Present → Label → TxnId → TxnId → Type 0

@@ -1,14 +1,12 @@
 -- What an evidence shows. All of it is this project's choice.
 use Rattle.std.specs.Prelude.{◌≡◌, ℕ, ◌≤◌, List}
 use Rattle.si_model.specs.declared.numbers.TxnId.{TxnId}
-use Rattle.si_model.specs.declared.numbers.Stamp.{Stamp}
-use Rattle.si_model.specs.declared.transactions.Txn.{Txn}
 use Rattle.si_model.specs.declared.parts.Part.{Part}
 use Rattle.si_model.specs.declared.parts.OnKey.{OnKey}
 use Rattle.si_model.specs.Parts.{Present, on_key}
 use Rattle.si_model.specs.declared.evidence.Evidence.{Evidence}
 use Rattle.si_model.specs.declared.evidence.Evidence.TheVariants as evidence
-use Rattle.si_graph.specs.Edges.{IsNode, IsEdge, IsDependency}
+use Rattle.si_graph.specs.Edges.{AreTimed, IsEdge, IsDependency}
 use Rattle.si_graph.specs.Walks.{IsClosedWalk, HasOneRw}
 use Rattle.si_graph.specs.Phenomena.{IsAbortedRead, IsIntermediateRead}
 
@@ -22,14 +20,8 @@ pub record IsReadFrom (P : Present) (R : OnKey → Part → ℕ → Part → Typ
   pub writes : writer.id ≡ w
 
 -- the commit stamp of a isn't less than the start stamp of b
-pub record IsNotBefore (P : Present) (a b : TxnId) : Type 0 where
-  pub first : Txn
-  pub second : Txn
-  pub commit : Stamp
-  pub later : Stamp
-  pub from : IsNode P a first commit
-  pub to : IsNode P b second later
-  pub not_before : second.start.0 ≤ commit.0
+abbrev pub IsNotBefore : Present → TxnId → TxnId → Type 0
+IsNotBefore P a b = AreTimed P (λ c s. s ≤ c) a b
 
 -- the evidence holds of these transactions
 abbrev pub Shows : Present → Evidence → Type 0

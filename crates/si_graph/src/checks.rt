@@ -9,9 +9,10 @@ ghost use Rattle.si_graph.specs.EvidenceTests.{is_edge, is_aborted, reads_write_
 ghost use Rattle.si_graph.specs.Walks.{is_rw_edge};
 
 use crate::dependencies::{is_committed, is_edge};
-use crate::keys::{is_last_on, writes_on};
+use crate::keys::is_last_on;
 use crate::laws::model_laws;
 use crate::{Edge, Evidence, Label};
+use si_model::holders::writes_pair;
 use si_model::plain::find_with_id;
 use si_model::{Key, Op, Stamp, Status, Txn, TxnId, Value};
 
@@ -82,7 +83,7 @@ fn reads_write_of(writer: &Txn, op: &Op) -> bool
     ensures { result ≡ reads_write_of writer.now op.now }
 {
     match op {
-        Op::Read(key, Some(value)) => writes_on(key, *value, writer),
+        Op::Read(key, Some(value)) => writes_pair(writer, key, *value),
         Op::Read(_, None) | Op::Write(..) => false,
     }
 }
@@ -92,7 +93,7 @@ fn reads_earlier_of(writer: &Txn, op: &Op) -> bool
 {
     match op {
         Op::Read(key, Some(value)) => {
-            writes_on(key, *value, writer) && !is_last_on(key, *value, writer)
+            writes_pair(writer, key, *value) && !is_last_on(key, *value, writer)
         }
         Op::Read(_, None) | Op::Write(..) => false,
     }

@@ -1,8 +1,6 @@
 //! What a transaction does on one key, found by walking its operations.
 
 ghost use Rattle.std.specs.Prelude.{◌≡◌, None, fold};
-ghost use Rattle.si_model.specs.Operations.{same_write};
-ghost use Rattle.si_model.specs.Parts.{writes_pair_of};
 ghost use Rattle.si_graph.specs.EvidenceTests.{last_on, last_after, install_on, is_last_on};
 
 use si_model::{Installer, Key, Op, Txn, Value};
@@ -48,23 +46,4 @@ pub fn is_last_on(key: &Key, value: Value, txn: &Txn) -> bool
     ensures { result ≡ is_last_on key.now value txn.now }
 {
     last_on(key, txn) == Some(value)
-}
-
-/// Whether the transaction writes the value to the key.
-pub fn writes_on(key: &Key, value: Value, txn: &Txn) -> bool
-    ensures { result ≡ writes_pair_of (Op.Write key.now value) txn.now }
-{
-    txn.ops
-        .as_slice()
-        .iter()
-        .any(|op| is_write_on(key, value, op))
-}
-
-fn is_write_on(key: &Key, value: Value, op: &Op) -> bool
-    ensures { result ≡ same_write (Op.Write key.now value) op.now }
-{
-    match op {
-        Op::Read(..) => false,
-        Op::Write(other_key, other) => value == *other && key == other_key,
-    }
 }

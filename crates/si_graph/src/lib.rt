@@ -18,6 +18,3 @@ pub use checks::check_evidence;
 pub use explanations::explain;
 pub use faults::ExplainFault;
 pub use si_model::{Edge, Evidence, Label, Walk, evidence_of};
-
-#[cfg(test)]
-mod tests;

@@ -1,5 +1,6 @@
 -- Why an edit isn't accepted, and what it leaves present. All of it is this project's choice.
-use Rattle.std.specs.Prelude.{◌≡◌, ℕ, ◌+◌, ◌<◌, ◌≤◌, Bool, true, false, not, ◌||◌, if◌then◌else◌, nat_eq, nat_lt, nat_le, List, [], ◌∷◌, ◌++◌, map, take, Some, None, Option, is_some, slice_get}
+use Rattle.std.specs.Prelude.{◌≡◌, ℕ, ◌+◌, ◌<◌, ◌≤◌, Bool, true, false, not, ◌||◌, if◌then◌else◌, nat_eq, nat_lt, nat_le}
+use Rattle.std.specs.Prelude.{List, [], ◌∷◌, ◌++◌, map, take, Some, None, Option, is_some, slice_get}
 use Rattle.std.specs.List.{Contains, filter, find, list_any, fold}
 use Rattle.std.specs.Option.{option_or, option_map, option_eq}
 use Rattle.si_model.specs.declared.numbers.TxnId.{TxnId}

@@ -11,7 +11,7 @@ pub mod edits;
 pub mod evidence;
 pub mod findings;
 pub mod history;
-mod holders;
+pub mod holders;
 pub mod keys;
 pub mod kinds;
 pub mod laws;
@@ -38,9 +38,6 @@ pub use parts::{Access, Accesses, OnKey, Part, Parts, Placed};
 pub use refusals::{Holders, Refusal, refusal_on};
 pub use sights::{Installer, Sight, Source, VersionId};
 pub use transactions::{Outcome, Status, Txn};
-
-#[cfg(test)]
-mod tests;
 
 /// The growth of some memory was refused.
 pub type OutOfMemory = AllocError;

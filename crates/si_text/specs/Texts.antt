@@ -9,7 +9,8 @@ use Rattle.si_model.specs.declared.kinds.Kind.TheVariants.{Unknown, Doubt, Own, 
 use Rattle.si_model.specs.declared.numbers.TxnId.{TxnId}
 use Rattle.si_model.specs.declared.numbers.Value.{Value}
 use Rattle.si_model.specs.declared.refusals.Refusal.{Refusal}
-use Rattle.si_model.specs.declared.refusals.Refusal.TheVariants.{Full, IdPresent, NoSuch, NotInDoubt, StampOrder, StampTaken, ValueTwice, ValueTaken, SetUpTwice, SetUpTaken, ValueSetUp}
+use Rattle.si_model.specs.declared.refusals.Refusal.TheVariants.{Full, IdPresent, NoSuch, NotInDoubt, StampOrder, StampTaken}
+use Rattle.si_model.specs.declared.refusals.Refusal.TheVariants.{ValueTwice, ValueTaken, SetUpTwice, SetUpTaken, ValueSetUp}
 use Rattle.si_model.specs.declared.evidence.Edge.{Edge}
 use Rattle.si_model.specs.declared.evidence.Label.{Label}
 use Rattle.si_model.specs.declared.evidence.Label.TheVariants as label

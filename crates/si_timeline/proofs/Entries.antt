@@ -1,5 +1,5 @@
 -- What the entries of a map by commit stamps are as a timeline.
-use Rattle.std.proofs.Common.{◌≡◌, ◌∙◌, ◌⊎◌, inl, inr, ℕ, ◌<◌, zero, suc, Bool, true, false, cond, List, [], ◌∷◌, length, get_or, Option, Some, None, unwrap_or, is_some, refl, sym, ap, ap₂, subst, arith, true≢false}
+use Rattle.std.proofs.Common.{◌≡◌, ◌∙◌, inl, inr, ℕ, ◌<◌, Bool, true, false, cond, List, [], ◌∷◌, Option, Some, None, unwrap_or, is_some, refl, sym, ap, ap₂, subst, arith, true≢false}
 use Rattle.std.specs.List.{AllByRecursion, Contains}
 use Rattle.std.specs.List.Sorted.{IsStrictlySortedBy}
 use Rattle.std.specs.Map.{keys_of, lookup, remove_entry}
@@ -9,8 +9,9 @@ use Rattle.std.specs.Cmp.{ranked, nat_cmp_is}
 use Rattle.std.specs.Ordering.{nat_cmp, is_eq, match_ordering}
 use Rattle.std.proofs.Common.{Ordering}
 use Rattle.std.proofs.lemmas.Map.Keys.{sorted_head, sorted_tail}
-use Rattle.std.proofs.lemmas.List.Elements.{Contains-append_cases, Contains-append_right}
+use Rattle.std.proofs.lemmas.List.Elements.{Contains-append_right}
 use Rattle.std.specs.declared.cmp.Ordering.TheVariants.{Less, Equal, Greater}
+use Rattle.si_lists.proofs.Members.{here, there, Contains-cons_cases}
 use Rattle.si_model.specs.declared.numbers.Stamp.{Stamp}
 use Rattle.si_timeline.specs.Timelines.{Adds, Dated, IsRising, Lacks}
 use Rattle.si_timeline.specs.declared.versions.Version.{Version}
@@ -27,22 +28,6 @@ rising [] h = tt
 rising (e ∷ es) h = (above_all e.0 es (sorted_head stamp_cmp e.0 (keys_of es) h), rising es (sorted_tail stamp_cmp e.0 (keys_of es) h))
 
 -- ---- one entry
-
-here : (d : Dated) (ds : List Dated) → Contains (d ∷ ds) d
-here d ds = (0, omega arith, refl)
-
-there : (d : Dated) (ds : List Dated) (e : Dated) → Contains ds e → Contains (d ∷ ds) e
-there d ds e c = Contains-append_right (d ∷ []) ds e c
-
-alone : (d e : Dated) (k : ℕ) → k < length (d ∷ []) → get_or (d ∷ []) k e ≡ e → d ≡ e
-alone d e zero lt is = is
-alone d e (suc k) lt is = absurd (omega (arith, lt))
-
-first_or_later : (d : Dated) (ds : List Dated) (e : Dated) → Contains (d ∷ ds) e → (d ≡ e) ⊎ Contains ds e
-first_or_later d ds e c = elim (Contains-append_cases (d ∷ []) ds e c) [
-  | inl one ↦ inl (alone d e one.0 one.1 one.2)
-  | inr more ↦ inr more
-]
 
 same_stamp : (a b : Stamp) → is_eq (stamp_cmp a b) ≡ true → a ≡ b
 same_stamp a b e = go (stamp_cmp a b) refl e
@@ -62,7 +47,7 @@ found (e ∷ es) d c none = go (is_at (stamp_cmp d.0) e.0) refl none (found es d
   where
     go : (b : Bool) → is_at (stamp_cmp d.0) e.0 ≡ b → cond b (Some e.1) (lookup (is_at (stamp_cmp d.0)) es) ≡ None → (Contains es d → lookup (is_at (stamp_cmp d.0)) es ≡ None → ⊥) → ⊥
     go true is f rest = true≢false (ap is_some f)
-    go false is f rest = elim (first_or_later e es d c) [
+    go false is f rest = elim (Contains-cons_cases e es d c) [
       | inl same ↦ true≢false (sym (at_itself d.0) ∙ ap (λ (x : Dated). is_eq (stamp_cmp d.0 x.0)) (sym same) ∙ is)
       | inr more ↦ rest more f
     ]

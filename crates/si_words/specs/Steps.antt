@@ -9,7 +9,8 @@ use Rattle.si_words.specs.declared.views.Opener.{Opener}
 use Rattle.si_words.specs.declared.views.View.{View}
 use Rattle.si_words.specs.Entries.{entry}
 use Rattle.si_words.specs.Views.{new_shard, new_pass, shard_view, pass_view, spent, opener_from}
-use Rattle.si_words.specs.Views.{with_entry, with_mine, with_due, with_done, with_seen, with_mark, with_learned, with_count, pass_closed, shard_closed, book_closed}
+use Rattle.si_words.specs.Views.{with_entry, with_mine, with_due, with_done, with_seen, with_mark, with_learned, with_count}
+use Rattle.si_words.specs.Views.{pass_closed, shard_closed, book_closed}
 use Rattle.si_words.specs.Rule.{AreCounts, Fits}
 
 -- the parts of a view, with a default where it has none

@@ -1,0 +1,8 @@
+//! Small histories with their answers: the tests of `si_model`, `si_graph` and `si_accept`.
+//!
+//! It has no function. A crate is proved a second time with its tests, so the tests of the lower crates stand here,
+//! where there is nothing to prove twice.
+#![tactic(auto)]
+
+#[cfg(test)]
+mod tests;
