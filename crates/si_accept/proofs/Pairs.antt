@@ -55,32 +55,25 @@ AreFrom S s r = IsKeyRangeOf pair_cmp (Included (s, 0)) Unbounded S r
 kept : (S : BTreeSet (ℕ × ℕ)) (p : ℕ × ℕ) → list_any (same_pair p) S.keys ≡ true → IsTrue (list_any (λ q. is_eq (pair_cmp p q)) S.keys)
 kept S p e = has_tied S.keys p ∙ e
 
-pub least_found : (S : BTreeSet (ℕ × ℕ)) (s : Stamp) (f : ℕ × ℕ) (r rest : List (ℕ × ℕ)) → AreFrom S s.0 r → r ≡ f ∷ rest → f.0 ≡ s.0 → IsLeast (has S.keys s) (Some (record { 0 = f.1 }))
-least_found S s f r rest h is e = (
-  sym (has_tied S.keys (s.0, f.1)) ∙ ap (λ n. list_any (λ q. is_eq (pair_cmp (n, f.1) q)) S.keys) (sym e) ∙ first.1,
-  λ w t. first_is_least s.0 f.1 w.0 (subst (λ n. is_gt (pair_cmp (n, f.1) (s.0, w.0)) ≡ false) e (below w t)),
-)
-  where
-    all : AreFrom S s.0 (f ∷ rest)
-    all = subst (AreFrom S s.0) is h
-
-    first : (is_gt (pair_cmp (s.0, 0) f) ≡ false × Unit {0}) × IsTrue (list_any (λ q. is_eq (pair_cmp f q)) S.keys)
-    first = all.1
-
-    below : (w : TxnId) → has S.keys s w ≡ true → is_gt (pair_cmp f (s.0, w.0)) ≡ false
-    below w t = all.2 (s.0, w.0) (from_first s.0 w.0, tt) (kept S (s.0, w.0) t)
-
 pub none_found : (S : BTreeSet (ℕ × ℕ)) (s : Stamp) (r : List (ℕ × ℕ)) → AreFrom S s.0 r → r ≡ [] → IsLeast (has S.keys s) None
 none_found S s r h e w = sym (has_tied S.keys (s.0, w.0)) ∙ h.5 e (s.0, w.0) (from_first s.0 w.0, tt)
 
-pub later_found : (S : BTreeSet (ℕ × ℕ)) (s : Stamp) (f : ℕ × ℕ) (r rest : List (ℕ × ℕ)) → AreFrom S s.0 r → r ≡ f ∷ rest → (f.0 ≡ s.0 → ⊥) → IsLeast (has S.keys s) None
-later_found S s f r rest h is differ w = not_true _ (λ t. differ (none_after f.0 f.1 s.0 w.0 first.0.0 (below w t)))
-  where
-    all : AreFrom S s.0 (f ∷ rest)
-    all = subst (AreFrom S s.0) is h
+-- the first pair from the stamp on
+module _ (S : BTreeSet (ℕ × ℕ)) (s : Stamp) (f : ℕ × ℕ) (r rest : List (ℕ × ℕ)) (h : AreFrom S s.0 r) (is : r ≡ f ∷ rest) where
+  all : AreFrom S s.0 (f ∷ rest)
+  all = subst (AreFrom S s.0) is h
 
-    first : (is_gt (pair_cmp (s.0, 0) f) ≡ false × Unit {0}) × IsTrue (list_any (λ q. is_eq (pair_cmp f q)) S.keys)
-    first = all.1
+  first : (is_gt (pair_cmp (s.0, 0) f) ≡ false × Unit {0}) × IsTrue (list_any (λ q. is_eq (pair_cmp f q)) S.keys)
+  first = all.1
 
-    below : (w : TxnId) → has S.keys s w ≡ true → is_gt (pair_cmp f (s.0, w.0)) ≡ false
-    below w t = all.2 (s.0, w.0) (from_first s.0 w.0, tt) (kept S (s.0, w.0) t)
+  below : (w : TxnId) → has S.keys s w ≡ true → is_gt (pair_cmp f (s.0, w.0)) ≡ false
+  below w t = all.2 (s.0, w.0) (from_first s.0 w.0, tt) (kept S (s.0, w.0) t)
+
+  pub least_found : f.0 ≡ s.0 → IsLeast (has S.keys s) (Some (record { 0 = f.1 }))
+  least_found e = (
+    sym (has_tied S.keys (s.0, f.1)) ∙ ap (λ n. list_any (λ q. is_eq (pair_cmp (n, f.1) q)) S.keys) (sym e) ∙ first.1,
+    λ w t. first_is_least s.0 f.1 w.0 (subst (λ n. is_gt (pair_cmp (n, f.1) (s.0, w.0)) ≡ false) e (below w t)),
+  )
+
+  pub later_found : (f.0 ≡ s.0 → ⊥) → IsLeast (has S.keys s) None
+  later_found differ w = not_true _ (λ t. differ (none_after f.0 f.1 s.0 w.0 first.0.0 (below w t)))

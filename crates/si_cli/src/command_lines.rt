@@ -77,15 +77,21 @@ fn command<'a>(alloc: Global) -> Result<Command<'a>, AllocError>
     let check = Command::new(alloc, "check")
         .about("Checks the history in FILE, or on standard input where none is named")
         .override_usage(USAGE)
-        .after_help(INPUT)
+        .after_help(manual())
         .arg(every(alloc))?
         .arg(explain(alloc))?
         .arg(file(alloc))?;
     let top = Command::new(alloc, "sicheck")
         .about(ABOUT)
-        .after_help(INPUT)
+        .after_help(manual())
         .subcommand_required(true);
     top.subcommand(check)
+}
+
+/// What help tells of the input, the output and the status. No clause has the text, or the proof of the command would have it
+/// in each step.
+fn manual() -> &'static str {
+    INPUT
 }
 
 /// The option that asks for a report after each so many lines.

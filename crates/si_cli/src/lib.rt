@@ -20,6 +20,3 @@ pub use programs::main_with;
 pub use runs::run;
 pub use settings::{Settings, SettingsFault, settings_of};
 pub use statuses::ExitStatus;
-
-#[cfg(test)]
-mod tests;

@@ -30,6 +30,3 @@ pub use readings::read_edit;
 pub use reasons::Reason;
 pub use streams::{StdSink, StdSource};
 pub use verdicts::Verdict;
-
-#[cfg(test)]
-mod tests;

@@ -1,7 +1,7 @@
 //! Inputs with the texts that are written for them.
 
 use super::{PLAIN, check, check_text};
-use crate::ExitStatus::{Clean, Open, Violation};
+use si_cli::ExitStatus::{Clean, Open, Violation};
 use std::test::Fail;
 
 #[test]

@@ -1,13 +1,16 @@
-//! What runs and the whole program write, and how they end.
+//! What lines say, what is written, and how runs and the whole program end.
 
 mod evidence;
 mod files;
 mod helps;
+mod inputs;
 mod programs;
+mod readings;
 mod rows;
 mod set_ups;
+mod texts;
 
-use crate::{ExitStatus, Options, run};
+use si_cli::{ExitStatus, Options, run};
 use si_text::memory::{MemorySink, MemorySource};
 use std::alloc::Global;
 use std::process::Abort;

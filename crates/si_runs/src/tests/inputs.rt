@@ -1,8 +1,8 @@
-use crate::memory::{FailingSink, FailingSource, MemorySink, MemorySource};
-use crate::{
+use si_model::{Edit, TxnId};
+use si_text::memory::{FailingSink, FailingSource, MemorySink, MemorySource};
+use si_text::{
     ByteSink, ByteSource, InputFault, LineBuffer, LineFault, LineItem, StdSink, StdSource,
 };
-use si_model::{Edit, TxnId};
 use std::alloc::Global;
 use std::test::Fail;
 

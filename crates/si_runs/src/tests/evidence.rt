@@ -1,8 +1,8 @@
 //! Inputs with the evidence that is written for their findings.
 
 use super::{PLAIN, check_with};
-use crate::ExitStatus::{Open, Violation};
-use crate::Options;
+use si_cli::ExitStatus::{Open, Violation};
+use si_cli::Options;
 use std::test::Fail;
 
 const EXPLAINED: Options = Options {

@@ -1,11 +1,11 @@
 ghost use Rattle.std.specs.Prelude.{◌≤◌, vec_len};
 
-use crate::{
-    Field, LineFault, Reason, Verdict, print_evidence, print_finding, print_refusal, print_report,
-};
 use si_model::{
     Edge, Evidence, Finding, Key, Kind, Label, Op, Ops, Refusal, Stamp, Status, Txn, TxnId, Value,
     Walk, findings_of, is_history,
+};
+use si_text::{
+    Field, LineFault, Reason, Verdict, print_evidence, print_finding, print_refusal, print_report,
 };
 use std::alloc::Global;
 use std::process::Abort;

@@ -1,5 +1,5 @@
-use crate::{Field, LineFault, read_edit};
 use si_model::{Edit, Key, Op, Ops, Outcome, Stamp, Status, Txn, TxnId, Value};
+use si_text::{Field, LineFault, read_edit};
 use std::alloc::{AllocError, Global};
 use std::test::Fail;
 

@@ -1,6 +1,6 @@
 //! The program over files.
 
-use crate::main_with;
+use si_cli::main_with;
 use si_text::memory::{MemorySink, MemorySource};
 use std::alloc::Global;
 use std::process::Abort;

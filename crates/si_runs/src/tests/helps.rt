@@ -1,6 +1,6 @@
 //! What help tells: lines that fit a terminal, the forms of the input, how stamps are written, what ends with which status.
 
-use crate::main_with;
+use si_cli::main_with;
 use si_text::memory::{MemorySink, MemorySource};
 use std::alloc::Global;
 use std::process::Abort;

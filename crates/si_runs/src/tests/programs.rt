@@ -1,6 +1,7 @@
 //! Command lines, and devices that fail.
 
-use crate::{ExitStatus, Options, RunFault, SettingsFault, main_with, run, settings_of};
+use super::PLAIN;
+use si_cli::{ExitStatus, Options, RunFault, SettingsFault, main_with, run, settings_of};
 use si_text::memory::{FailingSink, FailingSource, MemorySink, MemorySource};
 use std::alloc::Global;
 use std::process::Abort;
@@ -9,13 +10,6 @@ use std::test::Fail;
 
 const LOST_UPDATE: &str =
     "{\"do\":\"txn\",\"id\":1,\"start\":1,\"status\":\"committed\",\"commit\":5,\"ops\":[[\"r\",\"x\",null],[\"w\",\"x\",1]]}\n{\"do\":\"txn\",\"id\":2,\"start\":2,\"status\":\"committed\",\"commit\":6,\"ops\":[[\"r\",\"x\",null],[\"w\",\"x\",2]]}";
-
-const OPTIONS: Options = Options {
-    shards: 4,
-    every: None,
-    explain: false,
-    limit: 16_777_216,
-};
 
 fn source(alloc: Global) -> Result<MemorySource, Fail> {
     Ok(MemorySource::new(Vec::from_slice(alloc, LOST_UPDATE.as_bytes())?, 4096))
@@ -84,7 +78,7 @@ fn asks(
         Options {
             every,
             explain,
-            ..OPTIONS
+            ..PLAIN
         }
     );
     assert_eq!(rt; settings.files.as_slice(), files);
@@ -139,14 +133,14 @@ fn failing_devices(rt: HostRuntime) -> Result<(), Fail> {
     let mut input = FailingSource::new(source(alloc)?, 0);
     let mut out = MemorySink::new(alloc, 4096);
     assert_eq!(rt;
-        run(alloc, &mut input, &mut out, OPTIONS).err(),
+        run(alloc, &mut input, &mut out, PLAIN).err(),
         Some(RunFault::Input(0))
     );
     assert!(rt; out.as_slice().is_empty());
     let mut input = source(alloc)?;
     let mut out = FailingSink::new(MemorySink::new(alloc, 4096), 0);
     assert_eq!(rt;
-        run(alloc, &mut input, &mut out, OPTIONS).err(),
+        run(alloc, &mut input, &mut out, PLAIN).err(),
         Some(RunFault::Output)
     );
     Ok(())

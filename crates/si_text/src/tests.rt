@@ -1,3 +1,0 @@
-mod inputs;
-mod readings;
-mod texts;
