@@ -1,0 +1,114 @@
+-- Applications of one shard, one after the other.
+use Rattle.std.proofs.Common.{◌≡◌, ◌≢◌, ◌∙◌, inl, inr, ℕ, zero, suc, ◌+◌, ◌-◌, ◌<◌, ◌≤◌, Bool, true, false, List, [], ◌∷◌, ◌++◌, Some, None, Option, length, slice_get, refl, sym, ap, subst, arith}
+use Rattle.std.proofs.lemmas.List.{length-set}
+use Rattle.si_lists.proofs.Members.{same_some}
+use Rattle.si_accept.proofs.SlotLemmas.{set_same}
+use Rattle.si_core.specs.declared.steps.Step.{Step}
+use Rattle.si_core.specs.declared.steps.Reply.{Reply}
+use Rattle.si_core.specs.declared.steps.Reply.TheVariants as reply
+use Rattle.si_core.specs.Machine.{AppliesUntil, AreApplied, IsApplicationOf, IsApply, IsIdle, IsRun, IsStep, Machine, Progress, SettlesFrom, with_progress}
+
+-- ---- what an application leaves
+
+-- it changes no journal, and as many shards stay
+pub record StaysBeside (M N : Machine) : Type 0 where
+  pub journal : N.journal ≡ M.journal
+  pub shards : length N.shards ≡ length M.shards
+
+beside_itself : (M N : Machine) → N ≡ M → StaysBeside M N
+beside_itself M N e = record { journal = ap (λ P. P.journal) e; shards = ap (λ P. length P.shards) e }
+
+beside_progress : (M : Machine) (k : ℕ) (p : Progress) (N : Machine) → N ≡ with_progress M k p → StaysBeside M N
+beside_progress M k p N e = record { journal = ap (λ P. P.journal) e; shards = ap (λ P. length P.shards) e ∙ length-set M.shards k p }
+
+beside_by : (M N : Machine) (k : ℕ) (p : Progress) (r : Reply) (b : Bool) → IsApplicationOf M k p b r N → StaysBeside M N
+beside_by M N k p r true a = beside_itself M N a.1
+beside_by M N k p r false (inl a) = beside_progress M k _ N a.1
+beside_by M N k p r false (inr (inl a)) = beside_itself M N a.1
+beside_by M N k p r false (inr (inr a)) = beside_progress M k _ N a.1
+
+pub apply_beside : (M N : Machine) (k : ℕ) (r : Reply) → IsApply M k r N → StaysBeside M N
+apply_beside M N k r (inl a) = beside_itself M N a.2
+apply_beside M N k r (inr a) = beside_by M N k a.0 r a.0.spoiled a.3
+
+pub beside_both : (M N P : Machine) → StaysBeside M N → StaysBeside N P → StaysBeside M P
+beside_both M N P a b = record { journal = b.journal ∙ a.journal; shards = b.shards ∙ a.shards }
+
+-- ---- how far the shard is
+
+-- the shard k has applied so many at least, if it is one
+abbrev pub HasApplied : Machine → ℕ → ℕ → Type 0
+HasApplied M k n = (p : Progress) → slice_get M.shards k ≡ Some p → n ≤ p.position
+
+further_by : (M N : Machine) (k n m : ℕ) (p : Progress) (b : Bool) → slice_get M.shards k ≡ Some p → n ≤ p.position → IsApplicationOf M k p b (reply.Applied m) N → HasApplied N k (n + 1)
+further_by M N k n m p true at le a q e = cc a.0
+further_by M N k n m p false at le (inl a) q e =
+    let new : Progress = record { position = p.position + 1; spoiled = false } in
+    let is : new ≡ q = same_some (sym (set_same M.shards k new p at) ∙ ap (λ P. slice_get P.shards k) (sym a.1) ∙ e) in
+    let far : n + 1 ≤ p.position + 1 = omega arith in
+    subst (λ (w : Progress). n + 1 ≤ w.position) is far
+further_by M N k n m p false at le (inr (inl a)) q e = cc a.0
+further_by M N k n m p false at le (inr (inr a)) q e = cc a.0
+
+pub further : (M N : Machine) (k n m : ℕ) → HasApplied M k n → IsApply M k (reply.Applied m) N → HasApplied N k (n + 1)
+further M N k n m before (inl a) = cc a.1
+further M N k n m before (inr a) = further_by M N k n m a.0 a.0.spoiled a.1 (before a.0 a.1) a.3
+
+-- a shard that has applied as many as the journal has is idle
+pub idle_there : (M : Machine) (k : ℕ) → HasApplied M k (length M.journal) → IsApply M k reply.Idle M
+idle_there M k all = inl (by (slice_get M.shards k) refl, refl, refl)
+  where
+    by : (o : Option Progress) → slice_get M.shards k ≡ o → IsIdle M k
+    by None e = inl e
+    by (Some p) e = inr (p, e, all p e)
+
+-- ---- many applications
+
+pub one_more_applied : (n : ℕ) (M N P : Machine) (k p : ℕ) → AreApplied n M k N → IsApply N k (reply.Applied p) P → AreApplied (n + 1) M k P
+one_more_applied n M N P k p done next = subst (λ m. AreApplied m M k P) (let s : suc n ≡ n + 1 = omega arith in s) (by n M done)
+  where
+    by : (m : ℕ) (Q : Machine) → AreApplied m Q k N → AreApplied (suc m) Q k P
+    by zero Q e = (p, P, subst (λ R. IsApply R k (reply.Applied p) P) e next, refl)
+    by (suc m) Q (q, R, first, rest) = (q, R, first, by m R rest)
+
+-- ---- runs
+
+pub one_more_step : (M N P : Machine) (ss : List Step) (rs : List Reply) (s : Step) (r : Reply) → IsRun M ss rs N → IsStep N s r P → IsRun M (ss ++ s ∷ []) (rs ++ r ∷ []) P
+one_more_step M N P [] [] s r run next = (P, subst (λ Q. IsStep Q s r P) run next, refl)
+one_more_step M N P [] (q ∷ rs) s r run next = absurd run
+one_more_step M N P (t ∷ ss) [] s r run next = absurd run
+one_more_step M N P (t ∷ ss) (q ∷ rs) s r (Q, first, rest) next = (Q, first, one_more_step Q N P ss rs s r rest next)
+
+-- ---- settling
+
+pub many_beside : (n : ℕ) (M N : Machine) (k : ℕ) → AreApplied n M k N → StaysBeside M N
+many_beside zero M N k e = beside_itself M N e
+many_beside (suc n) M N k (p, Q, first, rest) = beside_both M Q N (apply_beside M Q k (reply.Applied p) first) (many_beside n Q N k rest)
+
+pub until_beside : (M N : Machine) (k : ℕ) (r : Reply) → AppliesUntil M k r N → StaysBeside M N
+until_beside M N k r (n, Q, many, last, other) = beside_both M Q N (many_beside n M Q k many) (apply_beside Q N k r last)
+
+-- what the shards from k on make of M settles K, of which those before k are settled
+abbrev pub SettlesWith : ℕ → ℕ → Machine → Machine → Type 0
+SettlesWith K k start M = (r : Reply) (N : Machine) → SettlesFrom (K - k) k M r N → SettlesFrom K 0 start r N
+
+left_over : (K k : ℕ) → k < K → K - k ≡ suc (K - (k + 1))
+left_over K k lt = omega arith
+
+pub settles_next : (K k : ℕ) (start M Q : Machine) → k < K → SettlesWith K k start M → AppliesUntil M k reply.Idle Q → SettlesWith K (k + 1) start Q
+settles_next K k start M Q lt with_ until r N rest = with_ r N (subst (λ n. SettlesFrom n k M r N) (sym (left_over K k lt)) (inl (Q, until, rest)))
+
+pub settles_ended : (K k : ℕ) (start M N : Machine) (r : Reply) → k < K → SettlesWith K k start M → r ≢ reply.Idle → AppliesUntil M k r N → SettlesFrom K 0 start r N
+settles_ended K k start M N r lt with_ other until = with_ r N (subst (λ n. SettlesFrom n k M r N) (sym (left_over K k lt)) (inr (other, until)))
+
+pub settles_all : (K k : ℕ) (start M : Machine) → K ≤ k → SettlesWith K k start M → SettlesFrom K 0 start (reply.Settled (length M.journal)) M
+settles_all K k start M le with_ = with_ (reply.Settled (length M.journal)) M (subst (λ n. SettlesFrom n k M (reply.Settled (length M.journal)) M) (sym none) (refl, refl))
+  where
+    none : K - k ≡ 0
+    none = omega arith
+
+pub settles_first : (K : ℕ) (M : Machine) → SettlesWith K 0 M M
+settles_first K M r N s = subst (λ n. SettlesFrom n 0 M r N) (let e : K - 0 ≡ K = omega arith in e) s
+
+pub beside_start : (M : Machine) → StaysBeside M M
+beside_start M = beside_itself M M refl

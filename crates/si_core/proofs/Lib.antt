@@ -1,0 +1,6 @@
+pub mod Storing
+pub mod Progressing
+pub mod Opening
+pub mod Applications
+pub mod Least
+pub mod Settled

@@ -1,0 +1,116 @@
+-- One shard's application, seen as a step of the machine.
+use Rattle.std.proofs.Common.{◌≡◌, ◌≢◌, ◌∙◌, ◌⊎◌, inl, inr, ℕ, zero, suc, ◌+◌, ◌<◌, ◌≤◌, Bool, true, false, List, ◌∷◌, ◌++◌, [], Some, length, map, take, slice_get, slice_set, refl, sym, ap, subst, arith, Result, Ok, Err, OnOk, OnErr}
+use Rattle.std.proofs.lemmas.Bool.{cases_eq}
+use Rattle.std.proofs.lemmas.List.{length-append, length-set, length-take-le, map-set, take-append-le}
+use Rattle.std.proofs.lemmas.Option.{slice_get-map}
+use Rattle.std.specs.Option.{option_map}
+use Rattle.si_lists.proofs.Members.{same_some}
+use Rattle.si_model.specs.declared.edits.Edit.{Edit}
+use Rattle.si_accept.specs.Books.{BookState}
+use Rattle.si_accept.proofs.SlotLemmas.{set_other, set_same}
+use Rattle.si_shard.specs.Shards.{ShardState}
+use Rattle.si_shard.specs.declared.shards.TheConstants.{MOST_SHARDS}
+use Rattle.si_core.specs.declared.steps.Reply.{Reply}
+use Rattle.si_core.specs.Machine.{IsApplicationOf, IsApply, Progress}
+use Rattle.si_core.specs.Worlds.{AppliesLeft, AppliesNext, IsShardOf, IsWorld, machine_of, progress_of}
+
+-- what stands at k put there again changes nothing
+pub set_again : {X : Type 0} (xs : List X) (k : ℕ) (x : X) → slice_get xs k ≡ Some x → slice_set xs k x ≡ xs
+set_again [] k x e = cc
+set_again (y ∷ xs) zero x e = ap (λ w. w ∷ xs) (sym (same_some e))
+set_again (y ∷ xs) (suc k) x e = ap (λ l. y ∷ l) (set_again xs k x e)
+
+-- ---- what a shard stores after an application
+
+module _ (J : List Edit) (k : ℕ) (s t : ShardState) (n : ℕ) where
+  -- it stores a beginning of the journal still
+  pub stores_still : (r : Reply) → IsShardOf J n k s → AppliesNext J k s r t → IsShardOf J n k t
+  stores_still r is (inl idle) = subst (IsShardOf J n k) (sym idle.2) is
+  stores_still r is (inr left) = by s.spoiled left.1
+    where
+      by : (b : Bool) → AppliesLeft J k s b r t → IsShardOf J n k t
+      by true e = subst (IsShardOf J n k) (sym e.1) is
+      by false (inl e) =
+          let within : length s.stored + 1 ≤ length J = (let lt = left.0 in omega arith) in
+          let long : length (take (length s.stored + 1) J) ≡ length s.stored + 1 = length-take-le (length s.stored + 1) J within in
+          subst (IsShardOf J n k) (sym e.1) (record {
+            number = is.number;
+            count = is.count;
+            begins = ap (λ m. take m J) (sym long);
+            within = subst (λ m. m ≤ length J) (sym long) within;
+          })
+      by false (inr (inl e)) = subst (IsShardOf J n k) (sym e.1) is
+      by false (inr (inr e)) = subst (IsShardOf J n k) (sym e.1) (record { number = is.number; count = is.count; begins = is.begins; within = is.within })
+
+-- ---- the machine after it
+
+module _ (book : BookState) (shards : List ShardState) (k : ℕ) (s t : ShardState) (at : slice_get shards k ≡ Some s) (r : Reply) (step : AppliesNext book.journal k s r t) where
+  at_progress : slice_get (map progress_of shards) k ≡ Some (progress_of s)
+  at_progress = slice_get-map progress_of shards k ∙ ap (option_map progress_of) at
+
+  -- nothing changes where the shard doesn't
+  unchanged : t ≡ s → machine_of book (slice_set shards k t) ≡ machine_of book shards
+  unchanged e = ap (machine_of book) (ap (slice_set shards k) e ∙ set_again shards k s at)
+
+  -- and else its progress alone
+  progressed : (p : Progress) → progress_of t ≡ p → machine_of book (slice_set shards k t) ≡ record { limit = book.limit; journal = book.journal; shards = slice_set (map progress_of shards) k p }
+  progressed p e = ap (λ l. record { limit = book.limit; journal = book.journal; shards = l }) (map-set progress_of shards k t ∙ ap (slice_set (map progress_of shards) k) e)
+
+  pub applies : IsApply (machine_of book shards) k r (machine_of book (slice_set shards k t))
+  applies = elim step [
+    | inl idle ↦ inl (inr (progress_of s, at_progress, idle.0), idle.1, unchanged idle.2)
+    | inr left ↦ inr (progress_of s, at_progress, left.0, by s.spoiled refl left.0 left.1)
+  ]
+    where
+      by : (b : Bool) → s.spoiled ≡ b → length s.stored < length book.journal → AppliesLeft book.journal k s b r t
+          → IsApplicationOf (machine_of book shards) k (progress_of s) b r (machine_of book (slice_set shards k t))
+      by true is lt e = (e.0, unchanged e.1)
+      by false is lt (inl e) =
+          let within : length s.stored + 1 ≤ length book.journal = omega arith in
+          let long : length (take (length s.stored + 1) book.journal) ≡ length s.stored + 1 = length-take-le (length s.stored + 1) book.journal within in
+          inl (
+            e.0,
+            progressed (record { position = length s.stored + 1; spoiled = false })
+                (ap progress_of e.1 ∙ ap (λ m. record { position = m; spoiled = s.spoiled }) long ∙ ap (λ b. record { position = length s.stored + 1; spoiled = b }) is),
+          )
+      by false is lt (inr (inl e)) = inr (inl (e.0, unchanged e.1))
+      by false is lt (inr (inr e)) = inr (inr (e.0, progressed (record { position = length s.stored; spoiled = true }) (ap progress_of e.1)))
+
+  pub world_still : IsWorld book shards → IsWorld book (slice_set shards k t)
+  world_still w = record {
+    some = subst (λ m. 1 ≤ m) (sym (length-set shards k t)) w.some;
+    most = subst (λ m. m ≤ MOST_SHARDS) (sym (length-set shards k t)) w.most;
+    each = λ j u e. subst (λ m. IsShardOf book.journal m j u) (sym (length-set shards k t)) (by j u (cases_eq j k) e);
+  }
+    where
+      by : (j : ℕ) (u : ShardState) → (j ≡ k) ⊎ (j ≢ k) → slice_get (slice_set shards k t) j ≡ Some u → IsShardOf book.journal (length shards) j u
+      by j u (inl same) e =
+          let is : t ≡ u = same_some (sym (set_same shards k t s at) ∙ ap (slice_get (slice_set shards k t)) (sym same) ∙ e) in
+          subst (λ i. IsShardOf book.journal (length shards) i u) (sym same) (subst (IsShardOf book.journal (length shards) k) is (stores_still book.journal k s t (length shards) r (w.each k s at) step))
+      by j u (inr other) e = w.each j u (sym (set_other shards k j t other) ∙ e)
+
+-- ---- one more edit in the journal
+
+pub world_grown : (b c : BookState) (e : Edit) (shards : List ShardState) → c.journal ≡ b.journal ++ e ∷ [] → IsWorld b shards → IsWorld c shards
+world_grown b c e shards grown w = record {
+  some = w.some;
+  most = w.most;
+  each = λ k s at. (let is = w.each k s at in record {
+    number = is.number;
+    count = is.count;
+    begins = is.begins ∙ sym (take-append-le (length s.stored) b.journal (e ∷ []) is.within) ∙ ap (take (length s.stored)) (sym grown);
+    within = subst (λ J. length s.stored ≤ length J) (sym grown) (longer (length s.stored) is.within);
+  });
+}
+  where
+    longer : (n : ℕ) → n ≤ length b.journal → n ≤ length (b.journal ++ e ∷ [])
+    longer n le = let l = length-append b.journal (e ∷ []) in omega arith
+
+-- a shard knows how many there are
+pub own_count : (J : List Edit) (n k : ℕ) (s : ShardState) → IsShardOf J n k s → IsShardOf J s.id.shards k s
+own_count J n k s is = record { number = is.number; count = refl; begins = is.begins; within = is.within }
+
+pub world_after : {T E : Type 0} (b c : BookState) (e : Edit) (shards : List ShardState) (r : Result T E) → OnOk r (c ≡ record b { journal = b.journal ++ e ∷ [] }) → OnErr r (c ≡ b)
+    → IsWorld b shards → IsWorld c shards
+world_after b c e shards (Ok n) ok err w = world_grown b c e shards (ap (λ x. x.journal) ok) w
+world_after b c e shards (Err f) ok err w = subst (λ x. IsWorld x shards) (sym err) w

@@ -1,0 +1,103 @@
+-- The findings of a settled machine.
+use Rattle.std.proofs.Common.{◌≡◌, ◌∙◌, ◌<◌, ◌≤◌, ℕ, true, false, List, Option, Some, None, length, map, slice_get, slice_index_or, take, refl, sym, ap, subst, arith, eq-eqb}
+use Rattle.std.specs.List.{Contains, flat_map}
+use Rattle.std.proofs.Math.Nat.{mod-lt}
+use Rattle.std.proofs.Math.Seq.{take-length}
+use Rattle.std.proofs.lemmas.Option.{slice_get-get_or, slice_get-map}
+use Rattle.std.specs.Option.{option_map}
+use Rattle.si_lists.proofs.Members.{Contains-filter, Contains-flat_map, Contains-from_filter, Contains-from_flat_map, Contains-from_map, Contains-map, contains_get, get_contains, same_some}
+use Rattle.si_model.specs.declared.findings.Finding.{Finding}
+use Rattle.si_model.specs.Findings.{findings}
+use Rattle.si_model.specs.Journals.{IsAccepted, present}
+use Rattle.si_model.specs.KeyTexts.{shard_hash, shard_number}
+use Rattle.si_model.specs.Order.{finding_cmp, in_order}
+use Rattle.si_model.proofs.Exact.{findings_exact}
+use Rattle.si_model.proofs.FindingOrder.{exact_findings, findings_total}
+use Rattle.si_model.proofs.InOrder.{Contains-from_in_order, Contains-in_order, sorted-in_order}
+use Rattle.si_model.proofs.Orderless.{unique_list}
+use Rattle.si_model.proofs.PresentHistories.{present_history}
+use Rattle.si_accept.specs.Books.{BookState}
+use Rattle.si_shard.specs.Accesses.{is_ours}
+use Rattle.si_shard.specs.Shards.{ShardState, findings_in}
+use Rattle.si_core.specs.Machine.{IsLeastPosition, IsLeastSpoiled, IsSettled, Progress}
+use Rattle.si_core.specs.Worlds.{IsFirstSpoiled, IsLeastOf, IsWorld, machine_of, progress_of, shard_findings}
+
+module _ (book : BookState) (shards : List ShardState) (world : IsWorld book shards) where
+  -- where the least position is the end of the journal each shard has stored it whole
+  stored_whole : (n : ℕ) → IsLeastOf shards n → length book.journal ≤ n → (k : ℕ) (s : ShardState) → slice_get shards k ≡ Some s → s.stored ≡ book.journal
+  stored_whole n least all k s at =
+      let is = world.each k s at in
+      let far = least.1 s (get_contains shards k s at) in
+      let long : length s.stored ≡ length book.journal = (let w = is.within in omega arith) in
+      is.begins ∙ ap (λ m. take m book.journal) long ∙ take-length book.journal
+
+  pub is_settled : (n : ℕ) → IsLeastOf shards n → length book.journal ≤ n → ((s : ShardState) → Contains shards s → s.spoiled ≡ false) → IsSettled (machine_of book shards)
+  is_settled n least all whole p c =
+      let m = Contains-from_map progress_of shards p c in
+      let g = contains_get shards m.0 m.1 in
+      let same : length m.0.stored ≡ length book.journal = ap (λ l. length l) (stored_whole n least all g.0 m.0 g.1) in
+      (ap (λ (q : Progress). q.spoiled) (sym m.2) ∙ whole m.0 m.1, ap (λ (q : Progress). q.position) (sym m.2) ∙ same)
+
+  module _ (n : ℕ) (least : IsLeastOf shards n) (all : length book.journal ≤ n) (accepted : IsAccepted book.journal) where
+    -- a finding on a key is one of the key's shard
+    of_its_shard : (f : Finding) → Contains (findings (present book.journal)) f → Contains (flat_map shard_findings shards) f
+    of_its_shard f c =
+        let count = length shards in
+        let some = world.some in
+        let k = shard_number f.key count in
+        let within : k < count = mod-lt (shard_hash f.key) some in
+        let g = shard_at k within in
+        let s = g.0 in
+        let is = world.each k s g.1 in
+        let ours : is_ours s.id f.key ≡ true = eq-eqb (shard_number f.key s.id.shards) s.id.shard (ap (shard_number f.key) is.count ∙ sym is.number) in
+        let stored = stored_whole n least all k s g.1 in
+        Contains-flat_map shard_findings shards s f (get_contains shards k s g.1)
+        (subst (λ J. Contains (findings_in s.id (present J)) f) (sym stored) (Contains-filter (λ h. is_ours s.id h.key) (findings (present book.journal)) f c ours))
+      where
+        shard_at : (k : ℕ) → k < length shards → (s : ShardState) × (slice_get shards k ≡ Some s)
+        shard_at k lt = (slice_index_or shards k least.0.0, slice_get-get_or shards k least.0.0 lt)
+
+    of_some_shard : (f : Finding) → Contains (flat_map shard_findings shards) f → Contains (findings (present book.journal)) f
+    of_some_shard f c =
+        let m = Contains-from_flat_map shard_findings shards f c in
+        let g = contains_get shards m.0 m.1 in
+        let stored = stored_whole n least all g.0 m.0 g.1 in
+        (Contains-from_filter (λ h. is_ours m.0.id h.key) (findings (present book.journal)) f (subst (λ J. Contains (findings_in m.0.id (present J)) f) stored m.2)).0
+
+    pub settled_findings : in_order finding_cmp (flat_map shard_findings shards) ≡ findings (present book.journal)
+    settled_findings = unique_list (in_order finding_cmp (flat_map shard_findings shards)) (findings (present book.journal))
+        (sorted-in_order findings_total (flat_map shard_findings shards))
+        (findings_exact (present book.journal) (present_history book.journal accepted)).ascends
+        (λ f. (
+          (λ c. of_some_shard f (Contains-from_in_order findings_total (flat_map shard_findings shards) f c)),
+          (λ c. Contains-in_order findings_total exact_findings (flat_map shard_findings shards) f (of_its_shard f c)),
+        ))
+
+-- ---- why it isn't settled
+
+-- a progress that stands at k is that of the shard k
+progress_at : (shards : List ShardState) (j : ℕ) (p : Progress) → slice_get (map progress_of shards) j ≡ Some p → (t : ShardState) × (slice_get shards j ≡ Some t) × (progress_of t ≡ p)
+progress_at shards j p e = by (slice_get shards j) refl (sym (slice_get-map progress_of shards j) ∙ e)
+  where
+    by : (o : Option ShardState) → slice_get shards j ≡ o → option_map progress_of (slice_get shards j) ≡ Some p → (t : ShardState) × (slice_get shards j ≡ Some t) × (progress_of t ≡ p)
+    by None at f = (let no : None ≡ Some p = sym (ap (option_map progress_of) at) ∙ f in cc)
+    by (Some t) at f = (t, at, same_some (sym (ap (option_map progress_of) at) ∙ f))
+
+pub least_spoiled : (book : BookState) (shards : List ShardState) (k : ℕ) → IsFirstSpoiled shards (Some k) → IsLeastSpoiled (machine_of book shards) k
+least_spoiled book shards k (s, at, spoiled, before) = record {
+  progress = progress_of s;
+  at = slice_get-map progress_of shards k ∙ ap (option_map progress_of) at;
+  spoiled = spoiled;
+  least = λ j p lt e. (let t = progress_at shards j p e in ap (λ (q : Progress). q.spoiled) (sym t.2) ∙ before j t.0 lt t.1);
+}
+
+pub least_unsettled : (book : BookState) (shards : List ShardState) (n : ℕ) → ((s : ShardState) → Contains shards s → s.spoiled ≡ false) → IsLeastOf shards n → n < length book.journal
+    → IsLeastPosition (machine_of book shards) n
+least_unsettled book shards n whole least left = record {
+  whole = λ p c. (let m = Contains-from_map progress_of shards p c in ap (λ (q : Progress). q.spoiled) (sym m.2) ∙ whole m.0 m.1);
+  progress = progress_of least.0.0;
+  among = Contains-map progress_of shards least.0.0 least.0.1;
+  is = least.0.2;
+  least = λ p c. (let m = Contains-from_map progress_of shards p c in subst (λ (q : Progress). n ≤ q.position) m.2 (least.1 m.0 m.1));
+  left = left;
+}

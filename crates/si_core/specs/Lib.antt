@@ -1,0 +1,3 @@
+-- What the contracts of the core cite.
+pub mod Machine
+pub mod Worlds

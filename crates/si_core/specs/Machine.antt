@@ -1,0 +1,123 @@
+-- The machine of the core, as a relation: which reply a step may get and what it leaves, by cases. A state is the journal of
+-- accepted edits and, of each shard, how many of them it has applied and whether it is spoiled. The cases that say so need a
+-- growth of memory that was refused. All of it is this project's choice.
+use Rattle.std.specs.Prelude.{◌≡◌, ◌≢◌, ◌⊎◌, ℕ, zero, suc, ◌+◌, ◌<◌, ◌≤◌, Bool, true, false, List, [], ◌∷◌, ◌++◌, length, Some, None, replicate, slice_get, slice_set}
+use Rattle.std.specs.List.{Contains}
+use Rattle.si_model.specs.declared.edits.Edit.{Edit}
+use Rattle.si_model.specs.declared.refusals.Refusal.{Refusal}
+use Rattle.si_model.specs.Journals.{refusal_after}
+use Rattle.si_core.specs.declared.steps.Step.{Step}
+use Rattle.si_core.specs.declared.steps.Step.TheVariants as step
+use Rattle.si_core.specs.declared.steps.Reply.{Reply}
+use Rattle.si_core.specs.declared.steps.Reply.TheVariants as reply
+
+-- how far a shard is
+pub record Progress : Type 0 where
+  -- how many edits of the journal it has applied
+  pub position : ℕ
+  -- whether an edit wanted memory, and no rebuild came since
+  pub spoiled : Bool
+
+-- a state of the machine
+pub record Machine : Type 0 where
+  -- how many edits the journal may have
+  pub limit : ℕ
+  pub journal : List Edit
+  pub shards : List Progress
+
+-- before any step: so many shards, no edit
+abbrev pub opened : ℕ → ℕ → Machine
+opened shards limit = record { limit = limit; journal = []; shards = replicate shards (record { position = 0; spoiled = false }) }
+
+-- the state with that progress of the shard k
+abbrev pub with_progress : Machine → ℕ → Progress → Machine
+with_progress M k p = record M { shards = slice_set M.shards k p }
+
+-- ---- Accept
+
+-- the edit is refused by the first reason against it, and nothing changes; or it is accepted, and the reply is its number
+abbrev pub IsAccept : Machine → Edit → Reply → Machine → Type 0
+IsAccept M e r N =
+    ((f : Refusal) × (refusal_after M.limit M.journal e ≡ Some f) × (r ≡ reply.Refused f) × (N ≡ M))
+    ⊎ (((refusal_after M.limit M.journal e ≡ None) × (r ≡ reply.Accepted (record { 0 = length M.journal + 1 })) × (N ≡ record M { journal = M.journal ++ e ∷ [] }))
+    -- memory: nothing changes
+    ⊎ ((refusal_after M.limit M.journal e ≡ None) × (r ≡ reply.NoMemory) × (N ≡ M)))
+
+-- ---- Apply
+
+-- a shard that isn't spoiled and has an edit left applies the next one
+abbrev pub IsApplication : Machine → ℕ → Progress → Reply → Machine → Type 0
+IsApplication M k p r N =
+    ((r ≡ reply.Applied (p.position + 1)) × (N ≡ with_progress M k (record { position = p.position + 1; spoiled = false })))
+    -- memory: nothing changes, or the shard is spoiled from now on
+    ⊎ (((r ≡ reply.NoMemory) × (N ≡ M)) ⊎ ((r ≡ reply.Spoiled k) × (N ≡ with_progress M k (record { position = p.position; spoiled = true }))))
+
+-- the same of any shard that has an edit left
+abbrev pub IsApplicationOf : Machine → ℕ → Progress → Bool → Reply → Machine → Type 0
+IsApplicationOf M k p true r N = (r ≡ reply.Spoiled k) × (N ≡ M)
+IsApplicationOf M k p false r N = IsApplication M k p r N
+
+-- k is no shard, or one that has applied the whole journal
+abbrev pub IsIdle : Machine → ℕ → Type 0
+IsIdle M k = (slice_get M.shards k ≡ None) ⊎ ((p : Progress) × (slice_get M.shards k ≡ Some p) × (length M.journal ≤ p.position))
+
+-- nothing is left for the shard k and nothing changes, or it has an edit left
+abbrev pub IsApply : Machine → ℕ → Reply → Machine → Type 0
+IsApply M k r N = (IsIdle M k × (r ≡ reply.Idle) × (N ≡ M))
+    ⊎ ((p : Progress) × (slice_get M.shards k ≡ Some p) × (p.position < length M.journal) × IsApplicationOf M k p p.spoiled r N)
+
+-- ---- Settle
+
+-- so many applications of the shard k, one after the other
+abbrev pub AreApplied : ℕ → Machine → ℕ → Machine → Type 0
+AreApplied zero M k N = N ≡ M
+AreApplied (suc n) M k N = (p : ℕ) × (Q : Machine) × IsApply M k (reply.Applied p) Q × AreApplied n Q k N
+
+-- the reply isn't that an edit was applied
+abbrev pub IsOther : Reply → Type 0
+IsOther r = (p : ℕ) → r ≢ reply.Applied p
+
+-- the shard k applies until it gets another reply, which is r
+abbrev pub AppliesUntil : Machine → ℕ → Reply → Machine → Type 0
+AppliesUntil M k r N = (n : ℕ) × (Q : Machine) × AreApplied n M k Q × IsApply Q k r N × IsOther r
+
+-- the shards from k on, so many, apply until each is idle; the first other reply ends it
+abbrev pub SettlesFrom : ℕ → ℕ → Machine → Reply → Machine → Type 0
+SettlesFrom zero k M r N = (r ≡ reply.Settled (length M.journal)) × (N ≡ M)
+SettlesFrom (suc n) k M r N = ((Q : Machine) × AppliesUntil M k reply.Idle Q × SettlesFrom n (k + 1) Q r N) ⊎ ((r ≢ reply.Idle) × AppliesUntil M k r N)
+
+-- ---- steps and runs
+
+abbrev pub IsStep : Machine → Step → Reply → Machine → Type 0
+IsStep M (step.Accept e) r N = IsAccept M e r N
+IsStep M (step.Apply k) r N = IsApply M k r N
+IsStep M step.Settle r N = SettlesFrom (length M.shards) 0 M r N
+
+-- the steps, one after the other, with their replies
+abbrev pub IsRun : Machine → List Step → List Reply → Machine → Type 0
+IsRun M [] [] N = N ≡ M
+IsRun M [] (r ∷ rs) N = ⊥
+IsRun M (s ∷ ss) [] N = ⊥
+IsRun M (s ∷ ss) (r ∷ rs) N = (Q : Machine) × IsStep M s r Q × IsRun Q ss rs N
+
+-- ---- what is settled
+
+-- no shard is spoiled and each has applied the whole journal
+abbrev pub IsSettled : Machine → Type 0
+IsSettled M = (p : Progress) → Contains M.shards p → (p.spoiled ≡ false) × (p.position ≡ length M.journal)
+
+-- the least shard that is spoiled
+pub record IsLeastSpoiled (M : Machine) (k : ℕ) : Type 0 where
+  pub progress : Progress
+  pub at : slice_get M.shards k ≡ Some progress
+  pub spoiled : progress.spoiled ≡ true
+  pub least : (j : ℕ) (p : Progress) → j < k → slice_get M.shards j ≡ Some p → p.spoiled ≡ false
+
+-- no shard is spoiled, and this is the least position, which isn't the end of the journal
+pub record IsLeastPosition (M : Machine) (position : ℕ) : Type 0 where
+  pub whole : (p : Progress) → Contains M.shards p → p.spoiled ≡ false
+  pub progress : Progress
+  pub among : Contains M.shards progress
+  pub is : progress.position ≡ position
+  pub least : (p : Progress) → Contains M.shards p → position ≤ p.position
+  pub left : position < length M.journal

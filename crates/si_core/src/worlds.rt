@@ -1,0 +1,289 @@
+ghost use Rattle.std.specs.Prelude.{◌≡◌, ◌⊎◌, ◌↔◌, ℕ, ◌+◌, ◌<◌, ◌≤◌, true, false, [], Some, None, Option, Err, length, slice_get, IfOk, OnOk, IfErr, OnErr, ◌++◌};
+ghost use Rattle.std.specs.Option.{option_map};
+ghost use Rattle.si_model.specs.Findings.{findings};
+ghost use Rattle.si_model.specs.Form.{IsWellFormed};
+ghost use Rattle.si_model.specs.Journals.{IsAccepted, present};
+ghost use Rattle.si_graph.specs.Phenomena.{IsPlSi};
+ghost use Rattle.si_core.specs.Worlds.{AppliesNext, IsFaultOf, IsFirstSpoiled, IsLeastOf, IsShardOf, shard_findings};
+ghost use Rattle.std.specs.List.{Contains, flat_map};
+ghost use Rattle.si_model.specs.Order.{finding_cmp, in_order};
+ghost use Rattle.si_shard.specs.Shards.{ShardState};
+ghost use Rattle.si_core.specs.declared.steps.Reply.TheVariants as reply;
+ghost use Rattle.si_core.specs.declared.steps.WorldFault.TheVariants as fault;
+ghost use Rattle.si_core.specs.Machine.{AppliesUntil, IsAccept, IsApply, IsRun, IsSettled, IsStep, SettlesFrom, opened};
+
+use crate::{Reply, Step, WorldFault};
+use si_accept::{AcceptFault, Book};
+use si_graph::laws::emptiness_is_exact;
+use si_model::laws::order_is_strict;
+use si_model::sorting::put_in_order;
+use si_model::{Edit, Finding, Key, MOST_EDITS, Number, OutOfMemory, Txn, Value};
+use si_shard::{MOST_SHARDS, Shard};
+use std::alloc::{AllocError, Global};
+use std::marker::Model;
+
+/// The book and its shards on one thread.
+///
+/// Contracts see the state of the machine: the limit, the journal and how far each shard is.
+#[derive(Drop)]
+pub struct World {
+    alloc: Global,
+    book: Book,
+    shards: Vec<Shard>,
+}
+
+impl Model for World {
+    ghost use Rattle.si_core.specs.Machine.{Machine};
+    ghost use Rattle.si_core.specs.Worlds.{IsWorld, machine_of};
+
+    ghost Value = { Machine };
+
+    ghost view = { λ w. machine_of w.book w.shards.items };
+
+    ghost invariant = { λ w. IsWorld w.book w.shards.items };
+}
+
+impl World {
+    /// A machine with so many shards whose journal may have so many edits. Nothing is accepted yet.
+    pub fn new(alloc: Global, shards: usize, limit: usize) -> Result<Self, OutOfMemory>
+        requires some_shards { 1 ≤ shards }
+        requires most_shards { shards ≤ MOST_SHARDS }
+        requires some_edits { 1 ≤ limit }
+        requires most_edits { limit ≤ MOST_EDITS }
+        ensures { IfOk result (λ world. world ≡ opened shards limit) }
+    {
+        let mut all = Vec::new(alloc);
+        for shard in 0..shards {
+            all.push(Shard::new(alloc, shard, shards))?;
+        }
+        Ok(World {
+            alloc,
+            book: Book::new(alloc, limit),
+            shards: all,
+        })
+    }
+
+    /// Makes one step.
+    pub fn step(&mut self, step: Step) -> Reply
+        ensures { IsStep self.old step result self.new }
+    {
+        match step {
+            Step::Accept(edit) => self.accept(edit),
+            Step::Apply(shard) => self.apply(shard),
+            Step::Settle => self.settle(),
+        }
+    }
+
+    /// Makes the steps, one after the other, and answers with their replies.
+    ///
+    /// The room for the replies is taken first: where that is refused no step is made.
+    pub fn run(&mut self, steps: Vec<Step>) -> Result<Vec<Reply>, OutOfMemory>
+        ensures ok { IfOk result (λ replies. IsRun self.old steps.items replies.items self.new) }
+        ensures err { OnErr result (self.new ≡ self.old) }
+    {
+        let mut replies = Vec::with_capacity(self.alloc, steps.len())?;
+        for step in steps {
+            replies.push(self.step(step)).unwrap();
+        }
+        Ok(replies)
+    }
+
+    /// The findings of what is present, in order.
+    ///
+    /// They are had only where the machine is settled. Before that it answers [`WorldFault::Spoiled`] with the least shard that
+    /// is spoiled, and where none is [`WorldFault::Unsettled`] with the least position.
+    pub fn findings(&self) -> Result<Vec<Finding>, WorldFault>
+        ensures found { IfOk result (λ found. found.items ≡ findings (present self.now.journal)) }
+        ensures empty { IfOk result (λ found. (found.items ≡ []) ↔ (IsWellFormed (present self.now.journal) × IsPlSi (present self.now.journal))) }
+        ensures settled { OnOk result (IsSettled self.now) }
+        ensures fault { IfErr result (IsFaultOf self.now) }
+    {
+        let journal = self.book.journal();
+        if let Some(shard) = first_spoiled(self.shards.as_slice()) {
+            return Err(WorldFault::Spoiled(shard));
+        }
+        let position = least_position(self.shards.as_slice());
+        if position < journal.len() as u64 {
+            return Err(WorldFault::Unsettled(position));
+        }
+        let Ok(found) = findings_in_order(self.alloc, self.shards.as_slice()) else {
+            return Err(WorldFault::OutOfMemory);
+        };
+        emptiness_is_exact();
+        Ok(found)
+    }
+
+    /// Copies of the present transactions, in the order of arrival, which share the operations.
+    pub fn present(&self) -> Result<Vec<Txn>, OutOfMemory>
+        ensures { IfOk result (λ txns. txns.items ≡ (present self.now.journal).txns) }
+    {
+        self.book.present()
+    }
+
+    /// Copies of the keys that were set up with their values, in the order of arrival.
+    pub fn initial(&self) -> Result<Vec<(Key, Value)>, OutOfMemory>
+        ensures { IfOk result (λ initial. initial.items ≡ (present self.now.journal).initial) }
+    {
+        self.book.initial()
+    }
+
+    /// How many transactions are present.
+    pub fn len(&self) -> usize
+        ensures { result ≡ length (present self.now.journal).txns }
+    {
+        self.book.len()
+    }
+
+    /// How many shards there are.
+    pub fn shards(&self) -> usize
+        ensures { result ≡ length self.now.shards }
+    {
+        self.shards.len()
+    }
+
+    /// How many edits the shard of this number has applied, if there is one.
+    pub fn position(&self, shard: usize) -> Option<u64>
+        ensures { result ≡ option_map (λ p. p.position) (slice_get self.now.shards shard) }
+    {
+        match self.shards.get(shard) {
+            Some(shard) => Some(shard.position()),
+            None => None,
+        }
+    }
+
+    fn accept(&mut self, edit: Edit) -> Reply
+        ensures { IsAccept self.old edit result self.new }
+    {
+        match self.book.accept(edit) {
+            Ok(number) => Reply::Accepted(number),
+            Err(AcceptFault::Refused(refusal)) => Reply::Refused(refusal),
+            Err(AcceptFault::OutOfMemory) => Reply::NoMemory,
+        }
+    }
+
+    fn apply(&mut self, shard: usize) -> Reply
+        ensures { IsApply self.old shard result self.new }
+    {
+        if shard >= self.shards.len() {
+            return Reply::Idle;
+        }
+        apply_next(self.book.journal(), &mut self.shards[shard], shard)
+    }
+
+    fn settle(&mut self) -> Reply
+        ensures { SettlesFrom (length self.old.shards) 0 self.old result self.new }
+    {
+        for shard in 0..self.shards.len() {
+            let reply = self.apply_all(shard);
+            if !is_idle(reply) {
+                return reply;
+            }
+        }
+        Reply::Settled(self.book.journal().len() as u64)
+    }
+
+    /// Lets the shard apply until it gets another reply.
+    fn apply_all(&mut self, shard: usize) -> Reply
+        ensures { AppliesUntil self.old shard result self.new }
+    {
+        for _applied in 0..self.book.journal().len() {
+            let reply = self.apply(shard);
+            if !is_applied(reply) {
+                return reply;
+            }
+        }
+        Reply::Idle
+    }
+}
+
+/// Lets the shard, which has this number, apply the next edit of the journal.
+fn apply_next(journal: &[Edit], shard: &mut Shard, number: usize) -> Reply
+    requires accepted { IsAccepted journal.now }
+    requires shard { IsShardOf journal.now shard.old.id.shards number shard.old }
+    ensures { AppliesNext journal.now number shard.old result shard.new }
+{
+    let position = shard.position();
+    let Some(edit) = journal.get(position as usize) else {
+        return Reply::Idle;
+    };
+    if shard.is_spoiled() {
+        return Reply::Spoiled(number);
+    }
+    let Ok(edit) = edit.try_clone() else {
+        return Reply::NoMemory;
+    };
+    match shard.apply(Number(position + 1), edit) {
+        Ok(()) => Reply::Applied(position + 1),
+        Err(_) => Reply::Spoiled(number),
+    }
+}
+
+fn is_applied(told: Reply) -> bool
+    ensures { (result ≡ true) ↔ ((p : ℕ) × (told ≡ reply.Applied p)) }
+{
+    match told {
+        Reply::Applied(_) => true,
+        _ => false,
+    }
+}
+
+fn is_idle(told: Reply) -> bool
+    ensures { (result ≡ true) ↔ (told ≡ reply.Idle) }
+{
+    match told {
+        Reply::Idle => true,
+        _ => false,
+    }
+}
+
+/// The least shard that is spoiled.
+fn first_spoiled(shards: &[Shard]) -> Option<usize>
+    ensures { IsFirstSpoiled shards.now result }
+{
+    for number in 0..shards.len() {
+        if shards[number].is_spoiled() {
+            return Some(number);
+        }
+    }
+    None
+}
+
+/// The least position of a shard.
+fn least_position(shards: &[Shard]) -> u64
+    requires { 1 ≤ length shards.now }
+    ensures { IsLeastOf shards.now result }
+{
+    let mut least = shards[0].position();
+    for number in 1..shards.len() {
+        let position = shards[number].position();
+        if position < least {
+            least = position;
+        }
+    }
+    least
+}
+
+/// The findings of the shards, of which none is spoiled, put in order.
+fn findings_in_order(alloc: Global, shards: &[Shard]) -> Result<Vec<Finding>, OutOfMemory>
+    requires { (s : ShardState) → Contains shards.now s → s.spoiled ≡ false }
+    ensures { IfOk result (λ found. found.items ≡ in_order finding_cmp (flat_map shard_findings shards.now)) }
+{
+    let mut found = Vec::new(alloc);
+    for shard in shards {
+        add_findings(shard, &mut found)?;
+    }
+    order_is_strict();
+    put_in_order(&mut found);
+    Ok(found)
+}
+
+fn add_findings(shard: &Shard, found: &mut Vec<Finding>) -> Result<(), OutOfMemory>
+    requires { shard.now.spoiled ≡ false }
+    ensures { OnOk result (found.new.items ≡ found.old.items ++ shard_findings shard.now) }
+{
+    let Ok(mut more) = shard.findings() else {
+        return Err(AllocError);
+    };
+    found.append(&mut more)?;
+    Ok(())
+}
