@@ -6,33 +6,29 @@ use Rattle.si_accept.proofs.SlotLemmas.{set_same}
 use Rattle.si_core.specs.declared.steps.Step.{Step}
 use Rattle.si_core.specs.declared.steps.Reply.{Reply}
 use Rattle.si_core.specs.declared.steps.Reply.TheVariants as reply
-use Rattle.si_core.specs.Machine.{AppliesUntil, AreApplied, IsApplicationOf, IsApply, IsIdle, IsRun, IsStep, Machine, Progress, SettlesFrom, with_progress}
+use Rattle.si_core.specs.Laws.{JournalStays}
+use Rattle.si_core.specs.Machine.{AppliesUntil, AreApplied, IsApplicationOf, IsApply, IsIdle, IsRun, IsStep, LeavesJournal, Machine, Progress, SettlesFrom, with_progress}
 
 -- ---- what an application leaves
 
--- it changes no journal, and as many shards stay
-pub record StaysBeside (M N : Machine) : Type 0 where
-  pub journal : N.journal ≡ M.journal
-  pub shards : length N.shards ≡ length M.shards
+beside_itself : (M N : Machine) → N ≡ M → LeavesJournal M N
+beside_itself M N e = record { limit = ap (λ P. P.limit) e; journal = ap (λ P. P.journal) e; shards = ap (λ P. length P.shards) e }
 
-beside_itself : (M N : Machine) → N ≡ M → StaysBeside M N
-beside_itself M N e = record { journal = ap (λ P. P.journal) e; shards = ap (λ P. length P.shards) e }
+beside_progress : (M : Machine) (k : ℕ) (p : Progress) (N : Machine) → N ≡ with_progress M k p → LeavesJournal M N
+beside_progress M k p N e = record { limit = ap (λ P. P.limit) e; journal = ap (λ P. P.journal) e; shards = ap (λ P. length P.shards) e ∙ length-set M.shards k p }
 
-beside_progress : (M : Machine) (k : ℕ) (p : Progress) (N : Machine) → N ≡ with_progress M k p → StaysBeside M N
-beside_progress M k p N e = record { journal = ap (λ P. P.journal) e; shards = ap (λ P. length P.shards) e ∙ length-set M.shards k p }
-
-beside_by : (M N : Machine) (k : ℕ) (p : Progress) (r : Reply) (b : Bool) → IsApplicationOf M k p b r N → StaysBeside M N
+beside_by : (M N : Machine) (k : ℕ) (p : Progress) (r : Reply) (b : Bool) → IsApplicationOf M k p b r N → LeavesJournal M N
 beside_by M N k p r true a = beside_itself M N a.1
 beside_by M N k p r false (inl a) = beside_progress M k _ N a.1
 beside_by M N k p r false (inr (inl a)) = beside_itself M N a.1
 beside_by M N k p r false (inr (inr a)) = beside_progress M k _ N a.1
 
-pub apply_beside : (M N : Machine) (k : ℕ) (r : Reply) → IsApply M k r N → StaysBeside M N
+pub apply_beside : (M N : Machine) (k : ℕ) (r : Reply) → IsApply M k r N → LeavesJournal M N
 apply_beside M N k r (inl a) = beside_itself M N a.2
 apply_beside M N k r (inr a) = beside_by M N k a.0 r a.0.spoiled a.3
 
-pub beside_both : (M N P : Machine) → StaysBeside M N → StaysBeside N P → StaysBeside M P
-beside_both M N P a b = record { journal = b.journal ∙ a.journal; shards = b.shards ∙ a.shards }
+pub beside_both : (M N P : Machine) → LeavesJournal M N → LeavesJournal N P → LeavesJournal M P
+beside_both M N P a b = record { limit = b.limit ∙ a.limit; journal = b.journal ∙ a.journal; shards = b.shards ∙ a.shards }
 
 -- ---- how far the shard is
 
@@ -81,11 +77,11 @@ one_more_step M N P (t ∷ ss) (q ∷ rs) s r (Q, first, rest) next = (Q, first,
 
 -- ---- settling
 
-pub many_beside : (n : ℕ) (M N : Machine) (k : ℕ) → AreApplied n M k N → StaysBeside M N
+pub many_beside : (n : ℕ) (M N : Machine) (k : ℕ) → AreApplied n M k N → LeavesJournal M N
 many_beside zero M N k e = beside_itself M N e
 many_beside (suc n) M N k (p, Q, first, rest) = beside_both M Q N (apply_beside M Q k (reply.Applied p) first) (many_beside n Q N k rest)
 
-pub until_beside : (M N : Machine) (k : ℕ) (r : Reply) → AppliesUntil M k r N → StaysBeside M N
+pub until_beside : (M N : Machine) (k : ℕ) (r : Reply) → AppliesUntil M k r N → LeavesJournal M N
 until_beside M N k r (n, Q, many, last, other) = beside_both M Q N (many_beside n M Q k many) (apply_beside Q N k r last)
 
 -- what the shards from k on make of M settles K, of which those before k are settled
@@ -110,5 +106,15 @@ settles_all K k start M le with_ = with_ (reply.Settled (length M.journal)) M (s
 pub settles_first : (K : ℕ) (M : Machine) → SettlesWith K 0 M M
 settles_first K M r N s = subst (λ n. SettlesFrom n 0 M r N) (let e : K - 0 ≡ K = omega arith in e) s
 
-pub beside_start : (M : Machine) → StaysBeside M M
+pub beside_start : (M : Machine) → LeavesJournal M M
 beside_start M = beside_itself M M refl
+
+pub settles_beside : (n k : ℕ) (M N : Machine) (r : Reply) → SettlesFrom n k M r N → LeavesJournal M N
+settles_beside zero k M N r e = beside_itself M N e.1
+settles_beside (suc n) k M N r (inl (Q, until, rest)) = beside_both M Q N (until_beside M Q k reply.Idle until) (settles_beside n (k + 1) Q N r rest)
+settles_beside (suc n) k M N r (inr e) = until_beside M N k r e.1
+
+-- ---- the law
+
+pub journal_stays : JournalStays
+journal_stays M r N = ((λ k e. apply_beside M N k r e), (λ e. settles_beside (length M.shards) 0 M N r e))

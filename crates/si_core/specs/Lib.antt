@@ -1,3 +1,4 @@
 -- What the contracts of the core cite.
 pub mod Machine
 pub mod Worlds
+pub mod Laws

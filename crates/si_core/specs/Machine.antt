@@ -121,3 +121,11 @@ pub record IsLeastPosition (M : Machine) (position : ℕ) : Type 0 where
   pub is : progress.position ≡ position
   pub least : (p : Progress) → Contains M.shards p → position ≤ p.position
   pub left : position < length M.journal
+
+-- ---- what a step leaves
+
+-- from M to N the limit and the journal stay, and there are as many shards
+pub record LeavesJournal (M N : Machine) : Type 0 where
+  pub limit : N.limit ≡ M.limit
+  pub journal : N.journal ≡ M.journal
+  pub shards : length N.shards ≡ length M.shards

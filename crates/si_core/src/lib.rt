@@ -5,6 +5,7 @@
 //! `si_model`, `si_graph`, `si_accept` and `si_shard`.
 #![tactic(auto)]
 
+pub mod laws;
 pub mod steps;
 pub mod worlds;
 
