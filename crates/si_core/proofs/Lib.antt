@@ -4,3 +4,5 @@ pub mod Opening
 pub mod Applications
 pub mod Least
 pub mod Settled
+pub mod Alike
+pub mod Soundness

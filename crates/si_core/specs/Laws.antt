@@ -1,9 +1,28 @@
 -- The laws of the machine, each the contract of a public function of `laws` with an empty body. They are this project's.
-use Rattle.std.specs.Prelude.{ℕ}
+use Rattle.std.specs.Prelude.{◌≡◌, ◌↔◌, ℕ, List, ◌++◌, length}
+use Rattle.si_core.specs.declared.steps.Step.{Step}
 use Rattle.si_core.specs.declared.steps.Reply.{Reply}
 use Rattle.si_core.specs.declared.steps.Step.TheVariants as step
-use Rattle.si_core.specs.Machine.{IsStep, LeavesJournal, Machine}
+use Rattle.si_core.specs.Machine.{IsRun, IsSound, IsStep, LeavesJournal, Machine, TellNoWant, opened}
 
 -- no application and no settling changes the limit or the journal, or how many shards there are
 abbrev pub JournalStays : Type 0
 JournalStays = (M : Machine) (r : Reply) (N : Machine) → ((k : ℕ) → IsStep M (step.Apply k) r N → LeavesJournal M N) × (IsStep M step.Settle r N → LeavesJournal M N)
+
+-- where no memory was refused a run is one function of where it begins and its steps
+abbrev pub RunIsFunction : Type 0
+RunIsFunction = (M : Machine) (steps : List Step) (rs ts : List Reply) (N P : Machine) → IsRun M steps rs N → IsRun M steps ts P → TellNoWant rs → TellNoWant ts → (rs ≡ ts) × (N ≡ P)
+
+-- every state that a run reaches from the beginning is sound, and has the limit and the shards that it was opened with
+abbrev pub ReachedIsSound : Type 0
+ReachedIsSound = (shards limit : ℕ) (steps : List Step) (rs : List Reply) (N : Machine) → IsRun (opened shards limit) steps rs N
+    → IsSound N × (N.limit ≡ limit) × (length N.shards ≡ shards)
+
+-- a sound state is left sound by every run
+abbrev pub RunsKeepSound : Type 0
+RunsKeepSound = (M : Machine) (steps : List Step) (rs : List Reply) (N : Machine) → IsRun M steps rs N → IsSound M → IsSound N
+
+-- a run is one of its first steps and then one of the others
+abbrev pub RunsJoin : Type 0
+RunsJoin = (M N : Machine) (first others : List Step) (rs : List Reply)
+    → IsRun M (first ++ others) rs N ↔ ((before after : List Reply) × (Q : Machine) × (rs ≡ before ++ after) × IsRun M first before Q × IsRun Q others after N)

@@ -5,7 +5,7 @@ use Rattle.std.specs.Prelude.{◌≡◌, ◌≢◌, ◌⊎◌, ℕ, zero, suc, �
 use Rattle.std.specs.List.{Contains}
 use Rattle.si_model.specs.declared.edits.Edit.{Edit}
 use Rattle.si_model.specs.declared.refusals.Refusal.{Refusal}
-use Rattle.si_model.specs.Journals.{refusal_after}
+use Rattle.si_model.specs.Journals.{IsAccepted, refusal_after}
 use Rattle.si_core.specs.declared.steps.Step.{Step}
 use Rattle.si_core.specs.declared.steps.Step.TheVariants as step
 use Rattle.si_core.specs.declared.steps.Reply.{Reply}
@@ -129,3 +129,22 @@ pub record LeavesJournal (M N : Machine) : Type 0 where
   pub limit : N.limit ≡ M.limit
   pub journal : N.journal ≡ M.journal
   pub shards : length N.shards ≡ length M.shards
+
+-- ---- replies where no memory was refused
+
+-- the reply doesn't tell that the growth of some memory was refused
+abbrev pub TellsNoWant : Reply → Type 0
+TellsNoWant r = (r ≢ reply.NoMemory) × ((k : ℕ) → r ≢ reply.Spoiled k)
+
+-- none of the replies tells that
+abbrev pub TellNoWant : List Reply → Type 0
+TellNoWant rs = (r : Reply) → Contains rs r → TellsNoWant r
+
+-- ---- what is so in every state that runs reach
+
+pub record IsSound (M : Machine) : Type 0 where
+  pub accepted : IsAccepted M.journal
+  pub within : length M.journal ≤ M.limit
+  -- a shard has applied no more than there is, and a spoiled one has an edit left
+  pub positions : (p : Progress) → Contains M.shards p → p.position ≤ length M.journal
+  pub left : (p : Progress) → Contains M.shards p → p.spoiled ≡ true → p.position < length M.journal
