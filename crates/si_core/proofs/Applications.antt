@@ -7,7 +7,7 @@ use Rattle.si_core.specs.declared.steps.Step.{Step}
 use Rattle.si_core.specs.declared.steps.Reply.{Reply}
 use Rattle.si_core.specs.declared.steps.Reply.TheVariants as reply
 use Rattle.si_core.specs.Laws.{JournalStays}
-use Rattle.si_core.specs.Machine.{AppliesUntil, AreApplied, IsApplicationOf, IsApply, IsIdle, IsRun, IsStep, LeavesJournal, Machine, Progress, SettlesFrom, with_progress}
+use Rattle.si_core.specs.Machine.{AppliesUntil, AreApplied, IsApplicationOf, IsApply, IsIdle, IsRun, IsStep, LeavesJournal, Machine, Progress, SettlesFrom, TellsPosition, with_progress}
 
 -- ---- what an application leaves
 
@@ -66,6 +66,21 @@ one_more_applied n M N P k p done next = subst (λ m. AreApplied m M k P) (let s
     by : (m : ℕ) (Q : Machine) → AreApplied m Q k N → AreApplied (suc m) Q k P
     by zero Q e = (p, P, subst (λ R. IsApply R k (reply.Applied p) P) e next, refl)
     by (suc m) Q (q, R, first, rest) = (q, R, first, by m R rest)
+
+-- ---- how far it came
+
+told_by : (M N : Machine) (k m : ℕ) (p : Progress) (b : Bool) → slice_get M.shards k ≡ Some p → IsApplicationOf M k p b (reply.Applied m) N → TellsPosition N k (reply.Applied m)
+told_by M N k m p true at a = cc a.0
+told_by M N k m p false at (inl a) =
+    let new : Progress = record { position = p.position + 1; spoiled = false } in
+    (new, ap (λ P. slice_get P.shards k) a.1 ∙ set_same M.shards k new p at, a.0)
+told_by M N k m p false at (inr (inl a)) = cc a.0
+told_by M N k m p false at (inr (inr a)) = cc a.0
+
+-- the reply to an application tells how far the shard is after it
+pub told_position : (M N : Machine) (k m : ℕ) → IsApply M k (reply.Applied m) N → TellsPosition N k (reply.Applied m)
+told_position M N k m (inl a) = cc a.1
+told_position M N k m (inr a) = told_by M N k m a.0 a.0.spoiled a.1 a.3
 
 -- ---- runs
 

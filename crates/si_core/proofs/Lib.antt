@@ -6,3 +6,4 @@ pub mod Least
 pub mod Settled
 pub mod Alike
 pub mod Soundness
+pub mod ManySteps

@@ -11,7 +11,7 @@ use Rattle.si_accept.proofs.SlotLemmas.{set_other, set_same}
 use Rattle.si_shard.specs.Shards.{ShardState}
 use Rattle.si_shard.specs.declared.shards.TheConstants.{MOST_SHARDS}
 use Rattle.si_core.specs.declared.steps.Reply.{Reply}
-use Rattle.si_core.specs.Machine.{IsApplicationOf, IsApply, Progress}
+use Rattle.si_core.specs.Machine.{IsApplicationOf, IsApply, IsRebuilt, Progress, with_progress}
 use Rattle.si_core.specs.Worlds.{AppliesLeft, AppliesNext, IsShardOf, IsWorld, machine_of, progress_of}
 
 -- what stands at k put there again changes nothing
@@ -42,24 +42,41 @@ module _ (J : List Edit) (k : ℕ) (s t : ShardState) (n : ℕ) where
       by false (inr (inl e)) = subst (IsShardOf J n k) (sym e.1) is
       by false (inr (inr e)) = subst (IsShardOf J n k) (sym e.1) (record { number = is.number; count = is.count; begins = is.begins; within = is.within })
 
--- ---- the machine after it
+-- ---- another state of a shard
 
-module _ (book : BookState) (shards : List ShardState) (k : ℕ) (s t : ShardState) (at : slice_get shards k ≡ Some s) (r : Reply) (step : AppliesNext book.journal k s r t) where
-  at_progress : slice_get (map progress_of shards) k ≡ Some (progress_of s)
+module _ (book : BookState) (shards : List ShardState) (k : ℕ) (s t : ShardState) (at : slice_get shards k ≡ Some s) where
+  pub at_progress : slice_get (map progress_of shards) k ≡ Some (progress_of s)
   at_progress = slice_get-map progress_of shards k ∙ ap (option_map progress_of) at
 
+  -- the machine changes in its progress alone
+  pub progressed : (p : Progress) → progress_of t ≡ p → machine_of book (slice_set shards k t) ≡ with_progress (machine_of book shards) k p
+  progressed p e = ap (λ l. record { limit = book.limit; journal = book.journal; shards = l }) (map-set progress_of shards k t ∙ ap (slice_set (map progress_of shards) k) e)
+
+  -- a world stays one where the other state has stored a beginning of the journal too
+  pub world_put : IsShardOf book.journal (length shards) k t → IsWorld book shards → IsWorld book (slice_set shards k t)
+  world_put is w = record {
+    some = subst (λ m. 1 ≤ m) (sym (length-set shards k t)) w.some;
+    most = subst (λ m. m ≤ MOST_SHARDS) (sym (length-set shards k t)) w.most;
+    each = λ j u e. subst (λ m. IsShardOf book.journal m j u) (sym (length-set shards k t)) (by j u (cases_eq j k) e);
+  }
+    where
+      by : (j : ℕ) (u : ShardState) → (j ≡ k) ⊎ (j ≢ k) → slice_get (slice_set shards k t) j ≡ Some u → IsShardOf book.journal (length shards) j u
+      by j u (inl same) e =
+          let new : t ≡ u = same_some (sym (set_same shards k t s at) ∙ ap (slice_get (slice_set shards k t)) (sym same) ∙ e) in
+          subst (λ i. IsShardOf book.journal (length shards) i u) (sym same) (subst (IsShardOf book.journal (length shards) k) new is)
+      by j u (inr other) e = w.each j u (sym (set_other shards k j t other) ∙ e)
+
+-- ---- the machine after an application
+
+module _ (book : BookState) (shards : List ShardState) (k : ℕ) (s t : ShardState) (at : slice_get shards k ≡ Some s) (r : Reply) (step : AppliesNext book.journal k s r t) where
   -- nothing changes where the shard doesn't
   unchanged : t ≡ s → machine_of book (slice_set shards k t) ≡ machine_of book shards
   unchanged e = ap (machine_of book) (ap (slice_set shards k) e ∙ set_again shards k s at)
 
-  -- and else its progress alone
-  progressed : (p : Progress) → progress_of t ≡ p → machine_of book (slice_set shards k t) ≡ record { limit = book.limit; journal = book.journal; shards = slice_set (map progress_of shards) k p }
-  progressed p e = ap (λ l. record { limit = book.limit; journal = book.journal; shards = l }) (map-set progress_of shards k t ∙ ap (slice_set (map progress_of shards) k) e)
-
   pub applies : IsApply (machine_of book shards) k r (machine_of book (slice_set shards k t))
   applies = elim step [
-    | inl idle ↦ inl (inr (progress_of s, at_progress, idle.0), idle.1, unchanged idle.2)
-    | inr left ↦ inr (progress_of s, at_progress, left.0, by s.spoiled refl left.0 left.1)
+    | inl idle ↦ inl (inr (progress_of s, at_progress book shards k s t at, idle.0), idle.1, unchanged idle.2)
+    | inr left ↦ inr (progress_of s, at_progress book shards k s t at, left.0, by s.spoiled refl left.0 left.1)
   ]
     where
       by : (b : Bool) → s.spoiled ≡ b → length s.stored < length book.journal → AppliesLeft book.journal k s b r t
@@ -70,24 +87,31 @@ module _ (book : BookState) (shards : List ShardState) (k : ℕ) (s t : ShardSta
           let long : length (take (length s.stored + 1) book.journal) ≡ length s.stored + 1 = length-take-le (length s.stored + 1) book.journal within in
           inl (
             e.0,
-            progressed (record { position = length s.stored + 1; spoiled = false })
+            progressed book shards k s t at (record { position = length s.stored + 1; spoiled = false })
                 (ap progress_of e.1 ∙ ap (λ m. record { position = m; spoiled = s.spoiled }) long ∙ ap (λ b. record { position = length s.stored + 1; spoiled = b }) is),
           )
       by false is lt (inr (inl e)) = inr (inl (e.0, unchanged e.1))
-      by false is lt (inr (inr e)) = inr (inr (e.0, progressed (record { position = length s.stored; spoiled = true }) (ap progress_of e.1)))
+      by false is lt (inr (inr e)) = inr (inr (e.0, progressed book shards k s t at (record { position = length s.stored; spoiled = true }) (ap progress_of e.1)))
 
   pub world_still : IsWorld book shards → IsWorld book (slice_set shards k t)
-  world_still w = record {
-    some = subst (λ m. 1 ≤ m) (sym (length-set shards k t)) w.some;
-    most = subst (λ m. m ≤ MOST_SHARDS) (sym (length-set shards k t)) w.most;
-    each = λ j u e. subst (λ m. IsShardOf book.journal m j u) (sym (length-set shards k t)) (by j u (cases_eq j k) e);
-  }
-    where
-      by : (j : ℕ) (u : ShardState) → (j ≡ k) ⊎ (j ≢ k) → slice_get (slice_set shards k t) j ≡ Some u → IsShardOf book.journal (length shards) j u
-      by j u (inl same) e =
-          let is : t ≡ u = same_some (sym (set_same shards k t s at) ∙ ap (slice_get (slice_set shards k t)) (sym same) ∙ e) in
-          subst (λ i. IsShardOf book.journal (length shards) i u) (sym same) (subst (IsShardOf book.journal (length shards) k) is (stores_still book.journal k s t (length shards) r (w.each k s at) step))
-      by j u (inr other) e = w.each j u (sym (set_other shards k j t other) ∙ e)
+  world_still w = world_put book shards k s t at (stores_still book.journal k s t (length shards) r (w.each k s at) step) w
+
+-- ---- a rebuild
+
+-- a shard that isn't spoiled any more stores what it stored
+pub whole_again : (J : List Edit) (n k : ℕ) (s : ShardState) → IsShardOf J n k s → IsShardOf J n k (record s { spoiled = false })
+whole_again J n k s is = record { number = is.number; count = is.count; begins = is.begins; within = is.within }
+
+module _ (book : BookState) (shards : List ShardState) (k : ℕ) (s t : ShardState) (at : slice_get shards k ≡ Some s) where
+  pub rebuilt_world : {T E : Type 0} (r : Result T E) → OnOk r (t ≡ record s { spoiled = false }) → OnErr r (t ≡ s) → IsWorld book shards → IsWorld book (slice_set shards k t)
+  rebuilt_world (Ok u) ok err w = world_put book shards k s t at (subst (IsShardOf book.journal (length shards) k) (sym ok) (whole_again book.journal (length shards) k s (w.each k s at))) w
+  rebuilt_world (Err f) ok err w = world_put book shards k s t at (subst (IsShardOf book.journal (length shards) k) (sym err) (w.each k s at)) w
+
+  pub rebuilt : {T E : Type 0} (r : Result T E) → OnOk r (t ≡ record s { spoiled = false }) → OnOk r (IsRebuilt (machine_of book shards) k (machine_of book (slice_set shards k t)))
+  rebuilt (Ok u) ok =
+      let new : Progress = record { position = length s.stored; spoiled = false } in
+      (progress_of s, at_progress book shards k s t at, progressed book shards k s t at new (ap progress_of ok))
+  rebuilt (Err f) ok = ok
 
 -- ---- one more edit in the journal
 

@@ -14,7 +14,7 @@ use Rattle.si_core.specs.declared.steps.Step.{Step}
 use Rattle.si_core.specs.declared.steps.Step.TheVariants as step
 use Rattle.si_core.specs.declared.steps.Reply.{Reply}
 use Rattle.si_core.specs.declared.steps.Reply.TheVariants as reply
-use Rattle.si_core.specs.Laws.{ReachedIsSound, RunsJoin, RunsKeepSound}
+use Rattle.si_core.specs.Laws.{ReachedIsSound, RebuildKeepsSound, RunsJoin, RunsKeepSound}
 use Rattle.si_core.specs.Machine.{AppliesUntil, AreApplied, IsAccept, IsApplicationOf, IsApply, IsRun, IsSound, IsStep, Machine, Progress, SettlesFrom, opened, with_progress}
 use Rattle.si_core.proofs.Applications.{apply_beside, settles_beside}
 
@@ -85,6 +85,13 @@ sound_by M k p false r N at left (inr (inr e)) sound =
 sound_apply : (M : Machine) (k : ℕ) (r : Reply) (N : Machine) → IsApply M k r N → IsSound M → IsSound N
 sound_apply M k r N (inl e) sound = subst IsSound (sym e.2) sound
 sound_apply M k r N (inr (p, at, left, e)) sound = sound_by M k p p.spoiled r N at left e sound
+
+-- ---- a rebuild
+
+pub rebuild_keeps_sound : RebuildKeepsSound
+rebuild_keeps_sound M k N (p, at, is) sound =
+    let new : Progress = record p { spoiled = false } in
+    subst IsSound (sym is) (sound_put M k p new at (sound.positions p (get_contains M.shards k p at)) (λ s. absurd (true≢false (sym s))) sound)
 
 -- ---- Settle
 

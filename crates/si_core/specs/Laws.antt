@@ -1,9 +1,11 @@
 -- The laws of the machine, each the contract of a public function of `laws` with an empty body. They are this project's.
-use Rattle.std.specs.Prelude.{◌≡◌, ◌↔◌, ℕ, List, ◌++◌, length}
+use Rattle.std.specs.Prelude.{◌≡◌, ◌⊎◌, ◌↔◌, ℕ, ◌≤◌, List, [], ◌∷◌, ◌++◌, length, replicate}
+use Rattle.std.specs.List.{Contains}
 use Rattle.si_core.specs.declared.steps.Step.{Step}
 use Rattle.si_core.specs.declared.steps.Reply.{Reply}
 use Rattle.si_core.specs.declared.steps.Step.TheVariants as step
-use Rattle.si_core.specs.Machine.{IsRun, IsSound, IsStep, LeavesJournal, Machine, TellNoWant, opened}
+use Rattle.si_core.specs.declared.steps.Reply.TheVariants as reply
+use Rattle.si_core.specs.Machine.{AppliesMany, IsOther, IsRebuilt, IsRun, IsSound, IsStep, LeavesJournal, Machine, TellNoWant, opened}
 
 -- no application and no settling changes the limit or the journal, or how many shards there are
 abbrev pub JournalStays : Type 0
@@ -26,3 +28,17 @@ RunsKeepSound = (M : Machine) (steps : List Step) (rs : List Reply) (N : Machine
 abbrev pub RunsJoin : Type 0
 RunsJoin = (M N : Machine) (first others : List Step) (rs : List Reply)
     → IsRun M (first ++ others) rs N ↔ ((before after : List Reply) × (Q : Machine) × (rs ≡ before ++ after) × IsRun M first before Q × IsRun Q others after N)
+
+-- a sound state is left sound by a rebuild
+abbrev pub RebuildKeepsSound : Type 0
+RebuildKeepsSound = (M : Machine) (k : ℕ) (N : Machine) → IsRebuilt M k N → IsSound M → IsSound N
+
+-- the answer to many applications, whose replies these are: the last one that tells that an edit was applied, or the only one where none was
+abbrev pub IsAnswerOf : List Reply → Reply → Type 0
+IsAnswerOf rs r = (IsOther r × (rs ≡ r ∷ []))
+    ⊎ ((p : ℕ) × (r ≡ reply.Applied p) × (before after : List Reply) × (rs ≡ before ++ r ∷ after) × ((s : Reply) → Contains after s → IsOther s))
+
+-- many applications of a shard are a run of one step to apply at least, and so many at most
+abbrev pub ManyAreRun : Type 0
+ManyAreRun = (most : ℕ) (M : Machine) (k : ℕ) (r : Reply) (N : Machine) → 1 ≤ most → AppliesMany most M k r N
+    → (rs : List Reply) × (1 ≤ length rs) × (length rs ≤ most) × IsRun M (replicate (length rs) (step.Apply k)) rs N × IsAnswerOf rs r

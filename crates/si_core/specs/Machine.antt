@@ -100,6 +100,23 @@ IsRun M [] (r ∷ rs) N = ⊥
 IsRun M (s ∷ ss) [] N = ⊥
 IsRun M (s ∷ ss) (r ∷ rs) N = (Q : Machine) × IsStep M s r Q × IsRun Q ss rs N
 
+-- ---- what comes beside the steps
+
+-- the shard k isn't spoiled any more, and nothing else changes
+abbrev pub IsRebuilt : Machine → ℕ → Machine → Type 0
+IsRebuilt M k N = (p : Progress) × (slice_get M.shards k ≡ Some p) × (N ≡ with_progress M k (record p { spoiled = false }))
+
+-- the reply tells how many edits the shard k has applied
+abbrev pub TellsPosition : Machine → ℕ → Reply → Type 0
+TellsPosition M k r = (p : Progress) × (slice_get M.shards k ≡ Some p) × (r ≡ reply.Applied p.position)
+
+-- the shard k applies until most were applied, or until it gets another reply; the reply tells how far it came, or is that other one where
+-- nothing was applied
+abbrev pub AppliesMany : ℕ → Machine → ℕ → Reply → Machine → Type 0
+AppliesMany most M k r N = (n : ℕ) × (Q : Machine) × AreApplied n M k Q
+    × (((n ≡ most) × (N ≡ Q) × TellsPosition Q k r)
+    ⊎ ((n < most) × (other : Reply) × IsOther other × IsApply Q k other N × (((n ≡ 0) × (r ≡ other)) ⊎ ((1 ≤ n) × TellsPosition Q k r))))
+
 -- ---- what is settled
 
 -- no shard is spoiled and each has applied the whole journal

@@ -1,6 +1,6 @@
 //! The laws of the machine. Each is the contract of a function with an empty body: to call one is to have its fact.
 
-ghost use Rattle.si_core.specs.Laws.{JournalStays, ReachedIsSound, RunIsFunction, RunsJoin, RunsKeepSound};
+ghost use Rattle.si_core.specs.Laws.{JournalStays, ManyAreRun, ReachedIsSound, RebuildKeepsSound, RunIsFunction, RunsJoin, RunsKeepSound};
 
 /// No application and no settling changes the limit or the journal, or how many shards there are.
 pub fn journal_stays()
@@ -26,4 +26,15 @@ pub fn runs_keep_sound()
 /// A run is one of its first steps and then one of the others, so what is so at the end of each run is so after each step.
 pub fn runs_join()
     ensures { RunsJoin }
+{}
+
+/// A state where that is so stays such a one under a rebuild.
+pub fn rebuild_keeps_sound()
+    ensures { RebuildKeepsSound }
+{}
+
+/// Many applications at once are a run of single ones, between one and as many as were asked for, and the answer is the last
+/// reply that tells of an application, or the only reply where none does.
+pub fn many_are_run()
+    ensures { ManyAreRun }
 {}

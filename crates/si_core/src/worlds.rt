@@ -10,7 +10,7 @@ ghost use Rattle.si_model.specs.Order.{finding_cmp, in_order};
 ghost use Rattle.si_shard.specs.Shards.{ShardState};
 ghost use Rattle.si_core.specs.declared.steps.Reply.TheVariants as reply;
 ghost use Rattle.si_core.specs.declared.steps.WorldFault.TheVariants as fault;
-ghost use Rattle.si_core.specs.Machine.{AppliesUntil, IsAccept, IsApply, IsRun, IsSettled, IsStep, SettlesFrom, opened};
+ghost use Rattle.si_core.specs.Machine.{AppliesMany, AppliesUntil, IsAccept, IsApply, IsRebuilt, IsRun, IsSettled, IsStep, SettlesFrom, opened};
 
 use crate::{Reply, Step, WorldFault};
 use si_accept::{AcceptFault, Book};
@@ -86,6 +86,39 @@ impl World {
             replies.push(self.step(step)).unwrap();
         }
         Ok(replies)
+    }
+
+    /// Lets the shard apply edits, one after the other, until so many were applied or a reply isn't [`Reply::Applied`].
+    ///
+    /// It answers with the last [`Reply::Applied`], or with that other reply where nothing was applied. So where an edit after the
+    /// first wants memory the answer doesn't tell it. A shard that was spoiled then says so at the next call.
+    pub fn apply_many(&mut self, shard: usize, most: u64) -> Reply
+        requires { 1 ≤ most }
+        ensures { AppliesMany most self.old shard result self.new }
+    {
+        let mut last = self.apply(shard);
+        if !is_applied(last) {
+            return last;
+        }
+        for _applied in 1..most {
+            let reply = self.apply(shard);
+            if !is_applied(reply) {
+                return last;
+            }
+            last = reply;
+        }
+        last
+    }
+
+    /// Makes all that the shard knows anew from the edits that it has applied, and so ends a spoiled state.
+    ///
+    /// For want of memory everything stays as it was.
+    pub fn rebuild(&mut self, shard: usize) -> Result<(), OutOfMemory>
+        requires { shard < length self.old.shards }
+        ensures ok { OnOk result (IsRebuilt self.old shard self.new) }
+        ensures err { OnErr result (self.new ≡ self.old) }
+    {
+        self.shards[shard].rebuild()
     }
 
     /// The findings of what is present, in order.
