@@ -11,8 +11,10 @@ use Rattle.si_cli.specs.declared.statuses.ExitStatus.{ExitStatus}
 use Rattle.si_cli.specs.Outputs.{SourcedItem, sourced, from_source, Terms, Progress, start, progress_after, progress_through, report_at, item_text, items_text, output_of, status_at, status_of}
 use Rattle.si_text.specs.declared.line_buffers.InputFault.{InputFault}
 use Rattle.si_text.specs.declared.line_buffers.InputFault.TheVariants as input
+use Rattle.si_cli.specs.declared.faults.RunFault.{RunFault}
+use Rattle.si_cli.specs.declared.faults.RunFault.TheVariants as fault
 use Rattle.si_cli.specs.Faults.{fault_of_input}
-use Rattle.si_cli.specs.Runs.{WritesOutput, MayBeTooLong, IsTrueFault}
+use Rattle.si_cli.specs.Runs.{IsFaultOfWriting, WritesOutput, MayBeTooLong, IsTrueFault}
 
 -- ---- the texts of items, one more at the end
 
@@ -170,3 +172,9 @@ many_items terms (Some bytes) written n a w p way most = by a way.read
 pub input_fault : (left : Option (List ℕ)) (source_failed writer_failed : Bool) (fault : InputFault) → (fault ≡ input.DeviceFailed → (source_failed ≡ true) ⊎ MayBeTooLong left) → IsTrueFault left source_failed writer_failed (fault_of_input fault)
 input_fault left f w input.DeviceFailed h = (refl, h refl)
 input_fault left f w input.OutOfMemory h = tt
+
+-- so is one of writing
+pub writing_fault : (left : Option (List ℕ)) (source_failed writer_failed : Bool) (fault : RunFault) → IsFaultOfWriting writer_failed fault → IsTrueFault left source_failed writer_failed fault
+writing_fault left f w (fault.Input source) h = absurd h
+writing_fault left f w fault.Output h = h
+writing_fault left f w fault.Memory h = tt

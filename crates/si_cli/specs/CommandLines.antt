@@ -9,8 +9,10 @@ use Rattle.clap.specs.declared.error.kind.ErrorKind.TheVariants.{OutOfMemory}
 use Rattle.clap.specs.Words.{App, HasKind, IsUnsignedIn, kind_of, Row, Rule, Text}
 use Rattle.clap.specs.Words.{all_of, fault_of, first_of, new_app, new_rule, one_of, subcommand_of, with_rule, with_subcommand}
 use Rattle.si_model.specs.declared.edits.TheConstants.{MOST_EDITS}
+use Rattle.si_shard.specs.declared.shards.TheConstants.{MOST_SHARDS}
 use Rattle.si_cli.specs.declared.command_lines.TheConstants.{MOST_EVERY}
 use Rattle.si_cli.specs.declared.options.Options.{Options}
+use Rattle.si_cli.specs.declared.options.TheConstants.{USUAL_SHARDS}
 use Rattle.si_cli.specs.declared.settings.TheConstants.{MOST_FILES}
 use Rattle.si_cli.specs.declared.settings.Settings.{Settings}
 use Rattle.si_cli.specs.declared.settings.SettingsFault.{SettingsFault}
@@ -18,9 +20,17 @@ use Rattle.si_cli.specs.declared.settings.SettingsFault.TheVariants.{Line, TooMa
 
 -- ---- the command
 
--- `--every N`, a number from 1 on that isn't too great
+-- an option with a number from 1 to the greatest
+abbrev pub number_rule : Text → ℕ → Rule
+number_rule name most = record (new_rule name) { long = Some name; value_names = 1; action = Some Set; parser = Some (Unsigned 1 most) }
+
+-- `--shards K`
+abbrev pub shards_rule : Rule
+shards_rule = number_rule (codes "shards") MOST_SHARDS
+
+-- `--every N`
 abbrev pub every_rule : Rule
-every_rule = record (new_rule (codes "every")) { long = Some (codes "every"); value_names = 1; action = Some Set; parser = Some (Unsigned 1 MOST_EVERY) }
+every_rule = number_rule (codes "every") MOST_EVERY
 
 -- `--explain`
 abbrev pub explain_rule : Rule
@@ -32,7 +42,7 @@ file_rule = record (new_rule (codes "FILE")) { action = Some Append }
 
 -- the subcommand
 abbrev pub check_app : App
-check_app = with_rule (with_rule (with_rule (new_app (codes "check")) every_rule) explain_rule) file_rule
+check_app = with_rule (with_rule (with_rule (with_rule (new_app (codes "check")) shards_rule) every_rule) explain_rule) file_rule
 
 -- the program before its subcommand is added, which has to be given
 abbrev pub top_app : App
@@ -52,9 +62,17 @@ rows_given words = option_map_or (λ sub. sub.1) (subcommand_of sicheck_app word
 abbrev pub number_of : Text → ℕ
 number_of text = digits_value 10 (without_leading_plus text)
 
+-- the number of the option of that name
+abbrev pub number_given : Text → List Row → Option ℕ
+number_given name rows = option_map number_of (one_of name rows)
+
+-- the K of `--shards K`
+abbrev pub shards_given : List Row → ℕ
+shards_given rows = unwrap_or (number_given (codes "shards") rows) USUAL_SHARDS
+
 -- the N of `--every N`
 abbrev pub every_given : List Row → Option ℕ
-every_given rows = option_map number_of (one_of (codes "every") rows)
+every_given rows = number_given (codes "every") rows
 
 -- whether `--explain` is there
 abbrev pub explain_given : List Row → Bool
@@ -66,7 +84,7 @@ files_given rows = unwrap_or (all_of (codes "FILE") rows) []
 
 -- the options that the words ask for, with what holds where they ask for nothing
 abbrev pub options_given : List Row → Options
-options_given rows = record { shards = 4; every = every_given rows; explain = explain_given rows; limit = MOST_EDITS }
+options_given rows = record { shards = shards_given rows; every = every_given rows; explain = explain_given rows; limit = MOST_EDITS }
 
 -- reports come after a number of items in that range, if they come on the way
 abbrev pub IsEveryInRange : Option ℕ → Type 0
@@ -75,6 +93,7 @@ IsEveryInRange every = IfSome every (λ n. (1 ≤ n) × (n ≤ MOST_EVERY))
 -- what settings say of the rows
 pub record IsGiven (rows : List Row) (settings : Settings) : Type 0 where
   pub options : settings.options ≡ options_given rows
+  pub shards : (1 ≤ settings.options.shards) × (settings.options.shards ≤ MOST_SHARDS)
   pub every : IsEveryInRange settings.options.every
   pub files : map (λ file. file.now) settings.files.items ≡ files_given rows
   pub few : length (files_given rows) ≤ MOST_FILES
@@ -86,9 +105,14 @@ IsToldBy words (Ok settings) = (fault_of sicheck_app words ≡ []) × IsGiven (r
 IsToldBy words (Err (Line error)) = HasKind (fault_of sicheck_app words) error
 IsToldBy words (Err TooManyFiles) = (fault_of sicheck_app words ≡ []) × (MOST_FILES < length (files_given (rows_given words)))
 
--- the number of `--every` is in its range
-abbrev pub EveryFits : List Row → Type 0
-EveryFits rows = (text : Text) → one_of (codes "every") rows ≡ Some text → IsUnsignedIn 1 MOST_EVERY text
+-- the number of the option of that name is in its range
+abbrev pub NumberFits : Text → ℕ → List Row → Type 0
+NumberFits name most rows = (text : Text) → one_of name rows ≡ Some text → IsUnsignedIn 1 most text
+
+-- the numbers of `--shards` and `--every` are in their ranges
+pub record NumbersFit (rows : List Row) : Type 0 where
+  pub shards : NumberFits (codes "shards") MOST_SHARDS rows
+  pub every : NumberFits (codes "every") MOST_EVERY rows
 
 -- what reading the rows gives: the settings, too many files, or want of memory
 abbrev pub IsReadOf : List Row → Result Settings SettingsFault → Type 0

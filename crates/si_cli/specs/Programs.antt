@@ -1,22 +1,13 @@
 -- How the program ends.
-use Rattle.std.specs.Prelude.{◌≡◌, ◌≤◌, ◌⊎◌, ℕ, List, [], Option}
+use Rattle.std.specs.Prelude.{◌≡◌, ◌⊎◌, ℕ, List, [], Option}
 use Rattle.clap.specs.declared.error.Error.{Error}
 use Rattle.clap.specs.declared.error.kind.ErrorKind.TheVariants.{DisplayHelp, DisplayVersion}
 use Rattle.clap.specs.Words.{IsAmong, Text, fault_of, kind_of}
 use Rattle.si_model.specs.declared.edits.TheConstants.{MOST_EDITS}
-use Rattle.si_cli.specs.declared.options.Options.{Options}
 use Rattle.si_cli.specs.declared.statuses.ExitStatus.{ExitStatus}
 use Rattle.si_cli.specs.CommandLines.{every_given, explain_given, files_given, rows_given, sicheck_app}
 use Rattle.si_cli.specs.Outputs.{Terms, exit_code}
 use Rattle.si_cli.specs.Runs.{WritesOutput}
-
--- the options are in range
-abbrev pub IsRunnable : Options → Type 0
-IsRunnable options = (1 ≤ options.limit) × (options.limit ≤ MOST_EDITS)
-
--- what the options say of the text
-abbrev pub terms_by : Options → Terms
-terms_by options = record { limit = options.limit; every = options.every; explain = options.explain }
 
 -- clap was asked for a text, which is no fault
 abbrev pub IsAskedFor : Error → Type 0

@@ -2,10 +2,24 @@
 use Rattle.std.specs.Prelude.{◌≡◌, ◌⊎◌, ℕ, ◌-◌, ◌^◌, ◌≤◌, Bool, true, List, length, Option, Some, None, ⊤}
 use Rattle.std.specs.Io.KnownBytes.{Appends}
 use Rattle.si_text.specs.Inputs.{items_of}
+use Rattle.si_model.specs.declared.edits.TheConstants.{MOST_EDITS}
+use Rattle.si_shard.specs.declared.shards.TheConstants.{MOST_SHARDS}
+use Rattle.si_cli.specs.declared.options.Options.{Options}
 use Rattle.si_cli.specs.declared.statuses.ExitStatus.{ExitStatus}
 use Rattle.si_cli.specs.declared.faults.RunFault.{RunFault}
 use Rattle.si_cli.specs.declared.faults.RunFault.TheVariants as fault
 use Rattle.si_cli.specs.Outputs.{Terms, from_source, output_of, status_of}
+
+-- the options are in range
+pub record IsRunnable (options : Options) : Type 0 where
+  pub some_shards : 1 ≤ options.shards
+  pub most_shards : options.shards ≤ MOST_SHARDS
+  pub some_edits : 1 ≤ options.limit
+  pub most_edits : options.limit ≤ MOST_EDITS
+
+-- what the options say of the text: nothing of the shards, so their number changes none
+abbrev pub terms_by : Options → Terms
+terms_by options = record { limit = options.limit; every = options.every; explain = options.explain }
 
 -- where the input's bytes are known, what was written is the text of its items, as far as the writer tells, and so is the status
 abbrev pub WritesOutput : Terms → Option (List ℕ) → Option (List ℕ) → Option (List ℕ) → ExitStatus → Type 0
@@ -23,3 +37,9 @@ abbrev pub IsTrueFault : Option (List ℕ) → Bool → Bool → RunFault → Ty
 IsTrueFault left source_failed writer_failed (fault.Input source) = (source ≡ 0) × ((source_failed ≡ true) ⊎ MayBeTooLong left)
 IsTrueFault left source_failed writer_failed fault.Output = writer_failed ≡ true
 IsTrueFault left source_failed writer_failed fault.Memory = ⊤
+
+-- a fault of writing: the writer has failed, or memory was refused
+abbrev pub IsFaultOfWriting : Bool → RunFault → Type 0
+IsFaultOfWriting writer_failed (fault.Input source) = ⊥
+IsFaultOfWriting writer_failed fault.Output = writer_failed ≡ true
+IsFaultOfWriting writer_failed fault.Memory = ⊤

@@ -1,11 +1,15 @@
 ghost use Rattle.std.specs.Prelude.{◌≡◌, IfOk, map, false};
 ghost use Rattle.clap.specs.Words.{FailsBy, app_of, fault_of, rule_of, subcommand_of, subcommand_rows_of};
-ghost use Rattle.si_cli.specs.CommandLines.{every_rule, explain_rule, file_rule, sicheck_app};
+ghost use Rattle.si_cli.specs.CommandLines.{every_rule, explain_rule, file_rule, number_rule, shards_rule, sicheck_app};
 
 use clap::builder::ValueParser;
 use clap::{Arg, ArgAction, ArgMatches, Command};
+use si_shard::MOST_SHARDS;
 use std::alloc::{AllocError, Global};
 use std::convert::AsStr;
+
+/// The id of the option that says how many shards there are.
+pub const SHARDS: &str = "shards";
 
 /// The id of the option that asks for reports on the way.
 pub const EVERY: &str = "every";
@@ -21,7 +25,7 @@ pub const FILE: &str = "FILE";
 
 const ABOUT: &str = "Checks a history of transactions against snapshot isolation.";
 
-const USAGE: &str = "sicheck check [--every N] [--explain] [FILE]";
+const USAGE: &str = "sicheck check [--shards K] [--every N] [--explain] [FILE]";
 
 const INPUT: &str = "\
 The input has one JSON value a line; lines may come late and out of order:
@@ -78,6 +82,7 @@ fn command<'a>(alloc: Global) -> Result<Command<'a>, AllocError>
         .about("Checks the history in FILE, or on standard input where none is named")
         .override_usage(USAGE)
         .after_help(manual())
+        .arg(shards(alloc))?
         .arg(every(alloc))?
         .arg(explain(alloc))?
         .arg(file(alloc))?;
@@ -92,6 +97,19 @@ fn command<'a>(alloc: Global) -> Result<Command<'a>, AllocError>
 /// in each step.
 fn manual() -> &'static str {
     INPUT
+}
+
+/// The option that says how many shards the findings are kept in.
+fn shards<'a>(alloc: Global) -> Arg<'a>
+    ensures rule { rule_of result ≡ shards_rule }
+    ensures local { result.global ≡ false }
+{
+    Arg::new(alloc, SHARDS)
+        .long("shards")
+        .value_name("K")
+        .action(ArgAction::Set)
+        .value_parser(ValueParser::unsigned(1, MOST_SHARDS as u64))
+        .help("Uses K shards, 1 to 16 (else 4), with the same output")
 }
 
 /// The option that asks for a report after each so many lines.

@@ -1,7 +1,7 @@
 //! The checker's engine and its command line.
 //!
 //! It carries the promise that what a run writes is the text that the definitions give for the items of its input. It
-//! stands on `si_model` for findings, on `si_text` for lines, texts and devices, and on `si_accept` for the book.
+//! stands on `si_text` for lines, texts and devices, and on `si_core` for the book and the findings.
 #![tactic(auto)]
 
 mod command_lines;

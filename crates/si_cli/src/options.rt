@@ -1,3 +1,6 @@
+/// How many shards there are where nothing asks for another number.
+pub const USUAL_SHARDS: usize = 4;
+
 /// How a run reports.
 #[derive(Clone, Copy, Debug, PartialEq, Eq)]
 pub struct Options {

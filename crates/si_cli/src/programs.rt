@@ -1,5 +1,6 @@
 ghost use Rattle.std.specs.Prelude.{◌≡◌, false, map};
-ghost use Rattle.si_cli.specs.Programs.{EndsCheck, EndsLine, EndsProgram, IsRunnable, terms_by};
+ghost use Rattle.si_cli.specs.Programs.{EndsCheck, EndsLine, EndsProgram};
+ghost use Rattle.si_cli.specs.Runs.{IsRunnable, terms_by};
 
 use crate::settings::{SettingsFault, settings_of};
 use crate::writing::write_all;

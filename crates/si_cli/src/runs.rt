@@ -1,41 +1,58 @@
-ghost use Rattle.std.specs.Prelude.{◌≡◌, ◌<◌, ◌≤◌, ℕ, false, IfOk, IfErr};
-ghost use Rattle.si_cli.specs.Runs.{WritesOutput, IsTrueFault};
-ghost use Rattle.si_cli.specs.Outputs.{Terms};
+ghost use Rattle.std.specs.Prelude.{◌≡◌, false, IfOk, IfErr, OnOk};
+ghost use Rattle.std.specs.Io.KnownBytes.{Appends};
+ghost use Rattle.si_cli.specs.Engines.{progress_of, terms_of};
+ghost use Rattle.si_cli.specs.Outputs.{report_at, status_at};
+ghost use Rattle.si_cli.specs.Runs.{IsFaultOfWriting, IsRunnable, IsTrueFault, WritesOutput, terms_by};
 
 use crate::engines::Engine;
 use crate::writing::write_all;
 use crate::{ExitStatus, Options, RunFault};
-use si_model::MOST_EDITS;
 use si_text::{ByteSink, ByteSource, LineBuffer};
 use std::alloc::Global;
 
-/// Checks the one input, and writes the refusals, the reports on the way and the last report.
+/// Checks the one input, and writes the refusals, the reports on the way and the last report. The text is one function of the
+/// input, whatever the number of shards.
 pub fn run<S: ByteSource, W: ByteSink>(
     alloc: Global,
     source: &mut S,
     writer: &mut W,
     options: Options,
 ) -> Result<ExitStatus, RunFault>
-    requires some { 1 ≤ options.limit }
-    requires most { options.limit ≤ MOST_EDITS }
+    requires options { IsRunnable options }
     requires source { S.failed source.old ≡ false }
     requires writer { W.failed writer.old ≡ false }
-    ensures output { IfOk result (λ status. WritesOutput (record { limit = options.limit; every = options.every; explain = options.explain })
+    ensures output { IfOk result (λ status. WritesOutput (terms_by options)
         (S.left source.old) (W.written writer.old) (W.written writer.new) status) }
     ensures fault { IfErr result (IsTrueFault (S.left source.old) (S.failed source.new) (W.failed writer.new)) }
 {
     let mut lines = LineBuffer::new(alloc)?;
-    let mut engine = Engine::new(alloc, options);
+    let mut engine = Engine::new(alloc, options)?;
     let mut text = Vec::new(alloc);
     'items: for _turn in 0..u64::MAX {
         text.clear();
         let Some(item) = lines.next_item(source)? else {
-            let verdict = engine.report(&mut text)?;
-            write_all(writer, &text)?;
-            return Ok(ExitStatus::of(verdict, engine.refused()));
+            let status = finish(&mut engine, &mut text, writer)?;
+            return Ok(status);
         };
         engine.decide(&mut text, 0, item)?;
         write_all(writer, &text)?;
     }
     Err(RunFault::Input(0))
+}
+
+/// Writes the last report in the place of this text, and answers the status.
+fn finish<W: ByteSink>(
+    engine: &mut Engine,
+    text: &mut Vec<u8>,
+    writer: &mut W,
+) -> Result<ExitStatus, RunFault>
+    requires { W.failed writer.old ≡ false }
+    ensures written { OnOk result (Appends (W.written writer.old) (W.written writer.new) (report_at (terms_of engine.old) (progress_of engine.old))) }
+    ensures status { IfOk result (λ status. status ≡ status_at (progress_of engine.old)) }
+    ensures fault { IfErr result (IsFaultOfWriting (W.failed writer.new)) }
+{
+    text.clear();
+    let verdict = engine.report(text)?;
+    write_all(writer, text)?;
+    Ok(ExitStatus::of(verdict, engine.refused()))
 }

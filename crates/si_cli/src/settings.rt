@@ -1,11 +1,13 @@
-ghost use Rattle.std.specs.Prelude.{◌≡◌, map, false, IfOk};
+ghost use Rattle.std.specs.Prelude.{◌≡◌, ◌≤◌, ℕ, map, false, IfOk};
 ghost use Rattle.clap.specs.Words.{found_of, rows_of};
-ghost use Rattle.si_cli.specs.CommandLines.{IsToldBy, IsReadOf, EveryFits, files_given, every_given, explain_given};
+ghost use Rattle.si_cli.specs.CommandLines.{IsToldBy, IsReadOf, NumberFits, NumbersFit, files_given, every_given, explain_given, number_given, shards_given};
 
 use crate::Options;
-use crate::command_lines::{EVERY, EXPLAIN, FILE, parse};
+use crate::command_lines::{EVERY, EXPLAIN, FILE, SHARDS, parse};
+use crate::options::USUAL_SHARDS;
 use clap::ArgMatches;
 use si_model::MOST_EDITS;
+use si_shard::MOST_SHARDS;
 use std::alloc::{AllocError, Global};
 use std::convert::AsStr;
 use std::fmt;
@@ -43,8 +45,9 @@ impl std::error::Error for SettingsFault {}
 
 /// What the words of a command line ask for, of which the first is the program's name.
 ///
-/// They are `sicheck check [--every N] [--explain] [FILE]`, with N from 1 to `MOST_EVERY`. A fault is one that `clap`'s definition of the
-/// command tells of the words, or want of memory, or that they name too many files.
+/// They are `sicheck check [--shards K] [--every N] [--explain] [FILE]`, with K from 1 to `MOST_SHARDS`, `USUAL_SHARDS` where it isn't
+/// given, and N from 1 to `MOST_EVERY`. A fault is one that `clap`'s definition of the command tells of the words, or want of
+/// memory, or that they name too many files.
 pub fn settings_of<'a, S: AsStr>(
     alloc: Global,
     words: &'a [S],
@@ -58,7 +61,7 @@ pub fn settings_of<'a, S: AsStr>(
     match matches.subcommand() {
         Some((_, check)) => read(alloc, check),
         None => Ok(Settings {
-            options: options(None, false),
+            options: options(USUAL_SHARDS, None, false),
             files: Vec::new(alloc),
         }),
     }
@@ -66,7 +69,7 @@ pub fn settings_of<'a, S: AsStr>(
 
 /// What the arguments of the subcommand ask for.
 fn read<'a>(alloc: Global, check: &ArgMatches<'a>) -> Result<Settings<'a>, SettingsFault>
-    requires { EveryFits (rows_of (found_of check.now)) }
+    requires { NumbersFit (rows_of (found_of check.now)) }
     ensures { IsReadOf (rows_of (found_of check.now)) result }
 {
     let Ok(files) = files_of(alloc, check) else {
@@ -75,7 +78,7 @@ fn read<'a>(alloc: Global, check: &ArgMatches<'a>) -> Result<Settings<'a>, Setti
     if files.len() > MOST_FILES {
         return Err(SettingsFault::TooManyFiles);
     }
-    let options = options(every_of(check), is_explained(check));
+    let options = options(shards_of(check), every_of(check), is_explained(check));
     Ok(Settings { options, files })
 }
 
@@ -89,12 +92,32 @@ fn files_of<'a>(alloc: Global, check: &ArgMatches<'a>) -> Result<Vec<&'a str>, A
     }
 }
 
+/// The number of the option `--shards`.
+fn shards_of(check: &ArgMatches<'_>) -> usize
+    requires { NumbersFit (rows_of (found_of check.now)) }
+    ensures given { result ≡ shards_given (rows_of (found_of check.now)) }
+    ensures range { (1 ≤ result) × (result ≤ MOST_SHARDS) }
+{
+    match number_of(check, SHARDS) {
+        Some(shards) => shards as usize,
+        None => USUAL_SHARDS,
+    }
+}
+
 /// The number of the option `--every`.
 fn every_of(check: &ArgMatches<'_>) -> Option<u64>
-    requires { EveryFits (rows_of (found_of check.now)) }
+    requires { NumbersFit (rows_of (found_of check.now)) }
     ensures { result ≡ every_given (rows_of (found_of check.now)) }
 {
-    check.get_one::<u64>(EVERY)
+    number_of(check, EVERY)
+}
+
+/// The number of the option of that name, which has to lie in a range.
+fn number_of(check: &ArgMatches<'_>, name: &str) -> Option<u64>
+    requires { (most : ℕ) × NumberFits name.now most (rows_of (found_of check.now)) }
+    ensures { result ≡ number_given name.now (rows_of (found_of check.now)) }
+{
+    check.get_one::<u64>(name)
 }
 
 /// Whether evidence is asked for.
@@ -107,12 +130,12 @@ fn is_explained(check: &ArgMatches<'_>) -> bool
     }
 }
 
-/// The program's options, with reports after each so many items, and with evidence or without.
-fn options(every: Option<u64>, explain: bool) -> Options
-    ensures { result ≡ record { shards = 4; every = every; explain = explain; limit = MOST_EDITS } }
+/// The program's options, with so many shards, reports after each so many items, and with evidence or without.
+fn options(shards: usize, every: Option<u64>, explain: bool) -> Options
+    ensures { result ≡ record { shards = shards; every = every; explain = explain; limit = MOST_EDITS } }
 {
     Options {
-        shards: 4,
+        shards,
         every,
         explain,
         limit: MOST_EDITS,

@@ -37,6 +37,7 @@ fn check_text(
     assert!(rt; 1 <= piece);
     let mut source = MemorySource::new(Vec::from_slice(alloc, input.as_bytes())?, piece);
     let mut sink = MemorySink::new(alloc, piece);
+    assert!(rt; 1 <= options.shards && options.shards <= 16);
     assert!(rt; 1 <= options.limit && options.limit <= 16_777_216);
     let ended = run(alloc, &mut source, &mut sink, options).ok();
     assert_eq!(rt; ended, Some(status));
@@ -44,7 +45,7 @@ fn check_text(
     Ok(())
 }
 
-/// The same, by bytes one at a time and all at once.
+/// The same, by bytes one at a time, and all at once with any number of shards.
 fn check_with(
     rt: &impl Abort,
     alloc: Global,
@@ -54,7 +55,11 @@ fn check_with(
     status: ExitStatus,
 ) -> Result<(), Fail> {
     check_text(rt, alloc, 1, options, input, output, status)?;
-    check_text(rt, alloc, 65536, options, input, output, status)
+    for shards in [1, 4, 16] {
+        let sharded = Options { shards, ..options };
+        check_text(rt, alloc, 65536, sharded, input, output, status)?;
+    }
+    Ok(())
 }
 
 /// The same, with reports after each so many lines.

@@ -1,14 +1,12 @@
 ghost use Rattle.std.specs.Prelude.{◌≡◌, ◌++◌, decimal, codes, length, OnOk, OnErr, IfOk};
 ghost use Rattle.std.specs.List.{flat_map};
-ghost use Rattle.si_model.specs.Parts.{Present};
-ghost use Rattle.si_model.specs.Findings.{findings};
 ghost use Rattle.si_text.specs.Texts.{code_text, fault_text, finding_lines, finding_text, key_text, kind_text, own_text, read_text, reading_text, reason_text, refusal_text, refused_text, report_text, summary_text, verdict_of};
 
 use crate::explaining::explanation_line;
 use crate::{LineFault, Reason, Verdict};
 use itoa::Buffer;
 use serde_json::Value;
-use si_model::{Finding, Key, Kind, OutOfMemory, Refusal, Txn, TxnId};
+use si_model::{Finding, Key, Kind, OutOfMemory, Refusal, TxnId};
 use std::alloc::Global;
 
 /// Appends the line of a finding. For want of memory the bytes are as before.
@@ -37,29 +35,24 @@ pub fn print_refusal(
     out.extend_from_slice(&line)
 }
 
-/// Appends a report: the findings, each in its line, and the summary of the transactions that are present, the findings
-/// and how many items were refused so far. With `explain` each finding that is a violation is followed by the line of its
-/// evidence. The answer is the verdict that the summary tells. For want of memory the bytes are as before.
-///
-/// The findings have to be those of the transactions and the keys that were set up. The latter are printed nowhere: they
-/// are a parameter so that the contract can say so.
+/// Appends a report: the findings, each in its line, and the summary: how many transactions are present, how many findings
+/// there are, and how many items were refused so far. With `explain` each finding that is a violation is followed by the line
+/// of its evidence. The answer is the verdict that the summary tells. For want of memory the bytes are as before.
 pub fn print_report(
     alloc: Global,
     out: &mut Vec<u8>,
-    txns: &[Txn],
-    _initial: &[(Key, si_model::Value)],
+    transactions: usize,
     found: &[Finding],
     refused: u64,
     explain: bool,
 ) -> Result<Verdict, OutOfMemory>
-    requires { found.now ≡ findings (record { txns = txns.now; initial = _initial.now }) }
     ensures verdict { IfOk result (λ verdict. verdict ≡ verdict_of found.now) }
     ensures ok { OnOk result
-        (out.new.items ≡ out.old.items ++ report_text explain (length txns.now) found.now refused) }
+        (out.new.items ≡ out.old.items ++ report_text explain transactions found.now refused) }
     ensures err { OnErr result (out.new.items ≡ out.old.items) }
 {
     let verdict = Verdict::of(found);
-    let report = report_lines(alloc, txns.len(), found, refused, verdict, explain)?;
+    let report = report_lines(alloc, transactions, found, refused, verdict, explain)?;
     out.extend_from_slice(&report)?;
     Ok(verdict)
 }

@@ -73,6 +73,6 @@ fn help_tells_how_to_log(rt: HostRuntime) -> Result<(), Fail> {
         tells(&rt, alloc, words, TO_LOG.as_slice())?;
         tells(&rt, alloc, words, KINDS.as_slice())?;
     }
-    let given = ["Usage: sicheck check [--every N] [--explain] [FILE]\n"];
+    let given = ["Usage: sicheck check [--shards K] [--every N] [--explain] [FILE]\n"];
     tells(&rt, alloc, check.as_slice(), given.as_slice())
 }

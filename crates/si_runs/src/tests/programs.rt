@@ -53,13 +53,36 @@ fn command_lines(rt: HostRuntime) -> Result<(), Fail> {
         "--every=16777217",
         "--every=-1",
         "--every=1.0",
-        "--shards=4",
+        "--shards",
+        "--shards=0",
+        "--shards=17",
+        "--shards=x",
         "--explain=1",
     ] {
         ends(&rt, alloc, &["sicheck", "check", option], 2, false, true)?;
     }
+    ends(
+        &rt,
+        alloc,
+        &["sicheck", "check", "--shards=16"],
+        20,
+        true,
+        false,
+    )?;
     let twice = ["sicheck", "check", "--every=1", "--every=2"];
     ends(&rt, alloc, twice.as_slice(), 2, false, true)?;
+    Ok(())
+}
+
+/// The settings that these words ask for have so many shards.
+fn asks_for_shards(
+    rt: &impl Abort,
+    alloc: Global,
+    words: &[&str],
+    shards: usize,
+) -> Result<(), Fail> {
+    let settings = settings_of(alloc, words)?;
+    assert_eq!(rt; settings.options, Options { shards, ..PLAIN });
     Ok(())
 }
 
@@ -115,6 +138,9 @@ fn what_words_ask_for(rt: HostRuntime) -> Result<(), Fail> {
     asks(&rt, alloc, explained.as_slice(), None, true, &["a"])?;
     let all = ["sicheck", "check", "a", "--every=3", "--explain"];
     asks(&rt, alloc, all.as_slice(), Some(3), true, &["a"])?;
+    asks_for_shards(&rt, alloc, &["sicheck", "check"], 4)?;
+    asks_for_shards(&rt, alloc, &["sicheck", "check", "--shards", "1"], 1)?;
+    asks_for_shards(&rt, alloc, &["sicheck", "check", "--shards=16"], 16)?;
     let two = settings_of(alloc, ["sicheck", "check", "a", "b"].as_slice());
     assert!(rt; matches!(two, Err(SettingsFault::TooManyFiles)));
     Ok(())

@@ -249,7 +249,7 @@ fn check_explained(
     assert!(rt; is_history(txns, initial));
     let findings = findings_of(alloc, txns, initial)?;
     let mut out = Vec::new(alloc);
-    let verdict = print_report(alloc, &mut out, txns, initial, &findings, refused, explain)?;
+    let verdict = print_report(alloc, &mut out, txns.len(), &findings, refused, explain)?;
     assert_eq!(rt; out.as_slice(), text.as_bytes());
     assert_eq!(rt; verdict, Verdict::of(&findings));
     Ok(())

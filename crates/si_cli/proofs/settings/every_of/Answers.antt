@@ -1,12 +1,5 @@
-use Rattle.std.proofs.Common.{◌∙◌, codes}
-use Rattle.std.specs.Str.Parse.{ParsesUnsigned, ExplainsUnsignedError, HasUnsignedDigitsIfOk}
-use Rattle.clap.specs.Words.{found_of, rows_of}
-use Rattle.clap.proofs.WalkLemmas.{one_text-rows}
-use Rattle.si_cli.proofs.GivenValues.{every_reads}
+use Rattle.si_cli.specs.declared.command_lines.TheConstants.{MOST_EVERY}
 use Rattle.si_cli.proofs.settings.every_of.Goals as goal
 
-pub returns : goal.returns
-returns c = every_reads _ (λ bs r. ParsesUnsigned 64 10 bs r × ExplainsUnsignedError 10 bs r × HasUnsignedDigitsIfOk bs r) (rows_of (found_of c.args.check.now)) c.get_one.result
-    (λ none. c.get_one.ensures.none (one_text-rows (found_of c.args.check.now) (codes "every") ∙ none))
-    (λ text some. c.get_one.ensures.value text (one_text-rows (found_of c.args.check.now) (codes "every") ∙ some))
-    (λ text r given. given.0) c.requires
+pub number_of-requires : goal.number_of-requires
+number_of-requires c = (MOST_EVERY, c.requires.every)
