@@ -2,19 +2,17 @@
 use Rattle.std.proofs.Common.{◌≡◌, ◌∙◌, ℕ, ◌<◌, Bool, true, false, cond, nat_lt, Option, Some, None, refl, sym, ap, ap₂, subst, true≢false}
 use Rattle.std.specs.BTreeMap.{get}
 use Rattle.std.specs.List.{Contains, find}
-use Rattle.std.specs.Option.{option_eq, option_map}
+use Rattle.std.specs.Option.{option_eq}
 use Rattle.std.proofs.lemmas.Bool.{and_parts, and_from, ltb-true, lt-ltb}
 use Rattle.si_lists.proofs.Members.{same_some}
 use Rattle.si_model.specs.declared.numbers.Value.{Value}
-use Rattle.si_model.specs.declared.transactions.Status.{Status}
-use Rattle.si_model.specs.declared.transactions.Status.TheVariants as status
 use Rattle.si_model.specs.declared.parts.Access.TheVariants as access
 use Rattle.si_model.specs.declared.parts.Part.{Part}
 use Rattle.si_model.specs.declared.sights.Source.TheVariants as source
 use Rattle.si_model.specs.Edits.{same_id}
 use Rattle.si_model.specs.Operations.{same_value}
 use Rattle.si_model.specs.Versions.{Writes, part_writes}
-use Rattle.si_model.specs.Reads.{missed_at, missed_of, own_value, sight_of, source_among, source_by as model_source_by, source_from, source_of, version_of, writes_later}
+use Rattle.si_model.specs.Reads.{missed_at, missed_of, own_value, sight_of, source_among, source_from, source_of, version_of, writes_later}
 use Rattle.si_model.proofs.Equalities.{same_id_is, same_id_from}
 use Rattle.si_model.proofs.Histories.{one_part}
 use Rattle.si_model.proofs.LastWrites.{later_are}
@@ -23,8 +21,7 @@ use Rattle.si_judge.specs.declared.reads.Reader.{Reader}
 use Rattle.si_judge.specs.declared.reads.Write.{Write}
 use Rattle.si_judge.specs.declared.indexes.Indexes.{Indexes}
 use Rattle.si_judge.specs.Indexes.{AreIndexes, present_in, reader_of, reads_in, value_cmp, write_of}
-use Rattle.si_judge.specs.Sights.{is_later_write, sight_in, source_by, source_in, source_with, status_in, write_in}
-use Rattle.si_judge.proofs.Coming.{by_id}
+use Rattle.si_judge.specs.Sights.{is_later_write, sight_in, source_in, source_with, write_in}
 use Rattle.si_judge.proofs.IndexEdits.{no_value}
 use Rattle.si_judge.proofs.PartLists.{read_from, write_from, write_to}
 
@@ -47,12 +44,7 @@ module _ (ix : Indexes) (is : AreIndexes ix) where
 
   -- ---- where a value comes from
 
-  by_status : (U : Part) (j : ℕ) (w : Value) (s : Status) → source_by (write_of U j w).1 (Some s) ≡ model_source_by U w s
-  by_status U j w (status.Committed c) = refl
-  by_status U j w status.Aborted = refl
-  by_status U j w status.InDoubt = refl
-
-  source_found : (w : Value) (o : Option Write) → get value_cmp ix.writes w ≡ o → source_with ix o ≡ source_among (present_in ix).parts (Some w)
+  source_found : (w : Value) (o : Option Write) → get value_cmp ix.writes w ≡ o → source_with o ≡ source_among (present_in ix).parts (Some w)
   source_found w None e = ap (source_from w) (sym (none (find (part_writes w) (present_in ix).parts) refl))
     where
       none : (f : Option Part) → find (part_writes w) (present_in ix).parts ≡ f → f ≡ None
@@ -62,15 +54,14 @@ module _ (ix : Indexes) (is : AreIndexes ix) where
       let u = found w x e in
       let U = u.0 in
       let x_is : (write_of U u.2.0 w).1 ≡ x = ap (λ p. p.1) u.2.2 in
-      let status : status_in ix x.txn ≡ Some U.status = ap (status_in ix) (sym (ap (λ y. y.txn) x_is)) ∙ ap (option_map (λ (T : Part). T.status)) (by_id ix is U.id U u.1 refl) in
       let writer : find (part_writes w) (present_in ix).parts ≡ Some U = (writer_found (present_in ix) w U is.history).1 (u.1, (u.2.0, u.2.1)) in
-      ap₂ source_by (sym x_is) status ∙ by_status U u.2.0 w U.status ∙ ap (source_from w) (sym writer)
+      ap (λ (y : Write). y.source) (sym x_is) ∙ ap (source_from w) (sym writer)
 
   source_is : (v : Option Value) → source_in ix v (write_in ix v) ≡ source_of (present_in ix) v
   unfolding source_of
   source_is v = ap (λ s. cond (option_eq same_value v ix.initial) source.Initial s) (among v)
     where
-      among : (v : Option Value) → source_with ix (write_in ix v) ≡ source_among (present_in ix).parts v
+      among : (v : Option Value) → source_with (write_in ix v) ≡ source_among (present_in ix).parts v
       among None = refl
       among (Some w) = source_found w (get value_cmp ix.writes w) refl
 

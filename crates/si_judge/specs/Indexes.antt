@@ -18,7 +18,7 @@ use Rattle.si_model.specs.declared.parts.Part.{Part}
 use Rattle.si_model.specs.declared.parts.OnKey.{OnKey}
 use Rattle.si_model.specs.Operations.{same_value}
 use Rattle.si_model.specs.Versions.{Writes, commit_of, last_write, written}
-use Rattle.si_model.specs.Reads.{own_value}
+use Rattle.si_model.specs.Reads.{own_value, source_by}
 use Rattle.si_model.specs.History.{IsOfHistory}
 use Rattle.si_timeline.specs.Timelines.{Adds, Dated, Has, IsNearestBefore, Lacks}
 use Rattle.si_timeline.specs.declared.versions.Version.{Version}
@@ -54,9 +54,9 @@ reads_by T (Some c) = reads_of T
 unfoldable pub reads_in : Part → List (Reader × Option Value)
 reads_in T = reads_by T (commit_of T.status)
 
--- T's write of the value at the place i
+-- T's write of the value at the place i, with where a read of it comes from
 abbrev pub write_of : Part → ℕ → Value → Value × Write
-write_of T i v = (v, record { txn = T.id; place = i; last = option_eq same_value (last_write T.accesses) (Some v) })
+write_of T i v = (v, record { txn = T.id; place = i; source = source_by T v T.status })
 
 -- the write, if a value is written
 abbrev pub write_by : Part → ℕ → Option Value → Option (Value × Write)

@@ -1,12 +1,9 @@
 -- What is seen at a read, by the indexes. All of it is this project's choice.
 use Rattle.std.specs.Prelude.{Bool, false, ◌&&◌, if◌then◌else◌, nat_lt, Some, None, Option}
 use Rattle.std.specs.BTreeMap.{get}
-use Rattle.std.specs.Option.{option_eq, option_map}
-use Rattle.si_model.specs.declared.numbers.TxnId.{TxnId}
+use Rattle.std.specs.Option.{option_eq}
 use Rattle.si_model.specs.declared.numbers.Stamp.{Stamp}
 use Rattle.si_model.specs.declared.numbers.Value.{Value}
-use Rattle.si_model.specs.declared.transactions.Status.{Status}
-use Rattle.si_model.specs.declared.transactions.Status.TheVariants as status
 use Rattle.si_model.specs.declared.sights.VersionId.{VersionId}
 use Rattle.si_model.specs.declared.sights.VersionId.TheVariants as version
 use Rattle.si_model.specs.declared.sights.Source.{Source}
@@ -18,7 +15,7 @@ use Rattle.si_model.specs.Reads.{missed_of, version_of}
 use Rattle.si_judge.specs.declared.reads.Reader.{Reader}
 use Rattle.si_judge.specs.declared.reads.Write.{Write}
 use Rattle.si_judge.specs.declared.indexes.Indexes.{Indexes}
-use Rattle.si_judge.specs.Indexes.{id_cmp, value_cmp, present_in}
+use Rattle.si_judge.specs.Indexes.{value_cmp, present_in}
 
 -- the stamp after which the versions are that come after this one
 abbrev pub stamp_of : VersionId → Stamp
@@ -30,25 +27,14 @@ abbrev pub write_in : Indexes → Option Value → Option Write
 write_in ix None = None
 write_in ix (Some v) = get value_cmp ix.writes v
 
--- what became of the transaction, if it is there
-abbrev pub status_in : Indexes → TxnId → Option Status
-status_in ix u = option_map (λ T. T.status) (get id_cmp ix.parts u)
-
--- where a value comes from, by its write and what became of the transaction that wrote it
-abbrev pub source_by : Write → Option Status → Source
-source_by w None = source.Missing
-source_by w (Some status.Aborted) = source.Aborted w.txn
-source_by w (Some status.InDoubt) = source.InDoubt w.txn
-source_by w (Some (status.Committed c)) = if w.last then source.Installed w.txn c else source.Earlier w.txn
-
--- the same, if there is a write
-abbrev pub source_with : Indexes → Option Write → Source
-source_with ix None = source.Missing
-source_with ix (Some w) = source_by w (status_in ix w.txn)
+-- where a value comes from, by its write, if there is one
+abbrev pub source_with : Option Write → Source
+source_with None = source.Missing
+source_with (Some w) = w.source
 
 -- where what a read returned comes from, which that write wrote, if there is one
 abbrev pub source_in : Indexes → Option Value → Option Write → Source
-source_in ix v w = if option_eq same_value v ix.initial then source.Initial else source_with ix w
+source_in ix v w = if option_eq same_value v ix.initial then source.Initial else source_with w
 
 -- whether the write is one of the reader, after the read
 abbrev pub is_later_write : Reader → Option Write → Bool

@@ -7,15 +7,13 @@ ghost use Rattle.si_model.specs.Versions.{next_after};
 ghost use Rattle.si_model.specs.Reads.{missed_of};
 ghost use Rattle.si_model.specs.Reads.{version_of as version_read};
 ghost use Rattle.si_judge.specs.Indexes.{AddsVersion, AreIndexes, Fits, HasVersion, IsValueBefore, Joins, LacksVersion, RemovesVersion, beyond, is_later, is_reader_of, least_reader, readers_in, present_in, reads_in, version_of, writes_of};
-ghost use Rattle.si_judge.specs.Sights.{is_later_write, sight_in, source_by, source_in, stamp_of, status_in, write_in};
+ghost use Rattle.si_judge.specs.Sights.{is_later_write, sight_in, source_in, stamp_of, write_in};
 ghost use Rattle.si_judge.specs.Mending.{installer};
 
 use crate::maps::{insert_all, remove_all};
 use crate::reads::{OwnRead, Reader, Write, reads_in, version_of, writes_of};
 use si_model::reads::{if_before, version_of as version_read};
-use si_model::{
-    Installer, OutOfMemory, Part, Sight, Source, Stamp, Status, TxnId, Value, VersionId,
-};
+use si_model::{Installer, OutOfMemory, Part, Sight, Source, Stamp, TxnId, Value, VersionId};
 use si_timeline::{Timeline, Version};
 use std::alloc::Global;
 use std::collections::BTreeMap;
@@ -180,16 +178,7 @@ impl Indexes {
         }
         match write {
             None => Source::Missing,
-            Some(write) => source_by(write, self.status_of(write.txn)),
-        }
-    }
-
-    fn status_of(&self, id: TxnId) -> Option<Status>
-        ensures { result ≡ status_in self.now id }
-    {
-        match self.parts.get(&id) {
-            Some(part) => Some(part.status),
-            None => None,
+            Some(write) => write.source,
         }
     }
 
@@ -220,19 +209,6 @@ fn remove_version(timeline: &mut Timeline, part: &Part)
 {
     if let Some((commit, _)) = version_of(part) {
         timeline.remove(commit);
-    }
-}
-
-/// Where a value comes from, by its write and what became of the transaction that wrote it.
-fn source_by(write: Write, status: Option<Status>) -> Source
-    ensures { result ≡ source_by write status }
-{
-    match status {
-        None => Source::Missing,
-        Some(Status::Aborted) => Source::Aborted(write.txn),
-        Some(Status::InDoubt) => Source::InDoubt(write.txn),
-        Some(Status::Committed(commit)) if write.last => Source::Installed(write.txn, commit),
-        Some(Status::Committed(_)) => Source::Earlier(write.txn),
     }
 }
 

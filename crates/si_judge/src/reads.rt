@@ -4,10 +4,10 @@ ghost use Rattle.std.specs.Prelude.{◌≡◌, ◌<◌, IfOk, None, length};
 ghost use Rattle.std.specs.List.{AllPairs};
 ghost use Rattle.si_judge.specs.Indexes.{read_at, reads_of, reads_in, write_at, writes_of, version_of};
 ghost use Rattle.si_model.specs.Versions.{last_write};
-ghost use Rattle.si_model.specs.Reads.{own_value};
+ghost use Rattle.si_model.specs.Reads.{own_value, source_by};
 
 use si_model::versions::last_write;
-use si_model::{Access, OutOfMemory, Part, Placed, Stamp, TxnId, Value};
+use si_model::{Access, OutOfMemory, Part, Placed, Source, Stamp, Status, TxnId, Value};
 use si_timeline::Version;
 use std::alloc::Global;
 
@@ -31,8 +31,8 @@ pub struct Write {
     pub txn: TxnId,
     /// The place of the write among the transaction's operations.
     pub place: usize,
-    /// Whether the value is what the transaction writes last.
-    pub last: bool,
+    /// Where a read of the value comes from, by what became of the transaction and whether it writes the value last.
+    pub source: Source,
 }
 
 /// The reads of the transaction if it is committed, and else none.
@@ -107,9 +107,22 @@ fn write_at(part: &Part, last: Option<Value>, placed: Placed) -> Option<(Value, 
         Write {
             txn: part.id,
             place: placed.place,
-            last: last == Some(value),
+            source: source_by(part, last, value),
         },
     ))
+}
+
+/// Where a read of the value comes from that the transaction writes, which writes `last` last.
+fn source_by(part: &Part, last: Option<Value>, value: Value) -> Source
+    requires { last ≡ last_write part.now.accesses }
+    ensures { result ≡ source_by part.now value part.now.status }
+{
+    match part.status {
+        Status::Aborted => Source::Aborted(part.id),
+        Status::InDoubt => Source::InDoubt(part.id),
+        Status::Committed(commit) if last == Some(value) => Source::Installed(part.id, commit),
+        Status::Committed(_) => Source::Earlier(part.id),
+    }
 }
 
 /// The version that the transaction installs, if it installs one, with its commit stamp.

@@ -62,7 +62,8 @@ fn add_access(
         list.push(placed)?;
         return Ok(());
     }
-    let mut list = Vec::new(alloc);
+    // a key has one access in most transactions, and the list is kept as it is
+    let mut list = Vec::with_capacity(alloc, 1)?;
     list.push(placed)?;
     lists.insert(key.try_clone()?, list)?;
     Ok(())
