@@ -64,6 +64,14 @@ impl World {
     }
 
     /// Makes one step.
+    ///
+    /// [`Step::Accept`] is answered [`Reply::Refused`] with the first reason against the edit, and else [`Reply::Accepted`].
+    /// [`Step::Apply`] is answered [`Reply::Idle`] where there is no such shard or no edit is left for it, [`Reply::Spoiled`]
+    /// where one is left and the shard is spoiled, and else [`Reply::Applied`]. [`Step::Settle`] is answered [`Reply::Settled`],
+    /// or stops at the first shard that is answered otherwise: those of lesser number have applied the whole journal then.
+    ///
+    /// Where the growth of some memory is refused the reply is [`Reply::NoMemory`] and the step, or the application that it met,
+    /// changed nothing; or it is [`Reply::Spoiled`], and the shard is spoiled from then on.
     pub fn step(&mut self, step: Step) -> Reply
         ensures { IsStep self.old step result self.new }
     {
