@@ -85,31 +85,18 @@ module _ (J : Rules) (Q : OnKey) (h : IsOfHistory Q) (reads : BTreeMap ReadId Ki
       Contains-in_order findings_total exact_findings (map (finding_at x) kinds) f (subst (Contains (map (finding_at x) kinds)) same at)))
 
   -- something is found exactly where something is kept
+  one_of : {K : Type 0} (es : List (K × Kind)) → 0 < length es → (k : Kind) × Contains (map (λ y. y.1) es) k
+  one_of [] lt = absurd (omega (arith, lt))
+  one_of (d ∷ es) lt = (d.1, here d.1 (map (λ y. y.1) es))
+
+  one_kept : (0 < length reads.entries) ⊎ (0 < length overlaps.entries) → (k : Kind) × Contains (values reads ++ values overlaps) k
+  one_kept (inl r) = let k = one_of reads.entries r in (k.0, Contains-append_left (values reads) (values overlaps) k.0 k.1)
+  one_kept (inr s) = let k = one_of overlaps.entries s in (k.0, Contains-append_right (values reads) (values overlaps) k.0 k.1)
+
   pub some_found : IsOrdered read_cmp reads → IsOrdered stamp_cmp overlaps → (x : List ℕ) → (0 < length reads.entries) ⊎ (0 < length overlaps.entries) → (f : Finding) × Contains (findings_on J x Q) f
-  some_found ro so x (inl r) = by reads.entries refl r
-    where
-      by : (es : List (ReadId × Kind)) → reads.entries ≡ es → 0 < length es → (f : Finding) × Contains (findings_on J x Q) f
-      by [] e lt = absurd (omega (arith, lt))
-      by (d ∷ es) e lt = (
-        finding_at x d.1,
-        (key_findings_exact J Q h x).complete (finding_at x d.1) (
-          refl,
-          kept_found ro so d.1
-              (Contains-append_left (values reads) (values overlaps) d.1 (subst (λ l. Contains (map (λ y. y.1) l) d.1) (sym e) (here d.1 (map (λ y. y.1) es)))),
-        ),
-      )
-  some_found ro so x (inr s) = by overlaps.entries refl s
-    where
-      by : (es : List (Stamp × Kind)) → overlaps.entries ≡ es → 0 < length es → (f : Finding) × Contains (findings_on J x Q) f
-      by [] e lt = absurd (omega (arith, lt))
-      by (d ∷ es) e lt = (
-        finding_at x d.1,
-        (key_findings_exact J Q h x).complete (finding_at x d.1) (
-          refl,
-          kept_found ro so d.1
-              (Contains-append_right (values reads) (values overlaps) d.1 (subst (λ l. Contains (map (λ y. y.1) l) d.1) (sym e) (here d.1 (map (λ y. y.1) es)))),
-        ),
-      )
+  some_found ro so x some =
+      let k = one_kept some in
+      (finding_at x k.0, (key_findings_exact J Q h x).complete (finding_at x k.0) (refl, kept_found ro so k.0 k.1))
 
   pub some_kept : (x : List ℕ) (f : Finding) → Contains (findings_on J x Q) f → (0 < length reads.entries) ⊎ (0 < length overlaps.entries)
   some_kept x f c = by (found_kept f.kind ((key_findings_exact J Q h x).sound f c).1)
