@@ -46,7 +46,7 @@ check_app = with_rule (with_rule (with_rule (with_rule (new_app (codes "check"))
 
 -- the program before its subcommand is added, which has to be given
 abbrev pub top_app : App
-top_app = record (new_app (codes "sicheck")) { top = record (new_app (codes "sicheck")).top { subcommand_required = true } }
+top_app = record (new_app (codes "sicheck")) { top = record (new_app (codes "sicheck")).top { has_version = true; subcommand_required = true } }
 
 -- the program
 abbrev pub sicheck_app : App

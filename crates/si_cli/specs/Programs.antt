@@ -21,7 +21,7 @@ EndsCheck terms left old new result = (result ≡ 2) ⊎ ((status : ExitStatus) 
 abbrev pub EndsLine : Error → ℕ → Type 0
 EndsLine error result = (result ≡ 2) ⊎ ((result ≡ 0) × IsAskedFor error)
 
--- the status of the program: the check couldn't be made; or the words ask for help; or clap has no fault to tell of them, and
+-- the status of the program: the check couldn't be made; or the words ask for help or the version; or clap has no fault to tell of them, and
 -- the status is that of a run, on the input where they name no file
 abbrev pub EndsProgram : List Text → Option (List ℕ) → Option (List ℕ) → Option (List ℕ) → ℕ → Type 0
 EndsProgram words left old new result =

@@ -23,6 +23,9 @@ pub const EXPLAIN: &str = "explain";
 /// The id of the files.
 pub const FILE: &str = "FILE";
 
+/// What `--version` tells behind the program's name.
+const VERSION: &str = "0.1.0";
+
 const ABOUT: &str = "Checks a history of transactions against snapshot isolation.";
 
 const USAGE: &str = "sicheck check [--shards K] [--every N] [--explain] [FILE]";
@@ -88,6 +91,7 @@ fn command<'a>(alloc: Global) -> Result<Command<'a>, AllocError>
         .arg(file(alloc))?;
     let top = Command::new(alloc, "sicheck")
         .about(ABOUT)
+        .version(VERSION)
         .after_help(manual())
         .subcommand_required(true);
     top.subcommand(check)

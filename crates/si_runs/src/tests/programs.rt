@@ -37,6 +37,31 @@ fn ends(
 }
 
 #[test]
+fn versions(rt: HostRuntime) -> Result<(), Fail> {
+    let alloc = rt.alloc();
+    for option in ["--version", "-V"] {
+        let mut input = source(alloc)?;
+        let mut out = MemorySink::new(alloc, 4096);
+        let mut err = MemorySink::new(alloc, 4096);
+        let words = ["sicheck", option];
+        assert_eq!(&rt;
+            main_with(&rt, alloc, words.as_slice(), &mut input, &mut out, &mut err),
+            0
+        );
+        assert_eq!(&rt; out.as_slice(), "sicheck 0.1.0\n".as_bytes());
+        assert!(&rt; err.as_slice().is_empty());
+    }
+    ends(
+        &rt,
+        alloc,
+        &["sicheck", "check", "--version"],
+        2,
+        false,
+        true,
+    )
+}
+
+#[test]
 fn command_lines(rt: HostRuntime) -> Result<(), Fail> {
     let alloc = rt.alloc();
     ends(&rt, alloc, &["sicheck", "check"], 20, true, false)?;
