@@ -4,6 +4,7 @@ mod evidence;
 mod files;
 mod helps;
 mod inputs;
+mod long_runs;
 mod programs;
 mod readings;
 mod rows;
