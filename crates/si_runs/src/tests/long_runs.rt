@@ -7,13 +7,13 @@ use std::alloc::Global;
 use std::test::Fail;
 
 /// How many transactions there are.
-const COUNT: u64 = 5000;
+const COUNT: u32 = 5000;
 
 /// How many keys they write in turn.
-const KEYS: u64 = 50;
+const KEYS: u32 = 50;
 
 /// What a read returns: the value written last to the key of that turn, or `null` where none was.
-fn read_at(alloc: Global, turn: u64) -> Result<String, Fail> {
+fn read_at(alloc: Global, turn: u32) -> Result<String, Fail> {
     if turn < KEYS {
         return Ok(String::from_str(alloc, "null")?);
     }
@@ -21,8 +21,8 @@ fn read_at(alloc: Global, turn: u64) -> Result<String, Fail> {
 }
 
 /// Adds the line of the transaction of that turn, which reads the version before its own and commits before the next one starts.
-fn add_line(alloc: Global, input: &mut String, turn: u64) -> Result<(), Fail> {
-    let (start, key) = (turn * 2, turn % KEYS);
+fn add_line(alloc: Global, input: &mut String, turn: u32) -> Result<(), Fail> {
+    let (start, key) = (u64::from(turn) * 2, turn % KEYS);
     let read = read_at(alloc, turn)?;
     let line = format!(in alloc;
         "{{\"do\":\"txn\",\"id\":{turn},\"start\":{start},\"status\":\"committed\",\"commit\":{},\"ops\":[[\"r\",\"k{key}\",{read}],[\"w\",\"k{key}\",{turn}]]}}\n",
