@@ -172,6 +172,14 @@ fn what_words_ask_for(rt: HostRuntime) -> Result<(), Fail> {
 }
 
 #[test]
+fn a_fault_of_words_is_printed(rt: HostRuntime) -> Result<(), Fail> {
+    let alloc = rt.alloc();
+    let text = format!(in alloc; "{}", SettingsFault::TooManyFiles)?;
+    assert_eq!(rt; text.as_str(), "too many files");
+    Ok(())
+}
+
+#[test]
 fn statuses(rt: HostRuntime) {
     assert_eq!(rt; ExitStatus::Clean.code(), 0);
     assert_eq!(rt; ExitStatus::Open.code(), 10);
