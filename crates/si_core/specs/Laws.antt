@@ -9,11 +9,13 @@ use Rattle.si_core.specs.Machine.{AppliesMany, IsOther, IsRebuilt, IsRun, IsSoun
 
 -- no application and no settling changes the limit or the journal, or how many shards there are
 abbrev pub JournalStays : Type 0
-JournalStays = (M : Machine) (r : Reply) (N : Machine) → ((k : ℕ) → IsStep M (step.Apply k) r N → LeavesJournal M N) × (IsStep M step.Settle r N → LeavesJournal M N)
+JournalStays = (M : Machine) (r : Reply) (N : Machine)
+    → ((k : ℕ) → IsStep M (step.Apply k) r N → LeavesJournal M N) × (IsStep M step.Settle r N → LeavesJournal M N)
 
 -- where no memory was refused a run is one function of where it begins and its steps
 abbrev pub RunIsFunction : Type 0
-RunIsFunction = (M : Machine) (steps : List Step) (rs ts : List Reply) (N P : Machine) → IsRun M steps rs N → IsRun M steps ts P → TellNoWant rs → TellNoWant ts → (rs ≡ ts) × (N ≡ P)
+RunIsFunction = (M : Machine) (steps : List Step) (rs ts : List Reply) (N P : Machine)
+    → IsRun M steps rs N → IsRun M steps ts P → TellNoWant rs → TellNoWant ts → (rs ≡ ts) × (N ≡ P)
 
 -- every state that a run reaches from the beginning is sound, and has the limit and the shards that it was opened with
 abbrev pub ReachedIsSound : Type 0

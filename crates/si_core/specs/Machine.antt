@@ -1,7 +1,8 @@
 -- The machine of the core, as a relation: which reply a step may get and what it leaves, by cases. A state is the journal of
 -- accepted edits and, of each shard, how many of them it has applied and whether it is spoiled. The cases that say so need a
 -- growth of memory that was refused. All of it is this project's choice.
-use Rattle.std.specs.Prelude.{◌≡◌, ◌≢◌, ◌⊎◌, ℕ, zero, suc, ◌+◌, ◌<◌, ◌≤◌, Bool, true, false, List, [], ◌∷◌, ◌++◌, length, Some, None, replicate, slice_get, slice_set}
+use Rattle.std.specs.Prelude.{◌≡◌, ◌≢◌, ◌⊎◌, ℕ, zero, suc, ◌+◌, ◌<◌, ◌≤◌, Bool, true}
+use Rattle.std.specs.Prelude.{false, List, [], ◌∷◌, ◌++◌, length, Some, None, replicate, slice_get, slice_set}
 use Rattle.std.specs.List.{Contains}
 use Rattle.si_model.specs.declared.edits.Edit.{Edit}
 use Rattle.si_model.specs.declared.refusals.Refusal.{Refusal}
@@ -39,7 +40,8 @@ with_progress M k p = record M { shards = slice_set M.shards k p }
 abbrev pub IsAccept : Machine → Edit → Reply → Machine → Type 0
 IsAccept M e r N =
     ((f : Refusal) × (refusal_after M.limit M.journal e ≡ Some f) × (r ≡ reply.Refused f) × (N ≡ M))
-    ⊎ (((refusal_after M.limit M.journal e ≡ None) × (r ≡ reply.Accepted (record { 0 = length M.journal + 1 })) × (N ≡ record M { journal = M.journal ++ e ∷ [] }))
+    ⊎ (((refusal_after M.limit M.journal e ≡ None) × (r ≡ reply.Accepted (record { 0 = length M.journal + 1 }))
+    × (N ≡ record M { journal = M.journal ++ e ∷ [] }))
     -- memory: nothing changes
     ⊎ ((refusal_after M.limit M.journal e ≡ None) × (r ≡ reply.NoMemory) × (N ≡ M)))
 
