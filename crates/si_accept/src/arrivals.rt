@@ -9,6 +9,7 @@ ghost use Rattle.si_accept.specs.Arrivals.{resolved_slot};
 use indexmap::IndexMap;
 use si_model::{OutOfMemory, Outcome, Txn, TxnId};
 use std::alloc::Global;
+use std::hash::RandomState;
 use std::marker::Model;
 
 /// Transactions in the order of arrival. Contracts see the list.
@@ -18,10 +19,11 @@ use std::marker::Model;
 #[derive(Drop)]
 pub struct Arrivals {
     alloc: Global,
+    hash: RandomState,
     // The transactions in their order, with empty slots between them.
     slots: Vec<Option<Txn>>,
     // From an id to its slot.
-    places: IndexMap<u64, usize>,
+    places: IndexMap<u64, usize, RandomState>,
     // How many slots aren't empty.
     count: usize,
 }
@@ -39,13 +41,14 @@ impl Model for Arrivals {
 }
 
 impl Arrivals {
-    pub fn new(alloc: Global) -> Self
+    pub fn new(alloc: Global, hash: RandomState) -> Self
         ensures { result ≡ [] }
     {
         Arrivals {
             alloc,
+            hash,
             slots: Vec::new(alloc),
-            places: IndexMap::new(alloc),
+            places: IndexMap::with_hasher(alloc, hash),
             count: 0,
         }
     }
@@ -138,7 +141,7 @@ impl Arrivals {
     fn packed(&self) -> Result<Arrivals, OutOfMemory>
         ensures { IfOk result (λ packed. packed ≡ self.now) }
     {
-        let mut packed = Arrivals::new(self.alloc);
+        let mut packed = Arrivals::new(self.alloc, self.hash);
         for slot in &self.slots {
             if let Some(txn) = slot {
                 packed.push(txn.try_clone()?)?;

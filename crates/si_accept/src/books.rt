@@ -10,6 +10,7 @@ use crate::contents::Contents;
 use si_model::laws::{accepted_grows, present_grows, present_is_history};
 use si_model::{Edit, Key, MOST_EDITS, Number, OutOfMemory, Refusal, Txn, TxnId, Value};
 use std::alloc::Global;
+use std::hash::RandomState;
 use std::marker::Model;
 
 /// The journal of accepted edits, and what is present after them.
@@ -36,7 +37,9 @@ impl Model for Book {
 
 impl Book {
     /// A book with an empty journal, which may have so many edits. It takes no memory yet.
-    pub fn new(alloc: Global, limit: usize) -> Self
+    ///
+    /// Its maps of ids, keys and values hash with this secret key, so that no log can be made to collide in them.
+    pub fn new(alloc: Global, hash: RandomState, limit: usize) -> Self
         requires some { 1 ≤ limit }
         requires most { limit ≤ MOST_EDITS }
         ensures { result ≡ record { limit = limit; journal = [] } }
@@ -44,7 +47,7 @@ impl Book {
         Book {
             limit,
             journal: Vec::new(alloc),
-            present: Contents::new(alloc),
+            present: Contents::new(alloc, hash),
         }
     }
 

@@ -16,12 +16,14 @@ use si_model::{
     Edit, Holders, Key, Op, OutOfMemory, Outcome, Refusal, Stamp, Txn, TxnId, Value, refusal_on,
 };
 use std::alloc::Global;
+use std::hash::RandomState;
 use std::marker::Model;
 
 /// What is present. Contracts see the two lists, in the order of arrival.
 #[derive(Drop)]
 pub struct Contents {
     alloc: Global,
+    hash: RandomState,
     txns: Arrivals,
     initial: SetUps,
     index: Index,
@@ -66,19 +68,20 @@ impl Holders for Contents {
     }
 
     fn twice_refusal(&self, ops: &[Op]) -> Option<Refusal> {
-        twice_refusal(self.alloc, ops)
+        twice_refusal(self.alloc, self.hash, ops)
     }
 }
 
 impl Contents {
-    pub fn new(alloc: Global) -> Self
+    pub fn new(alloc: Global, hash: RandomState) -> Self
         ensures { result ≡ nothing }
     {
         Contents {
             alloc,
-            txns: Arrivals::new(alloc),
-            initial: SetUps::new(alloc),
-            index: Index::new(alloc),
+            hash,
+            txns: Arrivals::new(alloc, hash),
+            initial: SetUps::new(alloc, hash),
+            index: Index::new(alloc, hash),
         }
     }
 

@@ -14,6 +14,7 @@ use crate::stamps::Stamps;
 use crate::writers::Writers;
 use si_model::{Key, Op, OutOfMemory, Stamp, Txn, TxnId, Value};
 use std::alloc::Global;
+use std::hash::RandomState;
 use std::marker::Model;
 
 /// Indexes of stamps and one of written pairs.
@@ -39,7 +40,7 @@ impl Model for Index {
 
 impl Index {
     /// Indexes that say nothing of any transaction.
-    pub fn new(alloc: Global) -> Self
+    pub fn new(alloc: Global, hash: RandomState) -> Self
         ensures starts { (s : Stamp) (u : TxnId) → has result.starts s u ≡ false }
         ensures installs { (s : Stamp) (u : TxnId) → has result.installs s u ≡ false }
         ensures others { (s : Stamp) (u : TxnId) → has result.others s u ≡ false }
@@ -49,7 +50,7 @@ impl Index {
             starts: Stamps::new(alloc),
             installs: Stamps::new(alloc),
             others: Stamps::new(alloc),
-            writers: Writers::new(alloc),
+            writers: Writers::new(alloc, hash),
         }
     }
 

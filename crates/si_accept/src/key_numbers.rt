@@ -6,12 +6,13 @@ ghost use Rattle.si_accept.specs.KeyNumbers.{number_of, with_key};
 use indexmap::IndexSet;
 use si_model::{Key, OutOfMemory};
 use std::alloc::Global;
+use std::hash::RandomState;
 use std::marker::Model;
 
 /// Keys with numbers in the order in which they were first seen, from 0. A key keeps its number.
 #[derive(Drop)]
 pub struct KeyNumbers {
-    keys: IndexSet<Key>,
+    keys: IndexSet<Key, RandomState>,
 }
 
 impl Model for KeyNumbers {
@@ -23,11 +24,11 @@ impl Model for KeyNumbers {
 }
 
 impl KeyNumbers {
-    pub fn new(alloc: Global) -> Self
+    pub fn new(alloc: Global, hash: RandomState) -> Self
         ensures { result ≡ [] }
     {
         KeyNumbers {
-            keys: IndexSet::new(alloc),
+            keys: IndexSet::with_hasher(alloc, hash),
         }
     }
 

@@ -6,13 +6,14 @@ ghost use Rattle.si_model.specs.Parts.{set_up_value};
 use indexmap::IndexMap;
 use si_model::{Key, OutOfMemory, Value};
 use std::alloc::Global;
+use std::hash::RandomState;
 use std::marker::Model;
 
 /// The values that keys were set up with, in the order of arrival. Contracts see the pairs.
 #[derive(Drop)]
 pub struct SetUps {
     alloc: Global,
-    values: IndexMap<Key, Value>,
+    values: IndexMap<Key, Value, RandomState>,
 }
 
 impl Model for SetUps {
@@ -24,12 +25,12 @@ impl Model for SetUps {
 }
 
 impl SetUps {
-    pub fn new(alloc: Global) -> Self
+    pub fn new(alloc: Global, hash: RandomState) -> Self
         ensures { result ≡ [] }
     {
         SetUps {
             alloc,
-            values: IndexMap::new(alloc),
+            values: IndexMap::with_hasher(alloc, hash),
         }
     }
 

@@ -7,6 +7,7 @@ use crate::key_numbers::KeyNumbers;
 use si_model::{Key, Op, OutOfMemory, TxnId, Value};
 use std::alloc::Global;
 use std::collections::HashMap;
+use std::hash::RandomState;
 use std::marker::Model;
 
 /// Pairs of key and value with the transactions that write them. Contracts see who writes what an operation writes.
@@ -14,7 +15,7 @@ use std::marker::Model;
 pub struct Writers {
     keys: KeyNumbers,
     // From a key's number and a value to the writer.
-    ids: HashMap<(usize, u64), TxnId>,
+    ids: HashMap<(usize, u64), TxnId, RandomState>,
 }
 
 impl Model for Writers {
@@ -28,12 +29,12 @@ impl Model for Writers {
 }
 
 impl Writers {
-    pub fn new(alloc: Global) -> Self
+    pub fn new(alloc: Global, hash: RandomState) -> Self
         ensures { (op : Op) → writer_of result op ≡ None }
     {
         Writers {
-            keys: KeyNumbers::new(alloc),
-            ids: HashMap::new(alloc),
+            keys: KeyNumbers::new(alloc, hash),
+            ids: HashMap::with_hasher(alloc, hash),
         }
     }
 

@@ -30,7 +30,7 @@ items_text-push terms p (first ∷ items) item =
 
 -- ---- steps
 
-Yields-then : (n m k : ℕ) (a b c : Option (List ℕ)) (items more : List Item) → Yields n a m b items → Yields m b k c more → Yields n a k c (items ++ more)
+pub Yields-then : (n m k : ℕ) (a b c : Option (List ℕ)) (items more : List Item) → Yields n a m b items → Yields m b k c more → Yields n a k c (items ++ more)
 Yields-then n m k None b c items more p q = tt
 Yields-then n m k (Some xs) None c items more p q = absurd p
 Yields-then n m k (Some xs) (Some ys) None items more p q = absurd q
@@ -169,12 +169,14 @@ many_items terms (Some bytes) written n a w p way most = by a way.read
 -- ---- faults
 
 -- a fault of the input is true
-pub input_fault : (left : Option (List ℕ)) (source_failed writer_failed : Bool) (fault : InputFault) → (fault ≡ input.DeviceFailed → (source_failed ≡ true) ⊎ MayBeTooLong left) → IsTrueFault left source_failed writer_failed (fault_of_input fault)
-input_fault left f w input.DeviceFailed h = (refl, h refl)
-input_fault left f w input.OutOfMemory h = tt
+pub input_fault : (left : Option (List ℕ)) (source_failed writer_failed : Bool) (fault : InputFault) → writer_failed ≡ false
+    → (fault ≡ input.DeviceFailed → (source_failed ≡ true) ⊎ MayBeTooLong left) → (fault ≡ input.OutOfMemory → source_failed ≡ false)
+    → IsTrueFault left source_failed writer_failed (fault_of_input fault)
+input_fault left f w input.DeviceFailed works h m = (refl, works, h refl)
+input_fault left f w input.OutOfMemory works h m = (m refl, works)
 
--- so is one of writing
-pub writing_fault : (left : Option (List ℕ)) (source_failed writer_failed : Bool) (fault : RunFault) → IsFaultOfWriting writer_failed fault → IsTrueFault left source_failed writer_failed fault
-writing_fault left f w (fault.Input source) h = absurd h
-writing_fault left f w fault.Output h = h
-writing_fault left f w fault.Memory h = tt
+-- so is one of writing, where the source works
+pub writing_fault : (left : Option (List ℕ)) (source_failed writer_failed : Bool) (fault : RunFault) → source_failed ≡ false → IsFaultOfWriting writer_failed fault → IsTrueFault left source_failed writer_failed fault
+writing_fault left f w (fault.Input source) works h = absurd h
+writing_fault left f w fault.Output works h = (works, h)
+writing_fault left f w fault.Memory works h = (works, h)

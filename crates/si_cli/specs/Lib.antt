@@ -4,3 +4,4 @@ pub mod Faults
 pub mod Engines
 pub mod Programs
 pub mod CommandLines
+pub mod Laws

@@ -44,10 +44,12 @@ The input has one JSON value a line; lines may come late and out of order:
 An OP is [\"r\",\"x\",7], or [\"r\",\"x\",null] where x had no value, or [\"w\",\"x\",7].
 Numbers are whole. No value is written twice to a key. In place of a deletion
 write a value of your own that means \"deleted\".
+A line has at most 1048576 bytes, a key 1 to 128, a transaction 4096 OPs.
 
 Stamps are the database's own, no clock's. Where a start at s sees the commit
 at s, write each commit c as 2c + 1 and each start s as 2s + 2; where it
 doesn't, as 2c + 1 and 2s. A transaction that only reads may have one stamp.
+The commit stamp of a transaction that writes is no stamp of another one.
 
 The output has a line for each refused line, then the findings and a summary:
   unknown       no line writes the value that was read: the verdict is open
@@ -62,8 +64,9 @@ The status is the gate: 20 where snapshot isolation is violated; else 10 where
 the verdict is open or a line was refused, so also where it is clean beside
 refused lines; else 0; and 2 where the check couldn't be made.
 
-docs/LOGGING.md tells what to log and what each finding means.
-Try it: sicheck check --every 1000 history.jsonl";
+docs/LOGGING.md tells what to log and what each finding means. docs/FORMAT.md
+has the code and reason of each refused line, each field and each verdict.
+Try it: sicheck check --explain samples/stale_read.jsonl";
 
 /// Reads the words of a command line, of which the first is the program's name.
 ///

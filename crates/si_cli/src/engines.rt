@@ -15,6 +15,7 @@ use si_core::{Reply, Step, World};
 use si_model::{Edit, Finding, OutOfMemory};
 use si_text::{LineFault, LineItem, Reason, Verdict, print_refusal, print_report};
 use std::alloc::{AllocError, Global};
+use std::hash::RandomState;
 
 /// The machine, with the counts of what was decided and of what was refused.
 #[derive(Drop)]
@@ -33,14 +34,14 @@ impl Engine {
     ghost use Rattle.si_cli.specs.Outputs.{start, sourced, counted, refusal_line, report_at, report_due, item_text, progress_after, Terms};
 
     /// An engine that has decided nothing.
-    pub fn new(alloc: Global, options: Options) -> Result<Self, OutOfMemory>
+    pub fn new(alloc: Global, hash: RandomState, options: Options) -> Result<Self, OutOfMemory>
         requires { IsRunnable options }
         ensures progress { IfOk result (λ engine. progress_of engine ≡ start) }
         ensures terms { IfOk result (λ engine. terms_of engine ≡ terms_by options) }
     {
         Ok(Engine {
             alloc,
-            world: World::new(alloc, options.shards, options.limit)?,
+            world: World::new(alloc, hash, options.shards, options.limit)?,
             every: options.every,
             explain: options.explain,
             decided: 0,

@@ -7,6 +7,8 @@
 mod command_lines;
 mod engines;
 pub mod faults;
+pub mod files;
+pub mod laws;
 pub mod options;
 pub mod programs;
 pub mod runs;
@@ -15,6 +17,7 @@ pub mod statuses;
 mod writing;
 
 pub use faults::RunFault;
+pub use files::{CannotOpen, NamedFiles, StdFiles};
 pub use options::Options;
 pub use programs::main_with;
 pub use runs::run;

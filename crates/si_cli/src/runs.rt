@@ -1,19 +1,24 @@
-ghost use Rattle.std.specs.Prelude.{◌≡◌, false, IfOk, IfErr, OnOk};
+ghost use Rattle.std.specs.Prelude.{◌≡◌, false, IfOk, IfErr, OnOk, OnErr};
 ghost use Rattle.std.specs.Io.KnownBytes.{Appends};
 ghost use Rattle.si_cli.specs.Engines.{progress_of, terms_of};
-ghost use Rattle.si_cli.specs.Outputs.{report_at, status_at};
-ghost use Rattle.si_cli.specs.Runs.{IsFaultOfWriting, IsRunnable, IsTrueFault, WritesOutput, terms_by};
+ghost use Rattle.si_cli.specs.Outputs.{report_at, start, status_at};
+ghost use Rattle.si_cli.specs.Runs.{AppendsBeginning, IsFaultOfWriting, IsRunnable, IsTrueFault, WritesBeginning, WritesOutput, terms_by};
 
 use crate::engines::Engine;
 use crate::writing::write_all;
 use crate::{ExitStatus, Options, RunFault};
 use si_text::{ByteSink, ByteSource, LineBuffer};
 use std::alloc::Global;
+use std::hash::RandomState;
+use std::mem::forget;
 
 /// Checks the one input, and writes the refusals, the reports on the way and the last report. The text is one function of the
-/// input, whatever the number of shards.
+/// input, whatever the number of shards and the secret key of the hash maps. After a fault a beginning of it was written.
+///
+/// The memory of the machine isn't given back: the program ends after it.
 pub fn run<S: ByteSource, W: ByteSink>(
     alloc: Global,
+    hash: RandomState,
     source: &mut S,
     writer: &mut W,
     options: Options,
@@ -23,15 +28,40 @@ pub fn run<S: ByteSource, W: ByteSink>(
     requires writer { W.failed writer.old ≡ false }
     ensures output { IfOk result (λ status. WritesOutput (terms_by options)
         (S.left source.old) (W.written writer.old) (W.written writer.new) status) }
+    ensures works { OnOk result ((S.failed source.new ≡ false) × (W.failed writer.new ≡ false)) }
+    ensures part { OnErr result (WritesBeginning (terms_by options) (S.left source.old) (W.written writer.old) (W.written writer.new)) }
+    ensures fault { IfErr result (IsTrueFault (S.left source.old) (S.failed source.new) (W.failed writer.new)) }
+{
+    let mut engine = Engine::new(alloc, hash, options)?;
+    let ended = decide_all(alloc, &mut engine, source, writer);
+    // The program ends after a run: to give back each piece of the machine's memory before it would take a tenth of its time.
+    forget(engine);
+    ended
+}
+
+/// Decides each item of the input with an engine that has decided nothing, writes what is written for it, and then the last
+/// report.
+fn decide_all<S: ByteSource, W: ByteSink>(
+    alloc: Global,
+    engine: &mut Engine,
+    source: &mut S,
+    writer: &mut W,
+) -> Result<ExitStatus, RunFault>
+    requires fresh { progress_of engine.old ≡ start }
+    requires source { S.failed source.old ≡ false }
+    requires writer { W.failed writer.old ≡ false }
+    ensures output { IfOk result (λ status. WritesOutput (terms_of engine.old)
+        (S.left source.old) (W.written writer.old) (W.written writer.new) status) }
+    ensures works { OnOk result ((S.failed source.new ≡ false) × (W.failed writer.new ≡ false)) }
+    ensures part { OnErr result (WritesBeginning (terms_of engine.old) (S.left source.old) (W.written writer.old) (W.written writer.new)) }
     ensures fault { IfErr result (IsTrueFault (S.left source.old) (S.failed source.new) (W.failed writer.new)) }
 {
     let mut lines = LineBuffer::new(alloc)?;
-    let mut engine = Engine::new(alloc, options)?;
     let mut text = Vec::new(alloc);
     'items: for _turn in 0..u64::MAX {
         text.clear();
         let Some(item) = lines.next_item(source)? else {
-            let status = finish(&mut engine, &mut text, writer)?;
+            let status = finish(engine, &mut text, writer)?;
             return Ok(status);
         };
         engine.decide(&mut text, 0, item)?;
@@ -49,6 +79,8 @@ fn finish<W: ByteSink>(
     requires { W.failed writer.old ≡ false }
     ensures written { OnOk result (Appends (W.written writer.old) (W.written writer.new) (report_at (terms_of engine.old) (progress_of engine.old))) }
     ensures status { IfOk result (λ status. status ≡ status_at (progress_of engine.old)) }
+    ensures works { OnOk result (W.failed writer.new ≡ false) }
+    ensures part { OnErr result (AppendsBeginning (W.written writer.old) (W.written writer.new) (report_at (terms_of engine.old) (progress_of engine.old))) }
     ensures fault { IfErr result (IsFaultOfWriting (W.failed writer.new)) }
 {
     text.clear();

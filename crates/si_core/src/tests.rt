@@ -4,13 +4,19 @@ use crate::{Reply, Step, World, WorldFault};
 use si_model::operations::MOST_OPS;
 use si_model::{Edit, Key, Kind, Number, Op, Ops, Refusal, Stamp, Status, Txn, TxnId, Value};
 use std::alloc::{AllocGlobal, Global};
+use std::hash::RandomState;
 use std::process::Abort;
+use std::random::RandomSource;
 
 mod chance;
 
 fn key(rt: &impl Abort, alloc: Global, text: &str) -> Key {
     assert!(rt; Key::fits(text));
     Key::new(alloc, text).expect(rt, "memory")
+}
+
+fn some_hash(rt: &(impl Abort + RandomSource)) -> RandomState {
+    RandomState::new(rt).expect(rt, "random bytes")
 }
 
 /// Operations of the test itself, which are few enough.
@@ -47,7 +53,7 @@ fn fault_of(world: &World) -> Option<WorldFault> {
 #[test]
 fn a_machine_is_settled_step_by_step(rt: HostRuntime) {
     let alloc = rt.alloc();
-    let mut world = World::new(alloc, 2, 10).expect(&rt, "memory");
+    let mut world = World::new(alloc, some_hash(&rt), 2, 10).expect(&rt, "memory");
     let first = arrival(&rt, alloc, 1, 1, Op::Write(key(&rt, alloc, "x"), Value(1)));
     assert_eq!(rt; world.step(first), Reply::Accepted(Number(1)));
     let second = arrival(&rt, alloc, 3, 5, Op::Write(key(&rt, alloc, "y"), Value(3)));
@@ -72,7 +78,7 @@ fn a_machine_is_settled_step_by_step(rt: HostRuntime) {
 #[test]
 fn a_value_is_free_after_a_withdrawal(rt: HostRuntime) {
     let alloc = rt.alloc();
-    let mut world = World::new(alloc, 2, 10).expect(&rt, "memory");
+    let mut world = World::new(alloc, some_hash(&rt), 2, 10).expect(&rt, "memory");
     let mut steps = Vec::new(alloc);
     let first = arrival(&rt, alloc, 1, 1, Op::Write(key(&rt, alloc, "x"), Value(5)));
     steps.push(first).expect(&rt, "memory");
@@ -103,7 +109,7 @@ fn a_value_is_free_after_a_withdrawal(rt: HostRuntime) {
 #[test]
 fn a_stale_read_is_found_once_it_is_settled(rt: HostRuntime) {
     let alloc = rt.alloc();
-    let mut world = World::new(alloc, 16, 10).expect(&rt, "memory");
+    let mut world = World::new(alloc, some_hash(&rt), 16, 10).expect(&rt, "memory");
     let writer = arrival(&rt, alloc, 1, 1, Op::Write(key(&rt, alloc, "x"), Value(1)));
     assert_eq!(rt; world.step(writer), Reply::Accepted(Number(1)));
     let reader = arrival(&rt, alloc, 2, 3, Op::Read(key(&rt, alloc, "x"), None));
@@ -132,7 +138,7 @@ fn write(rt: &impl Abort, alloc: Global, name: &str, value: u64) -> Op {
 #[test]
 fn many_edits_are_applied_at_once(rt: HostRuntime) {
     let alloc = rt.alloc();
-    let mut world = World::new(alloc, 1, 10).expect(&rt, "memory");
+    let mut world = World::new(alloc, some_hash(&rt), 1, 10).expect(&rt, "memory");
     for id in 1..4 {
         let step = arrival(&rt, alloc, id, 2 * id, write(&rt, alloc, "x", id));
         assert_eq!(rt; world.step(step), Reply::Accepted(Number(id)));
@@ -148,7 +154,7 @@ fn many_edits_are_applied_at_once(rt: HostRuntime) {
 #[test]
 fn all_that_is_left_is_applied_at_once(rt: HostRuntime) {
     let alloc = rt.alloc();
-    let mut world = World::new(alloc, 1, 10).expect(&rt, "memory");
+    let mut world = World::new(alloc, some_hash(&rt), 1, 10).expect(&rt, "memory");
     let step = arrival(&rt, alloc, 1, 1, write(&rt, alloc, "x", 1));
     assert_eq!(rt; world.step(step), Reply::Accepted(Number(1)));
     assert_eq!(rt; world.apply_many(0, u64::MAX), Reply::Applied(1));
@@ -157,7 +163,7 @@ fn all_that_is_left_is_applied_at_once(rt: HostRuntime) {
 #[test]
 fn set_up_values_are_told(rt: HostRuntime) {
     let alloc = rt.alloc();
-    let mut world = World::new(alloc, 2, 10).expect(&rt, "memory");
+    let mut world = World::new(alloc, some_hash(&rt), 2, 10).expect(&rt, "memory");
     let first = arrival(&rt, alloc, 1, 1, write(&rt, alloc, "x", 5));
     assert_eq!(rt; world.step(first), Reply::Accepted(Number(1)));
     let taken = Step::Accept(Edit::SetUp(key(&rt, alloc, "x"), Value(5)));
@@ -185,7 +191,7 @@ fn set_up_values_are_told(rt: HostRuntime) {
 #[test]
 fn a_rebuilt_shard_is_where_it_was(rt: HostRuntime) {
     let alloc = rt.alloc();
-    let mut world = World::new(alloc, 1, 10).expect(&rt, "memory");
+    let mut world = World::new(alloc, some_hash(&rt), 1, 10).expect(&rt, "memory");
     let writer = arrival(&rt, alloc, 1, 1, write(&rt, alloc, "x", 1));
     assert_eq!(rt; world.step(writer), Reply::Accepted(Number(1)));
     let reader = arrival(&rt, alloc, 2, 3, Op::Read(key(&rt, alloc, "x"), None));

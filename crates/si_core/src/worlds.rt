@@ -20,6 +20,7 @@ use si_model::sorting::put_in_order;
 use si_model::{Edit, Finding, Key, MOST_EDITS, Number, OutOfMemory, Txn, Value};
 use si_shard::{MOST_SHARDS, Shard};
 use std::alloc::{AllocError, Global};
+use std::hash::RandomState;
 use std::marker::Model;
 
 /// The book and its shards on one thread.
@@ -45,7 +46,14 @@ impl Model for World {
 
 impl World {
     /// A machine with so many shards whose journal may have so many edits. Nothing is accepted yet.
-    pub fn new(alloc: Global, shards: usize, limit: usize) -> Result<Self, OutOfMemory>
+    ///
+    /// Its maps of ids, keys and values hash with this secret key, so that no log can be made to collide in them.
+    pub fn new(
+        alloc: Global,
+        hash: RandomState,
+        shards: usize,
+        limit: usize,
+    ) -> Result<Self, OutOfMemory>
         requires some_shards { 1 ≤ shards }
         requires most_shards { shards ≤ MOST_SHARDS }
         requires some_edits { 1 ≤ limit }
@@ -54,11 +62,11 @@ impl World {
     {
         let mut all = Vec::new(alloc);
         for shard in 0..shards {
-            all.push(Shard::new(alloc, shard, shards))?;
+            all.push(Shard::new(alloc, hash, shard, shards))?;
         }
         Ok(World {
             alloc,
-            book: Book::new(alloc, limit),
+            book: Book::new(alloc, hash, limit),
             shards: all,
         })
     }

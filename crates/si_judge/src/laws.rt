@@ -1,8 +1,17 @@
 //! Which findings an edit can change, what it may cost, and how the state of a key follows what is present. Each law is the
 //! contract of a function with an empty body.
 
+ghost use Rattle.std.specs.Prelude.{◌≡◌};
+ghost use Rattle.si_model.specs.Findings.{cases};
 ghost use Rattle.si_judge.specs.Following.{EditsFollow, NothingIsOfHistory, OthersAreNotHad, OthersPass, PartsAreHad, ResolutionsFollow, SameIsSame, SetUpsFollow};
 ghost use Rattle.si_judge.specs.Touched.{OtherReadsStay, UntouchedCostsTwo, UntouchedPairsStay, UntouchedReadsStay};
+
+use crate::{Cases, Judge};
+
+/// The judge of snapshot isolation judges by the cases of the definitions.
+pub fn judge_has_the_cases()
+    ensures { ⟦<Cases as Judge>⟧.rules ≡ cases }
+{}
 
 /// What is seen at a read stays as it was through an edit on another transaction that neither writes the value that the read
 /// returned nor installs a version that the reader missed, before the edit as after it.

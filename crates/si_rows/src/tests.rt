@@ -5,6 +5,7 @@ mod books;
 mod evidence;
 mod findings;
 mod histories;
+mod large;
 mod refusals;
 mod refused_memory;
 mod scripts;

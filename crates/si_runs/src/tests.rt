@@ -1,10 +1,13 @@
 //! What lines say, what is written, and how runs and the whole program end.
 
+mod devices;
 mod evidence;
 mod files;
 mod helps;
 mod inputs;
+mod interruptions;
 mod long_runs;
+mod named_files;
 mod programs;
 mod readings;
 mod rows;
@@ -14,7 +17,9 @@ mod texts;
 use si_cli::{ExitStatus, Options, run};
 use si_text::memory::{MemorySink, MemorySource};
 use std::alloc::Global;
+use std::hash::RandomState;
 use std::process::Abort;
+use std::random::RandomSource;
 use std::test::Fail;
 
 /// What the tests run with, where they say nothing else.
@@ -27,7 +32,7 @@ const PLAIN: Options = Options {
 
 /// A run over the input, which gives and takes so many bytes at once, writes the output and has that status.
 fn check_text(
-    rt: &impl Abort,
+    rt: &(impl Abort + RandomSource),
     alloc: Global,
     piece: usize,
     options: Options,
@@ -40,7 +45,14 @@ fn check_text(
     let mut sink = MemorySink::new(alloc, piece);
     assert!(rt; 1 <= options.shards && options.shards <= 16);
     assert!(rt; 1 <= options.limit && options.limit <= 16_777_216);
-    let ended = run(alloc, &mut source, &mut sink, options).ok();
+    let ended = run(
+        alloc,
+        RandomState::new(rt)?,
+        &mut source,
+        &mut sink,
+        options,
+    )
+    .ok();
     assert_eq!(rt; ended, Some(status));
     assert_eq!(rt; sink.as_slice(), output.as_bytes());
     Ok(())
@@ -48,7 +60,7 @@ fn check_text(
 
 /// The same, by bytes one at a time, and all at once with any number of shards.
 fn check_with(
-    rt: &impl Abort,
+    rt: &(impl Abort + RandomSource),
     alloc: Global,
     options: Options,
     input: &str,
@@ -65,7 +77,7 @@ fn check_with(
 
 /// The same, with reports after each so many lines.
 fn check(
-    rt: &impl Abort,
+    rt: &(impl Abort + RandomSource),
     alloc: Global,
     every: Option<u64>,
     input: &str,

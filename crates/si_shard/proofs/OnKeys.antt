@@ -1,7 +1,8 @@
 -- The states of many keys, each changed by itself.
-use Rattle.std.proofs.Common.{◌≡◌, ◌≢◌, ◌∙◌, ◌↔◌, ℕ, Bool, true, false, cond, List, [], Option, Some, None, refl, sym, ap, subst, true≢false, BuildHasherDefault, FoldHasher}
+use Rattle.std.proofs.Common.{◌≡◌, ◌≢◌, ◌∙◌, ◌↔◌, ℕ, Bool, true, false, cond, List, [], Option, Some, None, refl, sym, ap, subst, true≢false}
 use Rattle.std.specs.List.{Contains}
 use Rattle.std.specs.HashMap.{HashMap, get}
+use Rattle.std.specs.declared.random_state.RandomState.{RandomState}
 use Rattle.std.specs.BTreeSet.{contains, Updates as SetUpdates}
 use Rattle.std.specs.Ordering.{nat_cmp}
 use Rattle.std.specs.Cmp.Lexicographic.{slice_cmp, texts_ties}
@@ -116,7 +117,7 @@ module _ (x : List ℕ) (c : Change) (old new : KeyStates) (is_empty has_finding
         changed_after x c old new made.state is_empty has_findings sound made.whole made.present made.left states found_by,
       )
 
-  pub changed_dropped : (mid : HashMap (List ℕ) State (BuildHasherDefault FoldHasher)) → IsChangedIn x c is_empty has_findings old.states mid → is_empty ≡ true
+  pub changed_dropped : (mid : HashMap (List ℕ) State RandomState) → IsChangedIn x c is_empty has_findings old.states mid → is_empty ≡ true
       → ((y : List ℕ) → get same_key new.states y ≡ cond (same_key x y) None (get same_key mid y)) → AreStates new × IsChangedAt x c old new
   unfolding on
   changed_dropped mid made e dropped =

@@ -17,6 +17,7 @@ use si_model::parts::Accesses;
 use si_model::{Edit, Finding, Key, Op, OutOfMemory, Part, Placed, Value};
 use std::alloc::Global;
 use std::collections::{BTreeMap, HashMap};
+use std::hash::RandomState;
 
 /// The states of a shard's keys after some edits, and where the transactions arrived that are on them.
 #[derive(Drop)]
@@ -25,18 +26,18 @@ pub struct Applied {
     keys: KeyStates,
     // From the id of each present transaction that is on the shard's keys to its arrival among the stored edits, which tells
     // a resolution and a withdrawal the keys.
-    arrivals: HashMap<u64, usize>,
+    arrivals: HashMap<u64, usize, RandomState>,
 }
 
 impl Applied {
     /// Before any edit.
-    pub fn new(alloc: Global) -> Self
+    pub fn new(alloc: Global, hash: RandomState) -> Self
         ensures { (id : ShardId) → AreApplied id [] result }
     {
         Applied {
             alloc,
-            keys: KeyStates::new(alloc),
-            arrivals: HashMap::new(alloc),
+            keys: KeyStates::new(alloc, hash),
+            arrivals: HashMap::with_hasher(alloc, hash),
         }
     }
 
@@ -159,7 +160,7 @@ fn change_by(edit: &Edit, list: Vec<Placed>) -> Change
 
 /// Keeps the place of an arrival that touches the shard's keys, and forgets that of a transaction that is withdrawn.
 fn set_arrival(
-    arrivals: &mut HashMap<u64, usize>,
+    arrivals: &mut HashMap<u64, usize, RandomState>,
     edit: &Edit,
     touches: bool,
     place: usize,

@@ -18,12 +18,13 @@ use si_judge::{Cases, KeyState};
 use si_model::{Finding, Key, OutOfMemory};
 use std::alloc::{AllocError, Global};
 use std::collections::{BTreeSet, HashMap};
+use std::hash::RandomState;
 
 /// The states of the keys on which anything is. A key on which nothing is has no state.
 #[derive(Drop)]
 pub struct KeyStates {
     alloc: Global,
-    states: HashMap<Key, KeyState<Cases>>,
+    states: HashMap<Key, KeyState<Cases>, RandomState>,
     // The keys on which something is found, in order, so that findings cost what is found.
     found: BTreeSet<Key>,
 }
@@ -36,13 +37,13 @@ struct Left {
 }
 
 impl KeyStates {
-    pub fn new(alloc: Global) -> Self
+    pub fn new(alloc: Global, hash: RandomState) -> Self
         ensures states { AreStates result }
         ensures nothing { (x : List ℕ) → on result x ≡ empty_key }
     {
         KeyStates {
             alloc,
-            states: HashMap::new(alloc),
+            states: HashMap::with_hasher(alloc, hash),
             found: BTreeSet::new(alloc),
         }
     }
@@ -105,7 +106,7 @@ impl KeyStates {
 /// Changes the state of the key, which is a new one where there was none.
 fn change_in(
     alloc: Global,
-    states: &mut HashMap<Key, KeyState<Cases>>,
+    states: &mut HashMap<Key, KeyState<Cases>, RandomState>,
     key: &Key,
     what: Change,
 ) -> Result<Left, OutOfMemory>

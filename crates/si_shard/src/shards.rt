@@ -9,6 +9,7 @@ use crate::applied::Applied;
 use si_judge::KeyFault;
 use si_model::{Edit, Finding, Number, OutOfMemory};
 use std::alloc::Global;
+use std::hash::RandomState;
 use std::marker::Model;
 
 /// The most shards that keys may be spread over.
@@ -20,6 +21,7 @@ pub const MOST_SHARDS: usize = 16;
 #[derive(Drop)]
 pub struct Shard {
     alloc: Global,
+    hash: RandomState,
     id: ShardId,
     stored: Vec<Edit>,
     // What the stored edits made of the shard's keys, unless it is spoiled.
@@ -40,16 +42,19 @@ impl Model for Shard {
 
 impl Shard {
     /// The shard of this number, from 0, among so many. It has stored no edit.
-    pub fn new(alloc: Global, shard: usize, shards: usize) -> Self
+    ///
+    /// Its maps of ids and keys hash with this secret key, so that no log can be made to collide in them.
+    pub fn new(alloc: Global, hash: RandomState, shard: usize, shards: usize) -> Self
         requires within { shard < shards }
         requires most { shards ≤ MOST_SHARDS }
         ensures { result ≡ record { id = record { shard = shard; shards = shards }; stored = []; spoiled = false } }
     {
         Shard {
             alloc,
+            hash,
             id: ShardId { shard, shards },
             stored: Vec::new(alloc),
-            applied: Applied::new(alloc),
+            applied: Applied::new(alloc, hash),
             spoiled: false,
         }
     }
@@ -97,7 +102,7 @@ impl Shard {
         ensures ok { OnOk result (self.new ≡ record self.old { spoiled = false }) }
         ensures err { OnErr result (self.new ≡ self.old) }
     {
-        self.applied = applied_from(self.alloc, self.stored.as_slice(), self.id)?;
+        self.applied = applied_from(self.alloc, self.hash, self.stored.as_slice(), self.id)?;
         self.spoiled = false;
         Ok(())
     }
@@ -118,12 +123,17 @@ impl Shard {
 }
 
 /// What these edits make of the shard, from nothing.
-fn applied_from(alloc: Global, edits: &[Edit], id: ShardId) -> Result<Applied, OutOfMemory>
+fn applied_from(
+    alloc: Global,
+    hash: RandomState,
+    edits: &[Edit],
+    id: ShardId,
+) -> Result<Applied, OutOfMemory>
     requires shards { 0 < id.shards }
     requires accepted { IsAccepted edits.now }
     ensures { IfOk result (AreApplied id edits.now) }
 {
-    let mut applied = Applied::new(alloc);
+    let mut applied = Applied::new(alloc, hash);
     for place in 0..edits.len() {
         applied.apply(&edits[..place], &edits[place], id)?;
     }

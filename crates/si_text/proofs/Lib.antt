@@ -5,3 +5,10 @@ pub mod PieceLemmas
 pub mod FeedLemmas
 pub mod InputLemmas
 pub mod YieldLemmas
+pub mod StepLemmas
+pub mod OpConditions
+pub mod Ruled
+pub mod KindConditions
+pub mod LineConditions
+pub mod TellingLemmas
+pub mod ToldLemmas

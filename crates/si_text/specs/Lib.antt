@@ -2,4 +2,9 @@ pub mod Faults
 pub mod Lines
 pub mod Texts
 pub mod Inputs
+pub mod Devices
+pub mod Memory
 pub mod LineBuffers
+pub mod Conditions
+pub mod Telling
+pub mod Laws

@@ -8,6 +8,10 @@ use Rattle.si_text.specs.declared.line_buffers.LineBuffer.{LineBuffer}
 abbrev pub lines_ended : LineBuffer → ℕ
 lines_ended buffer = buffer.lines
 
+-- how many reads gave bytes
+abbrev pub reads_made : LineBuffer → ℕ
+reads_made buffer = buffer.reads
+
 -- the bytes that were read and stand behind these lines; of a line that is too long, so many that it still is
 abbrev pub bytes_held : LineBuffer → List ℕ
 bytes_held buffer = buffer.line.items ++ buffer.piece
@@ -18,19 +22,20 @@ bytes_to_come buffer left = prepend_known (bytes_held buffer) left
 
 -- no line has begun, and no read was made
 abbrev pub IsFresh : LineBuffer → Type 0
-IsFresh buffer = (buffer.lines ≡ 0) × (bytes_held buffer ≡ []) × (buffer.reads ≡ 0)
+IsFresh buffer = (lines_ended buffer ≡ 0) × (bytes_held buffer ≡ []) × (reads_made buffer ≡ 0)
 
 -- all reads are used up, or all numbers of lines
 abbrev pub IsSpent : LineBuffer → Type 0
-IsSpent buffer = (buffer.reads ≡ 2 ^ 64 - 1) ⊎ (buffer.lines ≡ 2 ^ 64 - 1)
+IsSpent buffer = (reads_made buffer ≡ 2 ^ 64 - 1) ⊎ (lines_ended buffer ≡ 2 ^ 64 - 1)
 
 -- whatever bytes follow, the old buffer gives these items, and then what the new one gives
 pub record Passes (old new : LineBuffer) (items : List Item) : Type 0 where
-  pub same : (more : List ℕ) → items_after old.lines (bytes_held old ++ more) ≡ items ++ items_after new.lines (bytes_held new ++ more)
+  pub same : (more : List ℕ) → items_after (lines_ended old) (bytes_held old ++ more) ≡ items ++ items_after (lines_ended new) (bytes_held new ++ more)
 
 -- reads are counted, and lines end, no more often than known bytes are taken: so an input of fewer than 2^64 - 1 bytes spends no buffer
 abbrev pub CountsBytes : LineBuffer → Option (List ℕ) → LineBuffer → Option (List ℕ) → Type 0
 CountsBytes old None new rest = ⊤
 CountsBytes old (Some left) new None = ⊥
 CountsBytes old (Some left) new (Some rest) =
-    (new.reads + length rest ≤ old.reads + length left) × (new.lines + length (bytes_held new ++ rest) ≤ old.lines + length (bytes_held old ++ left))
+    (reads_made new + length rest ≤ reads_made old + length left)
+    × (lines_ended new + length (bytes_held new ++ rest) ≤ lines_ended old + length (bytes_held old ++ left))

@@ -1,6 +1,7 @@
 ghost use Rattle.std.specs.Prelude.{◌≡◌, ◌≤◌, ◌<◌, ◌||◌, ℕ, List, Bool, Option, length, is_err, IfOk};
 ghost use Rattle.std.specs.Io.{ReadsAtMost, WritesAtMost};
 ghost use Rattle.std.specs.Io.KnownBytes.{ReadConsumes, WriteAppends};
+ghost use Rattle.si_text.specs.Devices.{turned_by};
 
 use thiserror::Error;
 
@@ -17,6 +18,10 @@ pub trait ByteSource {
     /// Whether a read has failed.
     ghost failed: { Self → Bool };
 
+    /// Whether an odd number of reads has failed: a failed read turns it, and no other does. So who reads can say that one failed
+    /// since then, also of a source that had failed before.
+    ghost turned: { Self → Bool };
+
     /// Reads some bytes to the front of the buffer, and says how many: none only at the end.
     ///
     /// After an error no byte has moved.
@@ -24,7 +29,8 @@ pub trait ByteSource {
         requires { 0 < length buffer.old }
         ensures bound { ReadsAtMost result buffer.new }
         ensures bytes { ReadConsumes (left self.old) (left self.new) result buffer.new }
-        ensures failed { failed self.new ≡ (failed self.old || is_err result) };
+        ensures failed { failed self.new ≡ (failed self.old || is_err result) }
+        ensures turned { turned self.new ≡ turned_by (is_err result) (turned self.old) };
 }
 
 /// What bytes are written to.
@@ -50,6 +56,8 @@ impl<S: ByteSource> ByteSource for &mut S {
     ghost left = { λ source. S.left source.now };
 
     ghost failed = { λ source. S.failed source.now };
+
+    ghost turned = { λ source. S.turned source.now };
 
     fn read(&mut self, buffer: &mut [u8]) -> Result<usize, DeviceFailed> {
         ByteSource::read(&mut **self, buffer)

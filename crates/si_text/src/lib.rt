@@ -8,6 +8,7 @@
 pub mod devices;
 pub mod explaining;
 pub mod faults;
+pub mod laws;
 pub mod line_buffers;
 pub mod line_items;
 mod members;

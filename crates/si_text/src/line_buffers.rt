@@ -1,4 +1,4 @@
-ghost use Rattle.std.specs.Prelude.{◌≡◌, ◌≤◌, ◌<◌, ◌+◌, ◌^◌, ◌-◌, ◌∷◌, ◌++◌, ◌||◌, ◌⊎◌, List, ℕ, [], true, false, length, is_err, IfOk, OnOk, OnErr, IfErr, IsNone, take, vec_len, MatchBool};
+ghost use Rattle.std.specs.Prelude.{◌≡◌, ◌≤◌, ◌<◌, ◌+◌, ◌^◌, ◌-◌, ◌∷◌, ◌++◌, ◌||◌, ◌⊎◌, List, ℕ, [], true, false, not, length, is_err, IfOk, OnOk, OnErr, IfErr, IsNone, take, vec_len, MatchBool};
 ghost use Rattle.std.specs.Option.{option_to_list};
 ghost use Rattle.std.specs.Io.KnownBytes.{Consumes, IsAtEnd, Keeps};
 ghost use Rattle.si_text.specs.Inputs.{has_line_feed, item_of, items_after, Yields};
@@ -101,8 +101,11 @@ impl LineBuffer {
         // A fault of the device is told only where it failed in this call or no further read or line is allowed.
         ensures device { IfErr result (λ fault. fault ≡ InputFault.DeviceFailed
             → (S.failed source.new ≡ true) ⊎ IsSpent self.new) }
+        ensures here { IfErr result (λ fault. fault ≡ InputFault.DeviceFailed
+            → (S.turned source.new ≡ not (S.turned source.old)) ⊎ IsSpent self.new) }
         ensures counts { CountsBytes self.old (S.left source.old) self.new (S.left source.new) }
         ensures works { OnOk result (S.failed source.new ≡ S.failed source.old) }
+        ensures steady { OnOk result (S.turned source.new ≡ S.turned source.old) }
         ensures memory { IfErr result (λ fault. fault ≡ InputFault.OutOfMemory
             → S.failed source.new ≡ S.failed source.old) }
     {
@@ -220,7 +223,10 @@ impl LineBuffer {
             ((self.new.piece ≡ []) × Keeps (S.left source.old) (S.left source.new)) }
         ensures device { IfErr result (λ fault. (fault ≡ InputFault.DeviceFailed)
             × ((S.failed source.new ≡ true) ⊎ IsSpent self.new)) }
+        ensures here { OnErr result
+            ((S.turned source.new ≡ not (S.turned source.old)) ⊎ IsSpent self.new) }
         ensures failed { OnOk result (S.failed source.new ≡ S.failed source.old) }
+        ensures turned { OnOk result (S.turned source.new ≡ S.turned source.old) }
         ensures line { (self.new.line ≡ self.old.line) × (self.new.lines ≡ self.old.lines) }
         ensures reads { IfOk result (λ some. MatchBool some
             ((self.new.reads ≡ self.old.reads + 1) × (self.old.reads < 2 ^ 64 - 1))

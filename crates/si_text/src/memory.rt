@@ -1,4 +1,7 @@
-ghost use Rattle.std.specs.Prelude.{◌≡◌, ◌≤◌, ◌||◌, ◌==◌, Some, [], length, drop, true, false, vec_len};
+ghost use Rattle.std.specs.Prelude.{◌≡◌, ◌≤◌, ◌<◌, ◌+◌, ◌||◌, ◌==◌, Some, Ok, [], length, drop, min, true, false, vec_len, is_err, IfOk};
+ghost use Rattle.std.specs.Io.{ReadsAtMost, WritesAtMost};
+ghost use Rattle.std.specs.Io.KnownBytes.{ReadConsumes, WriteAppends};
+ghost use Rattle.si_text.specs.Devices.{turned_by};
 
 use crate::devices::{ByteSink, ByteSource, DeviceFailed};
 use std::alloc::Global;
@@ -15,10 +18,13 @@ pub struct MemorySource {
 }
 
 impl MemorySource {
+    ghost use Rattle.si_text.specs.Memory.{most_given};
+
     /// A source of these bytes, in pieces of at most so many.
     pub fn new(bytes: Vec<u8>, piece: usize) -> Self
         requires { 1 ≤ piece }
         ensures left { ⟦<MemorySource as ByteSource>⟧.left result ≡ Some bytes.items }
+        ensures piece { most_given result ≡ piece }
         ensures failed { ⟦<MemorySource as ByteSource>⟧.failed result ≡ false }
     {
         MemorySource {
@@ -30,11 +36,24 @@ impl MemorySource {
 }
 
 impl ByteSource for MemorySource {
+    ghost use Rattle.si_text.specs.Memory.{bytes_left, most_given};
+
     ghost left = { λ source. Some (drop source.given source.bytes.items) };
 
     ghost failed = { λ _. false };
 
-    fn read(&mut self, buffer: &mut [u8]) -> Result<usize, DeviceFailed> {
+    ghost turned = { λ _. false };
+
+    /// Gives as many of its next bytes as there is room for and one piece may have, and none only at the end.
+    fn read(&mut self, buffer: &mut [u8]) -> Result<usize, DeviceFailed>
+        requires { 0 < length buffer.old }
+        ensures bound { ReadsAtMost result buffer.new }
+        ensures bytes { ReadConsumes (Some (bytes_left self.old)) (Some (bytes_left self.new)) result
+            buffer.new }
+        ensures gives { result ≡ Ok (min (min (length buffer.old) (most_given self.old))
+            (length (bytes_left self.old))) }
+        ensures piece { most_given self.new ≡ most_given self.old }
+    {
         let rest = self.bytes.len() - self.given;
         let count = buffer.len().min(self.piece).min(rest);
         let end = self.given + count;
@@ -54,10 +73,13 @@ pub struct MemorySink {
 }
 
 impl MemorySink {
+    ghost use Rattle.si_text.specs.Memory.{most_taken};
+
     /// An empty sink that takes pieces of at most so many bytes.
     pub fn new(alloc: Global, piece: usize) -> Self
         requires { 1 ≤ piece }
         ensures written { ⟦<MemorySink as ByteSink>⟧.written result ≡ Some [] }
+        ensures piece { most_taken result ≡ piece }
         ensures failed { ⟦<MemorySink as ByteSink>⟧.failed result ≡ false }
     {
         MemorySink {
@@ -76,11 +98,24 @@ impl MemorySink {
 }
 
 impl ByteSink for MemorySink {
+    ghost use Rattle.si_text.specs.Memory.{bytes_taken, has_failed, most_taken};
+
     ghost written = { λ sink. Some sink.bytes.items };
 
     ghost failed = { λ sink. sink.has_failed };
 
-    fn write(&mut self, bytes: &[u8]) -> Result<usize, DeviceFailed> {
+    /// Takes as many bytes as one piece may have.
+    fn write(&mut self, bytes: &[u8]) -> Result<usize, DeviceFailed>
+        requires { 0 < length bytes.now }
+        ensures some { IfOk result (λ count. 1 ≤ count) }
+        ensures bound { WritesAtMost result bytes.now }
+        ensures bytes { WriteAppends (Some (bytes_taken self.old)) (Some (bytes_taken self.new)) result
+            bytes.now }
+        ensures failed { has_failed self.new ≡ (has_failed self.old || is_err result) }
+        ensures takes { IfOk result
+            (λ count. count ≡ min (length bytes.now) (most_taken self.old)) }
+        ensures piece { most_taken self.new ≡ most_taken self.old }
+    {
         let count = bytes.len().min(self.piece);
         if self.bytes.extend_from_slice(&bytes[..count]).is_err() {
             self.has_failed = true;
@@ -97,31 +132,57 @@ pub struct FailingSource<S> {
     /// How many reads are left before each one fails.
     reads: u64,
     has_failed: bool,
+    /// Whether an odd number of reads has failed that weren't passed on.
+    has_turned: bool,
 }
 
 impl<S: ByteSource> FailingSource<S> {
+    ghost use Rattle.si_text.specs.Memory.{reads_left, source_behind};
+
     /// A source whose first `reads` reads are those of the other one, and all later ones fail.
     pub fn new(source: S, reads: u64) -> Self
         ensures left { ⟦<FailingSource<S> as ByteSource>⟧.left result ≡ S.left source }
         ensures failed { ⟦<FailingSource<S> as ByteSource>⟧.failed result
             ≡ S.failed source }
+        ensures reads { reads_left result ≡ reads }
+        ensures behind { source_behind result ≡ source }
     {
         FailingSource {
             source,
             reads,
             has_failed: false,
+            has_turned: false,
         }
     }
 }
 
 impl<S: ByteSource> ByteSource for FailingSource<S> {
+    ghost use Rattle.si_text.specs.Memory.{reads_left, source_behind, source_failed, source_turned};
+
     ghost left = { λ source. S.left source.source };
 
     ghost failed = { λ source. source.has_failed || S.failed source.source };
 
-    fn read(&mut self, buffer: &mut [u8]) -> Result<usize, DeviceFailed> {
+    ghost turned = { λ source. turned_by source.has_turned (S.turned source.source) };
+
+    /// While reads are left, the answer is the other source's, and fails only where that one does. Then each read fails.
+    fn read(&mut self, buffer: &mut [u8]) -> Result<usize, DeviceFailed>
+        requires { 0 < length buffer.old }
+        ensures bound { ReadsAtMost result buffer.new }
+        ensures bytes { ReadConsumes (S.left (source_behind self.old)) (S.left (source_behind self.new))
+            result buffer.new }
+        ensures failed { source_failed S.failed self.new
+            ≡ (source_failed S.failed self.old || is_err result) }
+        ensures turned { source_turned S.turned self.new
+            ≡ turned_by (is_err result) (source_turned S.turned self.old) }
+        ensures passed { 0 < reads_left self.old → (reads_left self.new + 1 ≡ reads_left self.old)
+            × (S.turned (source_behind self.new) ≡ turned_by (is_err result) (S.turned (source_behind self.old))) }
+        ensures spent { reads_left self.old ≡ 0 → (is_err result ≡ true)
+            × (source_behind self.new ≡ source_behind self.old) × (reads_left self.new ≡ 0) }
+    {
         if self.reads == 0 {
             self.has_failed = true;
+            self.has_turned = !self.has_turned;
             return Err(DeviceFailed);
         }
         self.reads -= 1;
@@ -139,10 +200,14 @@ pub struct FailingSink<W> {
 }
 
 impl<W: ByteSink> FailingSink<W> {
+    ghost use Rattle.si_text.specs.Memory.{writes_left, sink_behind};
+
     /// A sink whose first `writes` writes are those of the other one, and all later ones fail.
     pub fn new(sink: W, writes: u64) -> Self
         ensures written { ⟦<FailingSink<W> as ByteSink>⟧.written result ≡ W.written sink }
         ensures failed { ⟦<FailingSink<W> as ByteSink>⟧.failed result ≡ W.failed sink }
+        ensures writes { writes_left result ≡ writes }
+        ensures behind { sink_behind result ≡ sink }
     {
         FailingSink {
             sink,
@@ -153,11 +218,26 @@ impl<W: ByteSink> FailingSink<W> {
 }
 
 impl<W: ByteSink> ByteSink for FailingSink<W> {
+    ghost use Rattle.si_text.specs.Memory.{writes_left, sink_behind, sink_failed};
+
     ghost written = { λ sink. W.written sink.sink };
 
     ghost failed = { λ sink. sink.has_failed || W.failed sink.sink };
 
-    fn write(&mut self, bytes: &[u8]) -> Result<usize, DeviceFailed> {
+    /// While writes are left, the answer is the other sink's, and fails only where that one does. Then each write fails.
+    fn write(&mut self, bytes: &[u8]) -> Result<usize, DeviceFailed>
+        requires { 0 < length bytes.now }
+        ensures some { IfOk result (λ count. 1 ≤ count) }
+        ensures bound { WritesAtMost result bytes.now }
+        ensures bytes { WriteAppends (W.written (sink_behind self.old)) (W.written (sink_behind self.new))
+            result bytes.now }
+        ensures failed { sink_failed W.failed self.new
+            ≡ (sink_failed W.failed self.old || is_err result) }
+        ensures passed { 0 < writes_left self.old → (writes_left self.new + 1 ≡ writes_left self.old)
+            × (W.failed (sink_behind self.new) ≡ (W.failed (sink_behind self.old) || is_err result)) }
+        ensures spent { writes_left self.old ≡ 0 → (is_err result ≡ true)
+            × (sink_behind self.new ≡ sink_behind self.old) × (writes_left self.new ≡ 0) }
+    {
         if self.writes == 0 {
             self.has_failed = true;
             return Err(DeviceFailed);

@@ -1,5 +1,6 @@
 ghost use Rattle.std.specs.Prelude.{◌≡◌, ◌≤◌, ◌||◌, [], length, drop, ◌<◌, IfOk, is_err, OnErr, MatchBool};
 ghost use Rattle.std.specs.Io.KnownBytes.{Consumes, IsAtEnd, Keeps};
+ghost use Rattle.si_text.specs.Devices.{turned_by};
 
 use crate::devices::{ByteSource, DeviceFailed};
 use std::alloc::{AllocError, Global};
@@ -64,6 +65,7 @@ impl Piece {
         ensures err { OnErr result
             ((self.new ≡ []) × Keeps (S.left source.old) (S.left source.new)) }
         ensures failed { S.failed source.new ≡ (S.failed source.old || is_err result) }
+        ensures turned { S.turned source.new ≡ turned_by (is_err result) (S.turned source.old) }
     {
         self.start = 0;
         self.end = 0;

@@ -1,4 +1,5 @@
-ghost use Rattle.std.specs.Prelude.{◌≡◌, false};
+ghost use Rattle.std.specs.Prelude.{◌≡◌, ◌↔◌, IsTrue, false};
+ghost use Rattle.std.specs.IoError.{error_kind};
 
 use crate::devices::{ByteSink, ByteSource, DeviceFailed};
 use std::io;
@@ -11,6 +12,8 @@ use std::io::{ErrorKind, Read, Write};
 pub struct StdSource<R> {
     reader: R,
     has_failed: bool,
+    /// Whether an odd number of reads has failed.
+    has_turned: bool,
 }
 
 impl<R: Read> StdSource<R> {
@@ -22,6 +25,7 @@ impl<R: Read> StdSource<R> {
         StdSource {
             reader,
             has_failed: false,
+            has_turned: false,
         }
     }
 }
@@ -31,6 +35,8 @@ impl<R: Read> ByteSource for StdSource<R> {
 
     ghost failed = { λ source. source.has_failed };
 
+    ghost turned = { λ source. source.has_turned };
+
     fn read(&mut self, buffer: &mut [u8]) -> Result<usize, DeviceFailed> {
         'tries: for _ in 0..u64::MAX {
             match self.reader.read(buffer) {
@@ -38,12 +44,14 @@ impl<R: Read> ByteSource for StdSource<R> {
                 Err(error) => {
                     if !is_interrupted(&error) {
                         self.has_failed = true;
+                        self.has_turned = !self.has_turned;
                         return Err(DeviceFailed);
                     }
                 }
             }
         }
         self.has_failed = true;
+        self.has_turned = !self.has_turned;
         Err(DeviceFailed)
     }
 }
@@ -97,6 +105,8 @@ impl<W: Write> ByteSink for StdSink<W> {
 }
 
 /// Whether a signal came before anything was done.
-fn is_interrupted(error: &io::Error) -> bool {
+fn is_interrupted(error: &io::Error) -> bool
+    ensures { IsTrue result ↔ (error_kind error.now ≡ ErrorKind.Interrupted) }
+{
     error.kind() == ErrorKind::Interrupted
 }

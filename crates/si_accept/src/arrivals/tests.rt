@@ -38,7 +38,7 @@ fn assert_left(rt: &impl Abort, arrivals: &Arrivals) -> Result<(), Fail> {
 /// No clause says that the slots of withdrawn transactions are closed up: only the room that they take shows it.
 #[test]
 fn empty_slots_are_closed_up(rt: HostRuntime) -> Result<(), Fail> {
-    let mut arrivals = Arrivals::new(rt.alloc());
+    let mut arrivals = Arrivals::new(rt.alloc(), RandomState::new(&rt)?);
     for id in 0..1000u64 {
         arrive(&rt, &mut arrivals, txn_of(rt.alloc(), id)?)?;
     }

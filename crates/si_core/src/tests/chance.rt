@@ -158,14 +158,14 @@ struct Driven {
 }
 
 impl Driven {
-    fn new(rt: &(impl Abort + AllocGlobal), shards: usize) -> Result<Driven, Fail> {
+    fn new(rt: &(impl Abort + AllocGlobal + RandomSource), shards: usize) -> Result<Driven, Fail> {
         assert!(rt; 1 <= shards && shards <= MOST_SHARDS);
         let mut positions = Vec::new(rt.alloc());
         for _ in 0..shards {
             positions.push(0)?;
         }
         Ok(Driven {
-            world: World::new(rt.alloc(), shards, LIMIT)?,
+            world: World::new(rt.alloc(), RandomState::new(rt)?, shards, LIMIT)?,
             accepted: 0,
             positions,
         })
@@ -283,7 +283,7 @@ impl Driven {
 }
 
 fn drive(
-    rt: &(impl Abort + AllocGlobal),
+    rt: &(impl Abort + AllocGlobal + RandomSource),
     shards: usize,
     dice: &mut Dice,
     tally: &mut Tally,

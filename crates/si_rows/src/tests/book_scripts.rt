@@ -4,6 +4,8 @@ use super::scripts::{asked, edit_of};
 use super::*;
 use si_accept::{AcceptFault, Book};
 use si_model::{Edit, MOST_EDITS, Number, TxnId};
+use std::hash::RandomState;
+use std::random::RandomSource;
 
 /// Calls `accept` and says nothing of what it does: tests look at that, and their proofs needn't.
 pub(super) fn accept(book: &mut Book, edit: Edit) -> Result<Number, AcceptFault> {
@@ -78,9 +80,9 @@ fn give(rt: &(impl Abort + AllocGlobal), book: &mut Book, line: &str) -> Result<
     Ok(())
 }
 
-fn new_book(rt: &(impl Abort + AllocGlobal), limit: usize) -> Book {
+fn new_book(rt: &(impl Abort + AllocGlobal + RandomSource), limit: usize) -> Result<Book, Fail> {
     assert!(rt; 1 <= limit && limit <= MOST_EDITS);
-    Book::new(rt.alloc(), limit)
+    Ok(Book::new(rt.alloc(), RandomState::new(rt)?, limit))
 }
 
 fn play(rt: &(impl Abort + AllocGlobal), book: &mut Book, script: &str) -> Result<(), Fail> {
@@ -92,10 +94,10 @@ fn play(rt: &(impl Abort + AllocGlobal), book: &mut Book, script: &str) -> Resul
 
 /// A new book of that limit answers so, line after line.
 pub(super) fn answers(
-    rt: &(impl Abort + AllocGlobal),
+    rt: &(impl Abort + AllocGlobal + RandomSource),
     limit: usize,
     script: &str,
 ) -> Result<(), Fail> {
-    let mut book = new_book(rt, limit);
+    let mut book = new_book(rt, limit)?;
     play(rt, &mut book, script)
 }

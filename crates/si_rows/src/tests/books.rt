@@ -10,6 +10,7 @@ use si_model::{
     refusal_on,
 };
 use std::alloc::Global;
+use std::hash::RandomState;
 
 #[test]
 fn each_reason_comes_in_its_place(rt: HostRuntime) -> Result<(), Fail> {
@@ -242,9 +243,9 @@ struct Both {
 }
 
 impl Both {
-    fn new(alloc: Global) -> Both {
+    fn new(alloc: Global, hash: RandomState) -> Both {
         Both {
-            book: Book::new(alloc, MOST_EDITS),
+            book: Book::new(alloc, hash, MOST_EDITS),
             txns: Vec::new(alloc),
             initial: Vec::new(alloc),
         }
@@ -298,7 +299,7 @@ fn give_some(rt: &(impl Abort + AllocGlobal), both: &mut Both) -> Result<(), Fai
 
 #[test]
 fn the_book_answers_as_the_plain_program(rt: HostRuntime) -> Result<(), Fail> {
-    let mut both = Both::new(rt.alloc());
+    let mut both = Both::new(rt.alloc(), RandomState::new(&rt)?);
     give_some(&rt, &mut both)
 }
 

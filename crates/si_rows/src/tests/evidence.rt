@@ -117,7 +117,7 @@ fn explained_holds(
 }
 
 /// What explains the finding of the history.
-fn explained(
+pub(super) fn explained(
     rt: &(impl Abort + AllocGlobal),
     history: &History,
     finding: &Finding,

@@ -10,6 +10,8 @@ use super::scripts::{edit_of, key, ops_of, present};
 use super::*;
 use si_accept::{AcceptFault, Book};
 use si_model::{Edit, Key, MOST_EDITS, Number, Op, Ops, Stamp, Status, Txn, TxnId, Value};
+use std::hash::RandomState;
+use std::random::RandomSource;
 
 /// What a book has accepted, and what is present before and after one more edit: edits, and transactions as they would
 /// arrive, a line for each.
@@ -86,16 +88,16 @@ fn give_case(
 }
 
 fn accept_in_the_end(
-    rt: &(impl Abort + AllocGlobal + Print),
+    rt: &(impl Abort + AllocGlobal + Print + RandomSource),
     case: Case<'_>,
     edit: &Edit,
 ) -> Result<(), Fail> {
-    let mut book = Book::new(rt.alloc(), MOST_EDITS);
+    let mut book = Book::new(rt.alloc(), RandomState::new(rt)?, MOST_EDITS);
     give_case(rt, &mut book, case, edit)
 }
 
 fn accept_line_in_the_end(
-    rt: &(impl Abort + AllocGlobal + Print),
+    rt: &(impl Abort + AllocGlobal + Print + RandomSource),
     case: Case<'_>,
     line: &str,
 ) -> Result<(), Fail> {

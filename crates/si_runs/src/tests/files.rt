@@ -1,16 +1,18 @@
 //! The program over files.
 
-use si_cli::main_with;
+use si_cli::{StdFiles, main_with};
 use si_text::memory::{MemorySink, MemorySource};
 use std::alloc::Global;
+use std::hash::RandomState;
 use std::process::Abort;
+use std::random::RandomSource;
 use std::rt::Files;
 use std::test::Fail;
 use std::{env, fs, process};
 
 /// The program on these words, with nothing on standard input, writes this to both devices and ends with the status.
 fn writes(
-    rt: &(impl Abort + Files),
+    rt: &(impl Abort + Files + RandomSource),
     alloc: Global,
     words: &[&str],
     output: &str,
@@ -21,7 +23,15 @@ fn writes(
     let mut out = MemorySink::new(alloc, 4096);
     let mut err = MemorySink::new(alloc, 4096);
     assert_eq!(rt;
-        main_with(rt, alloc, words, &mut input, &mut out, &mut err),
+        main_with(
+            &StdFiles::new(rt),
+            alloc,
+            RandomState::new(rt)?,
+            words,
+            &mut input,
+            &mut out,
+            &mut err
+        ),
         status
     );
     assert_eq!(rt; out.as_slice(), output.as_bytes());

@@ -1,9 +1,11 @@
 //! What help tells: lines that fit a terminal, the forms of the input, how stamps are written, what ends with which status.
 
-use si_cli::main_with;
+use si_cli::{StdFiles, main_with};
 use si_text::memory::{MemorySink, MemorySource};
 use std::alloc::Global;
+use std::hash::RandomState;
 use std::process::Abort;
+use std::random::RandomSource;
 use std::rt::Files;
 use std::test::Fail;
 
@@ -12,7 +14,7 @@ const COLUMNS: usize = 80;
 
 /// The help that these words ask for has lines that fit, and each of the parts; it doesn't show several files.
 fn tells(
-    rt: &(impl Abort + Files),
+    rt: &(impl Abort + Files + RandomSource),
     alloc: Global,
     words: &[&str],
     parts: &[&str],
@@ -20,7 +22,15 @@ fn tells(
     let mut input = MemorySource::new(Vec::new(alloc), 4096);
     let mut out = MemorySink::new(alloc, 4096);
     let mut err = MemorySink::new(alloc, 4096);
-    let status = main_with(rt, alloc, words, &mut input, &mut out, &mut err);
+    let status = main_with(
+        &StdFiles::new(rt),
+        alloc,
+        RandomState::new(rt)?,
+        words,
+        &mut input,
+        &mut out,
+        &mut err,
+    );
     assert_eq!(rt; status, 0);
     let Ok(text) = str::from_utf8(out.as_slice()) else {
         return Err(Fail::from("help is text"));
@@ -36,7 +46,7 @@ fn tells(
 }
 
 /// What a client has to know before it logs.
-const TO_LOG: [&str; 13] = [
+const TO_LOG: [&str; 18] = [
     "{\"do\":\"txn\",",
     "{\"do\":\"resolve\",",
     "{\"do\":\"withdraw\",",
@@ -50,6 +60,11 @@ const TO_LOG: [&str; 13] = [
     "The status is the gate",
     "clean beside",
     "docs/LOGGING.md",
+    "at most 1048576 bytes, a key 1 to 128, a transaction 4096 OPs",
+    "The commit stamp of a transaction that writes is no stamp of another one",
+    "docs/FORMAT.md\nhas the code and reason of each refused line",
+    "each verdict",
+    "20 where snapshot isolation is violated; else 10 where",
 ];
 
 /// The words that findings begin with.

@@ -1,10 +1,12 @@
 //! Command lines, and devices that fail.
 
 use super::PLAIN;
-use si_cli::{ExitStatus, Options, RunFault, SettingsFault, main_with, run, settings_of};
+use si_cli::{ExitStatus, Options, RunFault, SettingsFault, StdFiles, main_with, run, settings_of};
 use si_text::memory::{FailingSink, FailingSource, MemorySink, MemorySource};
 use std::alloc::Global;
+use std::hash::RandomState;
 use std::process::Abort;
+use std::random::RandomSource;
 use std::rt::Files;
 use std::test::Fail;
 
@@ -17,7 +19,7 @@ fn source(alloc: Global) -> Result<MemorySource, Fail> {
 
 /// The program on these words ends with the status, and writes to both devices only where that is said.
 fn ends(
-    rt: &(impl Abort + Files),
+    rt: &(impl Abort + Files + RandomSource),
     alloc: Global,
     words: &[&str],
     status: u8,
@@ -28,7 +30,15 @@ fn ends(
     let mut out = MemorySink::new(alloc, 4096);
     let mut err = MemorySink::new(alloc, 4096);
     assert_eq!(rt;
-        main_with(rt, alloc, words, &mut input, &mut out, &mut err),
+        main_with(
+            &StdFiles::new(rt),
+            alloc,
+            RandomState::new(rt)?,
+            words,
+            &mut input,
+            &mut out,
+            &mut err
+        ),
         status
     );
     assert_eq!(rt; !out.as_slice().is_empty(), writes);
@@ -45,7 +55,15 @@ fn versions(rt: HostRuntime) -> Result<(), Fail> {
         let mut err = MemorySink::new(alloc, 4096);
         let words = ["sicheck", option];
         assert_eq!(&rt;
-            main_with(&rt, alloc, words.as_slice(), &mut input, &mut out, &mut err),
+            main_with(
+                &StdFiles::new(&rt),
+                alloc,
+                RandomState::new(&rt)?,
+                words.as_slice(),
+                &mut input,
+                &mut out,
+                &mut err
+            ),
             0
         );
         assert_eq!(&rt; out.as_slice(), "sicheck 0.1.0\n".as_bytes());
@@ -101,7 +119,7 @@ fn command_lines(rt: HostRuntime) -> Result<(), Fail> {
 
 /// The settings that these words ask for have so many shards.
 fn asks_for_shards(
-    rt: &impl Abort,
+    rt: &(impl Abort + RandomSource),
     alloc: Global,
     words: &[&str],
     shards: usize,
@@ -113,7 +131,7 @@ fn asks_for_shards(
 
 /// The settings that the words after the program's name ask for are these.
 fn asks(
-    rt: &impl Abort,
+    rt: &(impl Abort + RandomSource),
     alloc: Global,
     words: &[&str],
     every: Option<u64>,
@@ -192,14 +210,14 @@ fn failing_devices(rt: HostRuntime) -> Result<(), Fail> {
     let mut input = FailingSource::new(source(alloc)?, 0);
     let mut out = MemorySink::new(alloc, 4096);
     assert_eq!(rt;
-        run(alloc, &mut input, &mut out, PLAIN).err(),
+        run(alloc, RandomState::new(&rt)?, &mut input, &mut out, PLAIN).err(),
         Some(RunFault::Input(0))
     );
     assert!(rt; out.as_slice().is_empty());
     let mut input = source(alloc)?;
     let mut out = FailingSink::new(MemorySink::new(alloc, 4096), 0);
     assert_eq!(rt;
-        run(alloc, &mut input, &mut out, PLAIN).err(),
+        run(alloc, RandomState::new(&rt)?, &mut input, &mut out, PLAIN).err(),
         Some(RunFault::Output)
     );
     Ok(())
@@ -213,7 +231,15 @@ fn faults_in_words(rt: HostRuntime) -> Result<(), Fail> {
     let mut err = MemorySink::new(alloc, 4096);
     let words = ["sicheck", "check"];
     assert_eq!(rt;
-        main_with(&rt, alloc, words.as_slice(), &mut input, &mut out, &mut err),
+        main_with(
+            &StdFiles::new(&rt),
+            alloc,
+            RandomState::new(&rt)?,
+            words.as_slice(),
+            &mut input,
+            &mut out,
+            &mut err
+        ),
         2
     );
     assert_eq!(rt;
@@ -224,7 +250,15 @@ fn faults_in_words(rt: HostRuntime) -> Result<(), Fail> {
     let mut out = FailingSink::new(MemorySink::new(alloc, 4096), 0);
     let mut err = MemorySink::new(alloc, 4096);
     assert_eq!(rt;
-        main_with(&rt, alloc, words.as_slice(), &mut input, &mut out, &mut err),
+        main_with(
+            &StdFiles::new(&rt),
+            alloc,
+            RandomState::new(&rt)?,
+            words.as_slice(),
+            &mut input,
+            &mut out,
+            &mut err
+        ),
         2
     );
     assert_eq!(rt; err.as_slice(), b"sicheck: cannot write\n".as_slice());

@@ -9,6 +9,7 @@ use si_text::{
 };
 use std::alloc::Global;
 use std::process::Abort;
+use std::random::RandomSource;
 use std::test::Fail;
 
 /// The text of a finding on the key.
@@ -121,7 +122,7 @@ fn keys_that_need_escapes(rt: HostRuntime) -> Result<(), Fail> {
 
 /// Prints a refused item behind a line that is there, and compares.
 fn check_refusal(
-    rt: &impl Abort,
+    rt: &(impl Abort + RandomSource),
     alloc: Global,
     line: u64,
     reason: Reason,
@@ -228,7 +229,7 @@ fn transaction(alloc: Global, id: u64, commit: u64, ops: Vec<Op>) -> Result<Txn,
 
 /// The report of these transactions, of which the findings are computed.
 fn check_report(
-    rt: &impl Abort,
+    rt: &(impl Abort + RandomSource),
     alloc: Global,
     present: &[Txn],
     refused: u64,
@@ -239,7 +240,7 @@ fn check_report(
 
 /// The same beside keys that were set up, with or without evidence.
 fn check_explained(
-    rt: &impl Abort,
+    rt: &(impl Abort + RandomSource),
     alloc: Global,
     (txns, initial): (&[Txn], &[(Key, Value)]),
     refused: u64,
@@ -257,7 +258,7 @@ fn check_explained(
 
 /// The line of this evidence.
 fn check_evidence_line(
-    rt: &impl Abort,
+    rt: &(impl Abort + RandomSource),
     alloc: Global,
     evidence: &Evidence,
     text: &str,

@@ -9,6 +9,7 @@ invariant-pieces g l =
     Yields l.initial.self.lines (bytes_to_come l.initial.self (g.S.ByteSource.left l.initial.source)) l.self.lines (bytes_to_come l.self (g.S.ByteSource.left l.source)) []
     × CountsBytes l.initial.self (g.S.ByteSource.left l.initial.source) l.self (g.S.ByteSource.left l.source)
     × (g.S.ByteSource.failed l.source ≡ g.S.ByteSource.failed l.initial.source)
+    × (g.S.ByteSource.turned l.source ≡ g.S.ByteSource.turned l.initial.source)
 
 abbrev pub decreases-pieces : goal.decreases-pieces
 decreases-pieces g l = 18446744073709551615 - l.self.reads
