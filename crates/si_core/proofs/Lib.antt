@@ -1,5 +1,6 @@
 pub mod Storing
 pub mod Progressing
+pub mod AllLeft
 pub mod Opening
 pub mod Applications
 pub mod Least

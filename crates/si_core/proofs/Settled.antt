@@ -17,7 +17,7 @@ use Rattle.si_model.proofs.InOrder.{Contains-from_in_order, Contains-in_order, s
 use Rattle.si_model.proofs.Orderless.{unique_list}
 use Rattle.si_model.proofs.PresentHistories.{present_history}
 use Rattle.si_accept.specs.Books.{BookState}
-use Rattle.si_shard.specs.Accesses.{is_ours}
+use Rattle.si_shard.specs.ShardIds.{is_ours}
 use Rattle.si_shard.specs.Shards.{ShardState, findings_in}
 use Rattle.si_core.specs.Machine.{IsLeastPosition, IsLeastSpoiled, IsSettled, Progress}
 use Rattle.si_core.specs.Worlds.{IsFirstSpoiled, IsLeastOf, IsWorld, machine_of, progress_of, shard_findings}

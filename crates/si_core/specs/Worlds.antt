@@ -46,6 +46,16 @@ abbrev pub AppliesNext : List Edit → ℕ → ShardState → Reply → ShardSta
 AppliesNext J k old r new = ((length J ≤ length old.stored) × (r ≡ reply.Idle) × (new ≡ old))
     ⊎ ((length old.stored < length J) × AppliesLeft J k old old.spoiled r new)
 
+-- the shard applies all that is left for it, where something is
+abbrev pub AppliesAllLeft : List Edit → ℕ → ShardState → Bool → Reply → ShardState → Type 0
+AppliesAllLeft J k old true r new = (r ≡ reply.Spoiled k) × (new ≡ old)
+AppliesAllLeft J k old false r new = ((r ≡ reply.Idle) × (new ≡ record old { stored = J })) ⊎ ((r ≡ reply.Spoiled k) × (new ≡ record old { spoiled = true }))
+
+-- the shard of this number has applied the whole journal, or the reply says why not
+abbrev pub AppliesAll : List Edit → ℕ → ShardState → Reply → ShardState → Type 0
+AppliesAll J k old r new = ((length J ≤ length old.stored) × (r ≡ reply.Idle) × (new ≡ old))
+    ⊎ ((length old.stored < length J) × AppliesAllLeft J k old old.spoiled r new)
+
 -- the least shard that is spoiled, if one is
 abbrev pub IsFirstSpoiled : List ShardState → Option ℕ → Type 0
 IsFirstSpoiled shards None = (s : ShardState) → Contains shards s → s.spoiled ≡ false

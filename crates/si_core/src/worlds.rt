@@ -4,7 +4,7 @@ ghost use Rattle.si_model.specs.Findings.{findings};
 ghost use Rattle.si_model.specs.Form.{IsWellFormed};
 ghost use Rattle.si_model.specs.Journals.{IsAccepted, present};
 ghost use Rattle.si_graph.specs.Phenomena.{IsPlSi};
-ghost use Rattle.si_core.specs.Worlds.{AppliesNext, IsFaultOf, IsFirstSpoiled, IsLeastOf, IsShardOf, shard_findings};
+ghost use Rattle.si_core.specs.Worlds.{AppliesAll, AppliesNext, IsFaultOf, IsFirstSpoiled, IsLeastOf, IsShardOf, shard_findings};
 ghost use Rattle.std.specs.List.{Contains, flat_map};
 ghost use Rattle.si_model.specs.Order.{finding_cmp, in_order};
 ghost use Rattle.si_shard.specs.Shards.{ShardState};
@@ -231,17 +231,30 @@ impl World {
         Reply::Settled(self.book.journal().len() as u64)
     }
 
-    /// Lets the shard apply until it gets another reply.
+    /// Lets the shard apply all that is left for it.
     fn apply_all(&mut self, shard: usize) -> Reply
         ensures { AppliesUntil self.old shard result self.new }
     {
-        for _applied in 0..self.book.journal().len() {
-            let reply = self.apply(shard);
-            if !is_applied(reply) {
-                return reply;
-            }
+        if shard >= self.shards.len() {
+            return Reply::Idle;
         }
-        Reply::Idle
+        apply_left(self.book.journal(), &mut self.shards[shard], shard)
+    }
+}
+
+/// Lets the shard, which has this number, apply all that is left of the journal.
+fn apply_left(journal: &[Edit], shard: &mut Shard, number: usize) -> Reply
+    requires accepted { IsAccepted journal.now }
+    requires shard { IsShardOf journal.now shard.old.id.shards number shard.old }
+    ensures { AppliesAll journal.now number shard.old result shard.new }
+{
+    let left = &journal[shard.position() as usize..];
+    if left.is_empty() {
+        return Reply::Idle;
+    }
+    match shard.apply_all(left) {
+        Ok(()) => Reply::Idle,
+        Err(_) => Reply::Spoiled(number),
     }
 }
 

@@ -1,4 +1,4 @@
-ghost use Rattle.std.specs.Prelude.{◌≡◌, List, IfOk, OnOk};
+ghost use Rattle.std.specs.Prelude.{◌≡◌, ◌++◌, ◌∷◌, [], List, IfOk, OnOk, OnErr};
 ghost use Rattle.std.specs.Option.{option_copied};
 ghost use Rattle.std.specs.List.{find};
 ghost use Rattle.si_model.specs.Operations.{same_key};
@@ -6,6 +6,7 @@ ghost use Rattle.si_model.specs.Parts.{Present, accesses, part, parts, set_up_va
 ghost use Rattle.si_model.specs.Versions.{written, is_write_of};
 
 use crate::{Key, Op, OutOfMemory, Stamp, Status, Txn, TxnId, Value};
+use smallvec::SmallVec;
 use std::alloc::Global;
 use std::marker::Model;
 
@@ -46,10 +47,27 @@ pub struct Placed {
     pub access: Access,
 }
 
+/// A read of `null` at the place 0, which fills a place that isn't used.
+impl Default for Placed {
+    ghost use Rattle.std.specs.Prelude.{◌≡◌, None};
+    ghost use Rattle.si_model.specs.declared.parts.Access.TheVariants as access;
+
+    ghost is_default = { λ p. p ≡ record { place = 0; access = access.Read None } };
+
+    fn default() -> Self {
+        Placed {
+            place: 0,
+            access: Access::Read(None),
+        }
+    }
+}
+
 /// The accesses of one key by one transaction. Contracts see the list.
+///
+/// Most transactions access a key once, and one access stands in the value itself, with no memory of its own.
 #[derive(Debug, Drop)]
 pub struct Accesses {
-    items: Vec<Placed>,
+    items: SmallVec<Placed, 1>,
 }
 
 impl Model for Accesses {
@@ -62,10 +80,24 @@ impl Model for Accesses {
 }
 
 impl Accesses {
-    pub fn from_vec(items: Vec<Placed>) -> Self
-        ensures { result ≡ items.items }
+    /// No access. It takes no memory.
+    pub fn new(alloc: Global) -> Self
+        ensures { result ≡ [] }
     {
-        Accesses { items }
+        Accesses {
+            items: SmallVec::new(alloc),
+        }
+    }
+
+    /// One more access, which comes last.
+    ///
+    /// For want of memory nothing has changed.
+    pub fn push(&mut self, placed: Placed) -> Result<(), OutOfMemory>
+        ensures ok { OnOk result (self.new ≡ self.old ++ placed ∷ []) }
+        ensures err { OnErr result (self.new ≡ self.old) }
+    {
+        self.items.push(placed)?;
+        Ok(())
     }
 
     pub fn as_slice(&self) -> &[Placed]
@@ -188,14 +220,14 @@ fn parts_of(alloc: Global, txns: &[Txn], key: &Key) -> Result<Parts, OutOfMemory
 fn accesses_of(alloc: Global, ops: &[Op], key: &Key) -> Result<Accesses, OutOfMemory>
     ensures { IfOk result (λ found. found ≡ accesses key.now ops.now) }
 {
-    let mut items = Vec::new(alloc);
+    let mut found = Accesses::new(alloc);
     for (place, op) in ops.iter().enumerate() {
         if op.key() == key {
-            items.push(Placed {
+            found.push(Placed {
                 place,
                 access: op.access(),
             })?;
         }
     }
-    Ok(Accesses::from_vec(items))
+    Ok(found)
 }

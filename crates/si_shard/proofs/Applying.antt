@@ -1,51 +1,94 @@
--- One more edit applied.
-use Rattle.std.proofs.Common.{◌≡◌, ◌∙◌, ℕ, Bool, true, false, nat_eq, List, [], ◌∷◌, ◌++◌, length, refl, sym, subst}
-use Rattle.std.specs.List.{Contains}
-use Rattle.std.specs.HashMap.{get}
-use Rattle.si_lists.proofs.Members.{Contains-nil}
+-- One more edit gathered.
+use Rattle.std.proofs.Common.{◌≡◌, ◌≤◌, ◌+◌, ◌∙◌, inl, inr, ℕ, Bool, true, false, nat_eq, List, [], ◌∷◌, ◌++◌, length, refl, sym, ap, subst, Option, Some, arith}
+use Rattle.std.specs.HashMap.{HashMap, get}
+use Rattle.std.proofs.lemmas.List.{length-append}
+use Rattle.si_lists.proofs.Members.{same_some}
 use Rattle.si_model.specs.declared.edits.Edit.{Edit}
 use Rattle.si_model.specs.declared.edits.Edit.TheVariants as edit
-use Rattle.si_model.specs.Parts.{accesses, on_key}
-use Rattle.si_model.specs.Edits.{after}
+use Rattle.si_model.specs.Operations.{same_key}
+use Rattle.si_model.specs.Parts.{Present, accesses, on_key}
+use Rattle.si_model.specs.Edits.{IsAcceptable, after}
 use Rattle.si_model.specs.Journals.{IsAccepted, present}
 use Rattle.si_model.proofs.Acceptance.{accepted_push, present_push}
-use Rattle.si_judge.specs.States.{AreSameOnKey}
-use Rattle.si_shard.specs.declared.accesses.ShardId.{ShardId}
+use Rattle.si_shard.specs.declared.shard_ids.ShardId.{ShardId}
 use Rattle.si_shard.specs.declared.applied.Applied.{Applied}
 use Rattle.si_shard.specs.declared.changes.Change.{Change}
-use Rattle.si_shard.specs.Applied.{AreApplied, AreArrivals, AreChangesBy, SetsArrival, TouchesShard, change_by, ops_for}
-use Rattle.si_shard.specs.Keyed.{AreChangedAll, AreStates, CanChangeAll, on}
+use Rattle.si_shard.specs.declared.waiting.Waits.{Waits}
+use Rattle.si_shard.specs.ShardIds.{is_ours}
+use Rattle.si_shard.specs.Applied.{AreArrivals, IsChangeOn, SetsArrival, TouchesShard, change_by, ops_for}
+use Rattle.si_shard.specs.Changes.{LeadsTo}
+use Rattle.si_shard.specs.Keyed.{AreStates, on}
+use Rattle.si_shard.specs.Waiting.{AreGatheredTo, IsGathered, IsNothing, changes_in, waiting_at}
 use Rattle.si_shard.proofs.ArrivalPlaces.{after_arrival, after_resolution, after_set_up, after_withdrawal}
-use Rattle.si_shard.proofs.KeyChanges.{can_change, follows_on, others_stay}
+use Rattle.si_shard.proofs.KeyChanges.{can_change, change_or_not, follows_change, of_history_on, stays}
+use Rattle.si_shard.proofs.Leading.{leads_also, leads_on}
 
-module _ (id : ShardId) (edits : List Edit) (e : Edit) (old : Applied) (sound : AreApplied id edits old) (accepted : IsAccepted (edits ++ e ∷ [])) (cs : List (List ℕ × Change))
-    (by : AreChangesBy id (ops_for (get nat_eq old.arrivals) edits e) e cs) where
-  pub can_apply : CanChangeAll cs old.keys
-  can_apply = let both = (accepted_push edits e).0 accepted in can_change id edits old sound both.0 e both.1 cs by
-
-  module _ (new : Applied) (touches : Bool) (empty : touches ≡ false → cs ≡ []) (states : AreStates new.keys) (made : AreChangedAll cs old.keys new.keys)
+module _ {S : Type 0} (id : ShardId) (edits : List Edit) (e : Edit) (old : Applied) (lists : HashMap (List ℕ) Waits S) (sound : AreGatheredTo id edits old lists)
+    (accepted : IsAccepted (edits ++ e ∷ [])) where
+  module _ (new : Applied) (touches : Bool) (quiet : touches ≡ false → IsNothing id (ops_for (get nat_eq old.arrivals) edits e) e) (keys : new.keys ≡ old.keys)
+      (more : HashMap (List ℕ) Waits S) (adds : IsGathered id (ops_for (get nat_eq old.arrivals) edits e) e (length edits) lists more)
       (sets : SetsArrival e touches (length edits) (get nat_eq old.arrivals) (get nat_eq new.arrivals)) where
-    arrivals_by : (f : Edit) → f ≡ e → AreChangesBy id (ops_for (get nat_eq old.arrivals) edits f) f cs → SetsArrival f touches (length edits) (get nat_eq old.arrivals) (get nat_eq new.arrivals)
-        → AreArrivals id (edits ++ f ∷ []) (after f (present edits)).txns (get nat_eq new.arrivals)
+    arrivals_by : (f : Edit) → f ≡ e → (touches ≡ false → IsNothing id (ops_for (get nat_eq old.arrivals) edits f) f)
+        → SetsArrival f touches (length edits) (get nat_eq old.arrivals) (get nat_eq new.arrivals) → AreArrivals id (edits ++ f ∷ []) (after f (present edits)).txns (get nat_eq new.arrivals)
     unfolding after
-    arrivals_by (edit.Arrive T) is changes sets = after_arrival id edits (present edits).txns (get nat_eq old.arrivals) (get nat_eq new.arrivals) sound.arrivals T touches (told touches refl) sets
+    arrivals_by (edit.Arrive T) is quiet sets = after_arrival id edits (present edits).txns (get nat_eq old.arrivals) (get nat_eq new.arrivals) sound.arrivals T touches (told touches refl) sets
       where
         told : (b : Bool) → touches ≡ b → TouchesShard id T → touches ≡ true
         told true s t = s
-        told false s (x, a, ours, c) =
-            absurd (Contains-nil (x, change_by (edit.Arrive T) (accesses x T.ops))
-            (subst (λ l. Contains l (x, change_by (edit.Arrive T) (accesses x T.ops))) (empty s) (changes.all x (change_by (edit.Arrive T) (accesses x T.ops)) ours (a, c, refl))))
-    arrivals_by (edit.Resolve u o) is changes sets = after_resolution id edits (present edits).txns (get nat_eq old.arrivals) (get nat_eq new.arrivals) sound.arrivals u o touches sets
-    arrivals_by (edit.Withdraw u) is changes sets = after_withdrawal id edits (present edits).txns (get nat_eq old.arrivals) (get nat_eq new.arrivals) sound.arrivals u touches sets
-    arrivals_by (edit.SetUp x v) is changes sets = after_set_up id edits (present edits).txns (get nat_eq old.arrivals) (get nat_eq new.arrivals) sound.arrivals x v touches sets
+        told false s (x, a, ours, c) = absurd (quiet s x (change_by (edit.Arrive T) (accesses x T.ops)) ours (a, c, refl))
+    arrivals_by (edit.Resolve u o) is quiet sets = after_resolution id edits (present edits).txns (get nat_eq old.arrivals) (get nat_eq new.arrivals) sound.arrivals u o touches sets
+    arrivals_by (edit.Withdraw u) is quiet sets = after_withdrawal id edits (present edits).txns (get nat_eq old.arrivals) (get nat_eq new.arrivals) sound.arrivals u touches sets
+    arrivals_by (edit.SetUp x v) is quiet sets = after_set_up id edits (present edits).txns (get nat_eq old.arrivals) (get nat_eq new.arrivals) sound.arrivals x v touches sets
 
-    pub applied_next : AreApplied id (edits ++ e ∷ []) new
-    applied_next =
-        let both = (accepted_push edits e).0 accepted in
+    abbrev at : ℕ → Option ℕ
+    at = get nat_eq old.arrivals
+
+    both : IsAccepted edits × IsAcceptable (present edits) e
+    both = (accepted_push edits e).0 accepted
+
+    abbrev next : Present
+    next = after e (present edits)
+
+    -- on a key where the edit is a change
+    leads_by : (x : List ℕ) (ours : is_ours id x ≡ true) (c : Change) → IsChangeOn (ops_for at edits e) e x c → LeadsTo (waiting_at more x) (on old.keys x) (on_key x next)
+    leads_by x ours c k =
+        let added = adds.changed x c ours k in
+        subst (λ ys. LeadsTo ys (on old.keys x) (on_key x next)) (sym (ap changes_in added.1 ∙ added.3))
+        (leads_on (waiting_at lists x) (on old.keys x) (on_key x (present edits)) (on_key x next) c (of_history_on old.keys sound.states x) (sound.ours x ours)
+        (λ N h same. (can_change id edits at sound.arrivals both.0 x ours N same e both.1 h c k, follows_change id edits at sound.arrivals both.0 x ours N same e both.1 h c k)))
+
+    -- and where it is none
+    leads_past : (x : List ℕ) (ours : is_ours id x ≡ true) → ((c : Change) → IsChangeOn (ops_for at edits e) e x c → ⊥) → LeadsTo (waiting_at more x) (on old.keys x) (on_key x next)
+    leads_past x ours none =
+        subst (λ o. LeadsTo (changes_in o) (on old.keys x) (on_key x next)) (sym (adds.others x (λ o. none)))
+        (leads_also (waiting_at lists x) (on old.keys x) (on_key x (present edits)) (on_key x next) (of_history_on old.keys sound.states x) (sound.ours x ours)
+        (λ N h same. stays id edits at sound.arrivals both.0 x ours N same e both.1 h none))
+
+    -- the last changes are of edits up to this one
+    soon : (x : List ℕ) (list : Waits) → get same_key more x ≡ Some list → list.last ≤ length edits
+    soon x list f = by_ours (is_ours id x) refl
+      where
+        older : get same_key more x ≡ get same_key lists x → list.last ≤ length edits
+        older same = (let early = sound.before x list (sym same ∙ f) in omega arith)
+
+        by_ours : (b : Bool) → is_ours id x ≡ b → list.last ≤ length edits
+        by_ours false other = older (adds.others x (λ o. (let no : true ≡ false = sym o ∙ other in cc)))
+        by_ours true ours = elim (change_or_not id edits at sound.arrivals both.0 x ours e both.1) [
+          | inl k ↦ (let added = adds.changed x k.0 ours k.1 in let same : added.0 ≡ list = same_some (sym added.1 ∙ f) in let is : list.last ≡ length edits = ap (λ (l : Waits). l.last) (sym same) ∙ added.2 in omega arith)
+          | inr none ↦ older (adds.others x (λ o. none))
+        ]
+
+    pub gathered_next : AreGatheredTo id (edits ++ e ∷ []) new more
+    gathered_next =
         let now = sym (present_push edits e) in
         record {
-          states = states;
-          ours = λ x ours. subst (λ P. AreSameOnKey (on_key x P) (on new.keys x)) now (follows_on id edits old sound both.0 e both.1 cs by new.keys made x ours);
-          others = λ x other. others_stay id edits old sound both.0 e both.1 cs by new.keys made x other ∙ sound.others x other;
-          arrivals = subst (λ P. AreArrivals id (edits ++ e ∷ []) P.txns (get nat_eq new.arrivals)) now (arrivals_by e refl by sets);
+          states = subst AreStates (sym keys) sound.states;
+          ours = λ x ours. subst (λ P. LeadsTo (waiting_at more x) (on new.keys x) (on_key x P)) now (subst (λ ks. LeadsTo (waiting_at more x) (on ks x) (on_key x next)) (sym keys)
+              (elim (change_or_not id edits at sound.arrivals both.0 x ours e both.1) [ inl k ↦ leads_by x ours k.0 k.1 | inr none ↦ leads_past x ours none ]));
+          others = λ x other. (
+            ap (λ ks. on ks x) keys ∙ (sound.others x other).0,
+            adds.others x (λ o. (let no : true ≡ false = sym o ∙ other in cc)) ∙ (sound.others x other).1,
+          );
+          before = λ x list f. (let long : length (edits ++ e ∷ []) ≡ length edits + 1 = length-append edits (e ∷ []) in let near = soon x list f in omega arith);
+          arrivals = subst (λ P. AreArrivals id (edits ++ e ∷ []) P.txns (get nat_eq new.arrivals)) now (arrivals_by e refl quiet sets);
         }

@@ -11,7 +11,7 @@ use Rattle.si_model.specs.declared.edits.Edit.{Edit}
 use Rattle.si_model.specs.declared.edits.Edit.TheVariants as edit
 use Rattle.si_model.specs.Parts.{accesses}
 use Rattle.si_model.specs.Edits.{is_another, resolved, same_id, status_after}
-use Rattle.si_shard.specs.declared.accesses.ShardId.{ShardId}
+use Rattle.si_shard.specs.declared.shard_ids.ShardId.{ShardId}
 use Rattle.si_shard.specs.Applied.{AreArrivals, IsArrivalOf, SetsArrival, TouchesShard}
 
 -- what stands at a place stays there as the list grows, and what comes last stands after it

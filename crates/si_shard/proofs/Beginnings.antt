@@ -1,12 +1,12 @@
 -- The beginnings of an accepted journal.
-use Rattle.std.proofs.Common.{◌≡◌, ◌∙◌, ◌<◌, ◌+◌, ℕ, false, suc, List, [], ◌∷◌, ◌++◌, drop, length, take, sym, ap, subst, arith, slice_index_or}
-use Rattle.std.proofs.Math.Seq.{drop-cons}
+use Rattle.std.proofs.Common.{◌≡◌, ◌∙◌, ◌<◌, ◌≤◌, ◌+◌, ℕ, false, zero, suc, refl, List, [], ◌∷◌, ◌++◌, drop, length, take, sym, ap, subst, arith, slice_index_or}
+use Rattle.std.proofs.Math.Seq.{drop-cons, take-suc}
 use Rattle.std.proofs.lemmas.List.{append_assoc, take-append-drop}
 use Rattle.si_model.specs.declared.edits.Edit.{Edit}
 use Rattle.si_model.specs.Edits.{IsAcceptable}
 use Rattle.si_model.specs.Journals.{IsAccepted, present}
 use Rattle.si_model.proofs.Acceptance.{accepted_begins}
-use Rattle.si_shard.specs.declared.accesses.ShardId.{ShardId}
+use Rattle.si_shard.specs.declared.shard_ids.ShardId.{ShardId}
 use Rattle.si_shard.specs.declared.applied.Applied.{Applied}
 use Rattle.si_shard.specs.Applied.{AreApplied}
 use Rattle.si_shard.specs.Shards.{IsShard}
@@ -26,6 +26,23 @@ begins_accepted edits i e within is accepted =
     let cons : drop i edits ≡ e ∷ drop (i + 1) edits = drop-cons edits i e within ∙ ap (λ n. slice_index_or edits i e ∷ drop n edits) one ∙ ap (λ f. f ∷ drop (i + 1) edits) (sym is) in
     let whole : (take i edits ++ e ∷ []) ++ drop (i + 1) edits ≡ edits = append_assoc (take i edits) (e ∷ []) (drop (i + 1) edits) ∙ ap (λ l. take i edits ++ l) (sym cons) ∙ take-append-drop i edits in
     accepted_begins (take i edits ++ e ∷ []) (drop (i + 1) edits) (subst IsAccepted (sym whole) accepted)
+
+-- a beginning with one more edit is the next one
+pub one_more_taken : (edits : List Edit) (i : ℕ) (e : Edit) → i < length edits → e ≡ slice_index_or edits i e → take i edits ++ e ∷ [] ≡ take (i + 1) edits
+one_more_taken edits i e within is = ap (λ f. take i edits ++ f ∷ []) is ∙ sym (take-suc edits i e within) ∙ ap (λ n. take n edits) (let one : suc i ≡ i + 1 = omega arith in one)
+
+-- and one of so many or more is the whole
+pub all_taken : {X : Type 0} (xs : List X) (n : ℕ) → length xs ≤ n → take n xs ≡ xs
+all_taken [] zero le = refl
+all_taken [] (suc n) le = refl
+all_taken (x ∷ xs) zero le = absurd (omega arith)
+all_taken (x ∷ xs) (suc n) le = ap (λ l. x ∷ l) (all_taken xs n (omega arith))
+
+pub all_dropped : {X : Type 0} (xs : List X) (n : ℕ) → length xs ≤ n → drop n xs ≡ []
+all_dropped [] zero le = refl
+all_dropped [] (suc n) le = refl
+all_dropped (x ∷ xs) zero le = absurd (omega arith)
+all_dropped (x ∷ xs) (suc n) le = all_dropped xs n (omega arith)
 
 -- a shard that has stored no edit
 pub new_shard : (id : ShardId) (stored : List Edit) (a : Applied) → id.shard < id.shards → stored ≡ [] → ((s : ShardId) → AreApplied s [] a) → IsShard id stored a false

@@ -1,114 +1,219 @@
--- Accesses gathered in one pass over the operations.
-use Rattle.std.proofs.Common.{◌≡◌, ◌≢◌, ◌∙◌, ℕ, ◌+◌, Bool, true, false, cond, List, [], ◌∷◌, ◌++◌, Option, Some, None, refl, sym, ap}
-use Rattle.std.specs.List.{cons_option, enumerate_from, filter_map}
-use Rattle.std.specs.Option.{option_map}
-use Rattle.std.specs.BTreeMap.{BTreeMap, get}
-use Rattle.std.specs.Global.{Vec}
-use Rattle.std.specs.Ordering.{nat_cmp}
-use Rattle.std.specs.Cmp.Lexicographic.{slice_cmp, texts_ties}
+-- What an edit is on the keys of a shard, gathered in one pass over the operations.
+use Rattle.std.proofs.Common.{◌≡◌, ◌≢◌, ◌∙◌, ◌<◌, ℕ, ◌+◌, Bool, true, false, cond, List, [], ◌∷◌, ◌++◌, Option, Some, None, refl, sym, ap, subst, arith}
+use Rattle.std.specs.List.{Contains, cons_option, enumerate_from, filter_map}
+use Rattle.std.specs.HashMap.{HashMap, get}
 use Rattle.std.proofs.lemmas.List.{append-nil, append_assoc}
+use Rattle.si_lists.proofs.Members.{Contains-nil, here, same_some}
+use Rattle.si_model.specs.declared.numbers.Value.{Value}
 use Rattle.si_model.specs.declared.operations.Op.{Op}
+use Rattle.si_model.specs.declared.parts.Part.{Part}
 use Rattle.si_model.specs.declared.parts.Placed.{Placed}
+use Rattle.si_model.specs.declared.edits.Edit.{Edit}
+use Rattle.si_model.specs.declared.edits.Edit.TheVariants as edit
 use Rattle.si_model.specs.Operations.{access_of, key_of, same_key}
 use Rattle.si_model.specs.Parts.{accesses, placed_at}
-use Rattle.si_model.proofs.Equalities.{same_key_is}
-use Rattle.si_shard.specs.declared.accesses.ShardId.{ShardId}
-use Rattle.si_shard.specs.Accesses.{AddsAccess, AreAccesses, is_ours, lists_at, some_of, with_one_more}
+use Rattle.si_model.proofs.Equalities.{same_key_from, same_key_is}
+use Rattle.si_shard.specs.declared.changes.Change.{Change}
+use Rattle.si_shard.specs.declared.changes.Change.TheVariants as change
+use Rattle.si_shard.specs.declared.shard_ids.ShardId.{ShardId}
+use Rattle.si_shard.specs.declared.waiting.Waits.{Waits}
+use Rattle.si_shard.specs.Applied.{IsAccessChange, change_by}
+use Rattle.si_shard.specs.ShardIds.{is_ours}
+use Rattle.si_shard.specs.Waiting.{AddsAccess, AddsToLast, AddsToSome, AreBefore, IsGathered, IsNothing, changes_in}
 
--- the accesses of a list that may be absent
-abbrev pub items_in : Option (List Placed) → List Placed
-items_in None = []
-items_in (Some ys) = ys
+-- ---- the last of a list
+
+pub same_last : {X : Type 0} (xs ys : List X) (x y : X) → xs ++ x ∷ [] ≡ ys ++ y ∷ [] → (xs ≡ ys) × (x ≡ y)
+same_last [] [] x y e = (refl, cc)
+same_last [] (z ∷ []) x y e = cc
+same_last [] (z ∷ w ∷ ys) x y e = cc
+same_last (z ∷ []) [] x y e = cc
+same_last (z ∷ w ∷ xs) [] x y e = cc
+same_last (z ∷ xs) (w ∷ ys) x y e = (let head : z ≡ w = cc in let tail : xs ++ x ∷ [] ≡ ys ++ y ∷ [] = cc in let rest = same_last xs ys x y tail in (ap (λ v. v ∷ xs) head ∙ ap (λ l. w ∷ l) rest.0, rest.1))
+
+-- ---- the operations that are left
 
 -- the accesses of the key x by operations from the place i on
 abbrev pub from_on : List ℕ → ℕ → List Op → List Placed
 from_on x i ops = filter_map (placed_at x) (enumerate_from i ops)
 
+-- the edit's change of a key, of whose accesses these were walked
+abbrev pub IsWalkedTo : Edit → ℕ → List Placed → Option Waits → Option Waits → Type 0
+IsWalkedTo e n [] old new = new ≡ old
+IsWalkedTo e n (a ∷ ys) old new = (list : Waits) × (new ≡ Some list) × (list.last ≡ n) × (list.changes.items ≡ changes_in old ++ change_by e (a ∷ ys) ∷ [])
+
 -- what was gathered of the operations before the place i, of which these are left
-pub record AreGathered (id : ShardId) (ops : List Op) (i : ℕ) (left : List Op) (lists : BTreeMap (List ℕ) (Vec Placed)) : Type 0 where
-  pub ours : (x : List ℕ) → is_ours id x ≡ true → items_in (lists_at lists x) ++ from_on x i left ≡ accesses x ops
-  pub others : (x : List ℕ) → is_ours id x ≡ false → lists_at lists x ≡ None
-  pub some : (x : List ℕ) → lists_at lists x ≢ Some []
+pub record AreWalked {S : Type 0} (id : ShardId) (ops : List Op) (e : Edit) (n i : ℕ) (left : List Op) (touches : Bool) (old new : HashMap (List ℕ) Waits S) : Type 0 where
+  pub ours : (x : List ℕ) → is_ours id x ≡ true → (ys : List Placed) × (ys ++ from_on x i left ≡ accesses x ops) × IsWalkedTo e n ys (get same_key old x) (get same_key new x)
+  pub others : (x : List ℕ) → is_ours id x ≡ false → get same_key new x ≡ get same_key old x
+  pub quiet : touches ≡ false → (x : List ℕ) → is_ours id x ≡ true → from_on x i left ≡ accesses x ops
 
--- at the end all was gathered
-pub gathered_all : (id : ShardId) (ops : List Op) (i : ℕ) (lists : BTreeMap (List ℕ) (Vec Placed)) → AreGathered id ops i [] lists → AreAccesses id ops lists
-gathered_all id ops i lists g x = by (is_ours id x) refl
+-- at the beginning
+pub none_walked : {S : Type 0} (id : ShardId) (ops : List Op) (e : Edit) (n : ℕ) (lists : HashMap (List ℕ) Waits S) → AreWalked id ops e n 0 ops false lists lists
+none_walked id ops e n lists = record { ours = λ x o. ([], refl, refl); others = λ x o. refl; quiet = λ q x o. refl }
+
+-- one more access after those that were walked
+walked_once : (e : Edit) (n : ℕ) (ys : List Placed) (p : Placed) (old mid : Option Waits) (new : Waits) → ((list : Waits) → old ≡ Some list → list.last < n) → new.last ≡ n
+    → AddsToSome e n p mid new.changes.items → IsWalkedTo e n ys old mid → IsWalkedTo e n (ys ++ p ∷ []) old (Some new)
+walked_once e n [] p old mid new before last adds walked = (new, refl, last, by old mid walked adds before)
   where
-    all : (o : Option (List Placed)) → o ≢ Some [] → o ≡ some_of (items_in o)
-    all None some = refl
-    all (Some []) some = absurd (some refl)
-    all (Some (a ∷ ys)) some = refl
+    by : (old mid : Option Waits) → mid ≡ old → AddsToSome e n p mid new.changes.items → ((list : Waits) → old ≡ Some list → list.last < n) → new.changes.items ≡ changes_in old ++ change_by e (p ∷ []) ∷ []
+    by None None w a b = a
+    by None (Some m) w a b = cc
+    by (Some o) None w a b = cc
+    by (Some o) (Some m) w a b =
+        let same : m ≡ o = same_some w in
+        let earlier = b o refl in
+        let differs : m.last ≢ n = λ f. (let g : o.last ≡ n = ap (λ (l : Waits). l.last) (sym same) ∙ f in absurd (omega arith)) in
+        a.1 differs ∙ ap (λ (l : Waits). l.changes.items ++ change_by e (p ∷ []) ∷ []) same
+walked_once e n (y ∷ ys) p old mid new before last adds (list, is, at, items) =
+    (new, refl, last, (subst (λ o. AddsToSome e n p o new.changes.items) is adds).0 at (changes_in old) (y ∷ ys) items)
 
-    by : (b : Bool) → is_ours id x ≡ b → lists_at lists x ≡ cond b (some_of (accesses x ops)) None
-    by true e = all (lists_at lists x) (g.some x) ∙ ap some_of (sym (append-nil (items_in (lists_at lists x))) ∙ g.ours x e)
-    by false e = g.others x e
-
-module _ (id : ShardId) (ops : List Op) (i : ℕ) (p : Op) (left : List Op) where
+module _ {S : Type 0} (id : ShardId) (ops : List Op) (e : Edit) (n i : ℕ) (p : Op) (left : List Op) (old mid : HashMap (List ℕ) Waits S) where
   next : (x : List ℕ) (b : Bool) → same_key (key_of p) x ≡ b → from_on x i (p ∷ left) ≡ cons_option (cond b (Some (record { place = i; access = access_of p })) None) (from_on x (i + 1) left)
-  next x b e = ap (λ t. cons_option (cond t (Some (record { place = i; access = access_of p })) None) (from_on x (i + 1) left)) e
+  next x b s = ap (λ t. cons_option (cond t (Some (record { place = i; access = access_of p })) None) (from_on x (i + 1) left)) s
+
+  not_same : is_ours id (key_of p) ≡ false → (x : List ℕ) → is_ours id x ≡ true → (b : Bool) → same_key (key_of p) x ≡ b → same_key (key_of p) x ≡ false
+  not_same other x o true s = (let is = same_key_is (key_of p) x s in let no : false ≡ true = sym other ∙ ap (is_ours id) is ∙ o in cc)
+  not_same other x o false s = s
+
+  abbrev a : Placed
+  a = record { place = i; access = access_of p }
 
   -- an operation on another shard's key adds nothing
-  pub gathered_past : (lists : BTreeMap (List ℕ) (Vec Placed)) → is_ours id (key_of p) ≡ false → AreGathered id ops i (p ∷ left) lists → AreGathered id ops (i + 1) left lists
-  gathered_past lists other g = record {
-    ours = λ x e. ap (λ ys. items_in (lists_at lists x) ++ ys) (sym (next x false (not_same x e (same_key (key_of p) x) refl))) ∙ g.ours x e;
-    others = g.others;
-    some = g.some;
+  pub walked_past : (touches : Bool) → is_ours id (key_of p) ≡ false → AreWalked id ops e n i (p ∷ left) touches old mid → AreWalked id ops e n (i + 1) left touches old mid
+  walked_past touches other w = record {
+    ours = λ x o. (let k = w.ours x o in (k.0, ap (λ l. k.0 ++ l) (sym (next x false (not_same other x o (same_key (key_of p) x) refl))) ∙ k.1, k.2));
+    others = w.others;
+    quiet = λ q x o. sym (next x false (not_same other x o (same_key (key_of p) x) refl)) ∙ w.quiet q x o;
+  }
+
+  -- one of ours adds its access
+  pub walked_on : (touches : Bool) (new : HashMap (List ℕ) Waits S) → is_ours id (key_of p) ≡ true → AreBefore n old → AddsAccess e n (key_of p) (record { place = i; access = access_of p }) mid new
+      → AreWalked id ops e n i (p ∷ left) touches old mid → AreWalked id ops e n (i + 1) left true old new
+  walked_on touches new ours before adds w = record {
+    ours = λ x o. here_or x o (same_key (key_of p) x) refl;
+    others = λ x o. else_at x (differs x o (same_key (key_of p) x) refl) ∙ w.others x o;
+    quiet = λ q. cc;
   }
     where
-      not_same : (x : List ℕ) → is_ours id x ≡ true → (b : Bool) → same_key (key_of p) x ≡ b → same_key (key_of p) x ≡ false
-      not_same x e true s = (let is = same_key_is (key_of p) x s in let no : false ≡ true = sym other ∙ ap (is_ours id) is ∙ e in cc)
-      not_same x e false s = s
+      else_at : (x : List ℕ) → same_key (key_of p) x ≡ false → get same_key new x ≡ get same_key mid x
+      else_at x s = adds.updates.0 x ∙ ap (λ b. cond b (Some adds.list) (get same_key mid x)) s
 
-  -- an operation on a key of the shard adds its access
-  pub gathered_one : (old new : BTreeMap (List ℕ) (Vec Placed)) → is_ours id (key_of p) ≡ true → AddsAccess (key_of p) (record { place = i; access = access_of p }) old new
-      → AreGathered id ops i (p ∷ left) old → AreGathered id ops (i + 1) left new
-  gathered_one old new ours adds g = record {
-    ours = λ x e. ours_by x e (same_key (key_of p) x) refl;
-    others = λ x e. others_by x e (same_key (key_of p) x) refl;
-    some = λ x. some_by x (same_key (key_of p) x) refl;
-  }
-    where
-      a : Placed
-      a = record { place = i; access = access_of p }
+      differs : (x : List ℕ) → is_ours id x ≡ false → (b : Bool) → same_key (key_of p) x ≡ b → same_key (key_of p) x ≡ false
+      differs x o true s = (let is = same_key_is (key_of p) x s in let no : true ≡ false = sym ours ∙ ap (is_ours id) is ∙ o in cc)
+      differs x o false s = s
 
-      there : (x : List ℕ) → same_key (key_of p) x ≡ true → lists_at new x ≡ Some (with_one_more (lists_at old (key_of p)) a)
-      there x s = ap (λ o. option_map (λ (list : Vec Placed). list.items) o) (adds.updates.0 x ∙ ap (λ b. cond b (Some adds.list) (get (slice_cmp nat_cmp) old x)) (sym (texts_ties (key_of p) x) ∙ s)) ∙ ap Some adds.items
-
-      else_ : (x : List ℕ) → same_key (key_of p) x ≡ false → lists_at new x ≡ lists_at old x
-      else_ x s = ap (λ o. option_map (λ (list : Vec Placed). list.items) o) (adds.updates.0 x ∙ ap (λ b. cond b (Some adds.list) (get (slice_cmp nat_cmp) old x)) (sym (texts_ties (key_of p) x) ∙ s))
-
-      pushed : (o : Option (List Placed)) → with_one_more o a ≡ items_in o ++ a ∷ []
-      pushed None = refl
-      pushed (Some ys) = refl
-
-      ours_by : (x : List ℕ) → is_ours id x ≡ true → (b : Bool) → same_key (key_of p) x ≡ b → items_in (lists_at new x) ++ from_on x (i + 1) left ≡ accesses x ops
-      ours_by x e true s =
+      here_or : (x : List ℕ) → is_ours id x ≡ true → (b : Bool) → same_key (key_of p) x ≡ b
+          → (ys : List Placed) × (ys ++ from_on x (i + 1) left ≡ accesses x ops) × IsWalkedTo e n ys (get same_key old x) (get same_key new x)
+      here_or x o false s = (let k = w.ours x o in (k.0, ap (λ l. k.0 ++ l) (sym (next x false s)) ∙ k.1, subst (IsWalkedTo e n k.0 (get same_key old x)) (sym (else_at x s)) k.2))
+      here_or x o true s =
+          let k = w.ours x o in
           let is = same_key_is (key_of p) x s in
-          let o = lists_at old x in
-          ap (λ l. items_in l ++ from_on x (i + 1) left) (there x s)
-          ∙ ap (λ ys. ys ++ from_on x (i + 1) left) (pushed (lists_at old (key_of p)) ∙ ap (λ y. items_in (lists_at old y) ++ a ∷ []) is)
-          ∙ append_assoc (items_in o) (a ∷ []) (from_on x (i + 1) left)
-          ∙ ap (λ ys. items_in o ++ ys) (sym (next x true s)) ∙ g.ours x e
-      ours_by x e false s =
-          ap (λ l. items_in l ++ from_on x (i + 1) left) (else_ x s) ∙ ap (λ ys. items_in (lists_at old x) ++ ys) (sym (next x false s)) ∙ g.ours x e
+          let at : get same_key new x ≡ Some adds.list = adds.updates.0 x ∙ ap (λ b. cond b (Some adds.list) (get same_key mid x)) s in (
+            k.0 ++ a ∷ [],
+            append_assoc k.0 (a ∷ []) (from_on x (i + 1) left) ∙ ap (λ l. k.0 ++ l) (sym (next x true s)) ∙ k.1,
+            subst (IsWalkedTo e n (k.0 ++ a ∷ []) (get same_key old x)) (sym at)
+                (walked_once e n k.0 a (get same_key old x) (get same_key mid x) adds.list (before x) adds.last (subst (λ y. AddsToSome e n a (get same_key mid y) adds.list.changes.items) is adds.changes) k.2),
+          )
 
-      others_by : (x : List ℕ) → is_ours id x ≡ false → (b : Bool) → same_key (key_of p) x ≡ b → lists_at new x ≡ None
-      others_by x e true s = (let is = same_key_is (key_of p) x s in let no : true ≡ false = sym ours ∙ ap (is_ours id) is ∙ e in cc)
-      others_by x e false s = else_ x s ∙ g.others x e
+-- ---- at the end
 
-      some_by : (x : List ℕ) (b : Bool) → same_key (key_of p) x ≡ b → lists_at new x ≢ Some []
-      some_by x true s e = not_empty (lists_at old (key_of p)) (sym (there x s) ∙ e)
-        where
-          not_empty : (o : Option (List Placed)) → Some (with_one_more o a) ≡ Some [] → ⊥
-          not_empty None f = cc
-          not_empty (Some []) f = cc
-          not_empty (Some (b ∷ ys)) f = cc
-      some_by x false s e = g.some x (sym (else_ x s) ∙ e)
+module _ {S : Type 0} (id : ShardId) (ops : List Op) (e : Edit) (n i : ℕ) (touches : Bool) (old new : HashMap (List ℕ) Waits S) (w : AreWalked id ops e n i [] touches old new) where
+  walked_all : (x : List ℕ) → is_ours id x ≡ true → IsWalkedTo e n (accesses x ops) (get same_key old x) (get same_key new x)
+  walked_all x o = (let k = w.ours x o in subst (λ ys. IsWalkedTo e n ys (get same_key old x) (get same_key new x)) (sym (append-nil k.0) ∙ k.1) k.2)
 
--- before any operation nothing was gathered
-pub gathered_none : (id : ShardId) (ops : List Op) (lists : BTreeMap (List ℕ) (Vec Placed)) → ((x : List ℕ) → get (slice_cmp nat_cmp) lists x ≡ None) → AreGathered id ops 0 ops lists
-gathered_none id ops lists none = record {
-  ours = λ x e. ap (λ o. items_in (option_map (λ (list : Vec Placed). list.items) o) ++ from_on x 0 ops) (none x);
-  others = λ x e. ap (option_map (λ (list : Vec Placed). list.items)) (none x);
-  some = λ x e. (let no : None ≡ Some [] = sym (ap (option_map (λ (list : Vec Placed). list.items)) (none x)) ∙ e in cc);
-}
+  abbrev WaitsThere : List ℕ → Change → Type 0
+  WaitsThere x c = (list : Waits) × (get same_key new x ≡ Some list) × (list.last ≡ n) × (list.changes.items ≡ changes_in (get same_key old x) ++ c ∷ [])
+
+  changed : (x : List ℕ) (c : Change) → is_ours id x ≡ true → IsAccessChange ops e x c → WaitsThere x c
+  changed x c o (a, there, is) = by (accesses x ops) refl (walked_all x o)
+    where
+      by : (ys : List Placed) → accesses x ops ≡ ys → IsWalkedTo e n ys (get same_key old x) (get same_key new x)
+          → (list : Waits) × (get same_key new x ≡ Some list) × (list.last ≡ n) × (list.changes.items ≡ changes_in (get same_key old x) ++ c ∷ [])
+      by [] f k = absurd (Contains-nil a (subst (λ l. Contains l a) f there))
+      by (y ∷ ys) f (list, at, last, items) = (list, at, last, items ∙ ap (λ d. changes_in (get same_key old x) ++ d ∷ []) (ap (change_by e) (sym f) ∙ sym is))
+
+  others : (x : List ℕ) → (is_ours id x ≡ true → (c : Change) → IsAccessChange ops e x c → ⊥) → get same_key new x ≡ get same_key old x
+  others x none = by_ours (is_ours id x) refl
+    where
+      by : is_ours id x ≡ true → (ys : List Placed) → accesses x ops ≡ ys → IsWalkedTo e n ys (get same_key old x) (get same_key new x) → get same_key new x ≡ get same_key old x
+      by o [] f k = k
+      by o (y ∷ ys) f k = absurd (none o (change_by e (accesses x ops)) (y, subst (λ l. Contains l y) (sym f) (here y ys), refl))
+
+      by_ours : (b : Bool) → is_ours id x ≡ b → get same_key new x ≡ get same_key old x
+      by_ours true o = by o (accesses x ops) refl (walked_all x o)
+      by_ours false o = w.others x o
+
+  nothing : touches ≡ false → (x : List ℕ) (c : Change) → is_ours id x ≡ true → IsAccessChange ops e x c → ⊥
+  nothing q x c o (a, there, is) = Contains-nil a (subst (λ l. Contains l a) (sym (w.quiet q x o)) there)
+
+-- all was gathered of an edit that sets no key up
+module _ {S : Type 0} (id : ShardId) (ops : List Op) (n i : ℕ) (touches : Bool) (old new : HashMap (List ℕ) Waits S) where
+  pub gathered_all : (e : Edit) → ((x : List ℕ) (v : Value) → e ≡ edit.SetUp x v → ⊥) → AreWalked id ops e n i [] touches old new → IsGathered id ops e n old new
+  gathered_all (edit.Arrive T) other w = record { changed = changed id ops (edit.Arrive T) n i touches old new w; others = others id ops (edit.Arrive T) n i touches old new w }
+  gathered_all (edit.Resolve u o) other w = record { changed = changed id ops (edit.Resolve u o) n i touches old new w; others = others id ops (edit.Resolve u o) n i touches old new w }
+  gathered_all (edit.Withdraw u) other w = record { changed = changed id ops (edit.Withdraw u) n i touches old new w; others = others id ops (edit.Withdraw u) n i touches old new w }
+  gathered_all (edit.SetUp x v) other w = absurd (other x v refl)
+
+  pub nothing_there : (e : Edit) → ((x : List ℕ) (v : Value) → e ≡ edit.SetUp x v → ⊥) → AreWalked id ops e n i [] touches old new → touches ≡ false → IsNothing id ops e
+  nothing_there (edit.Arrive T) other w q = nothing id ops (edit.Arrive T) n i touches old new w q
+  nothing_there (edit.Resolve u o) other w q = nothing id ops (edit.Resolve u o) n i touches old new w q
+  nothing_there (edit.Withdraw u) other w q = nothing id ops (edit.Withdraw u) n i touches old new w q
+  nothing_there (edit.SetUp x v) other w q = absurd (other x v refl)
+
+-- ---- a set-up
+
+module _ {S : Type 0} (id : ShardId) (ops : List Op) (y : List ℕ) (v : Value) (n : ℕ) (old : HashMap (List ℕ) Waits S) where
+  pub set_up_gathered : (p : Placed) (new : HashMap (List ℕ) Waits S) → is_ours id y ≡ true → AreBefore n old → AddsAccess (edit.SetUp y v) n y p old new → IsGathered id ops (edit.SetUp y v) n old new
+  set_up_gathered p new ours before adds = record {
+    changed = λ x c o k. (
+      adds.list,
+      adds.updates.0 x ∙ ap (λ b. cond b (Some adds.list) (get same_key old x)) (same_key_from y x (sym k.0)),
+      adds.last,
+      items (get same_key old y) (before y) adds.changes ∙ ap (λ z. changes_in (get same_key old z) ++ change.SetUp v ∷ []) (sym k.0) ∙ ap (λ d. changes_in (get same_key old x) ++ d ∷ []) (sym k.1),
+    );
+    others = λ x none. adds.updates.0 x ∙ by x none (same_key y x) refl;
+  }
+    where
+      items : (o : Option Waits) → ((list : Waits) → o ≡ Some list → list.last < n) → AddsToSome (edit.SetUp y v) n p o adds.list.changes.items → adds.list.changes.items ≡ changes_in o ++ change.SetUp v ∷ []
+      items None b a = a
+      items (Some l) b a = a.1 (λ f. (let earlier = b l refl in absurd (omega arith)))
+
+      by : (x : List ℕ) → (is_ours id x ≡ true → (c : Change) → (x ≡ y) × (c ≡ change.SetUp v) → ⊥) → (b : Bool) → same_key y x ≡ b → cond (same_key y x) (Some adds.list) (get same_key old x) ≡ get same_key old x
+      by x none true s = (let is = same_key_is y x s in absurd (none (ap (is_ours id) (sym is) ∙ ours) (change.SetUp v) (sym is, refl)))
+      by x none false s = ap (λ b. cond b (Some adds.list) (get same_key old x)) s
+
+  pub set_up_past : is_ours id y ≡ false → IsGathered id ops (edit.SetUp y v) n old old
+  set_up_past other = record { changed = λ x c o k. (let no : true ≡ false = sym o ∙ ap (is_ours id) k.0 ∙ other in cc); others = λ x none. refl }
+
+  pub set_up_nothing : is_ours id y ≡ false → IsNothing id ops (edit.SetUp y v)
+  set_up_nothing other x c o k = (let no : true ≡ false = sym o ∙ ap (is_ours id) k.0 ∙ other in cc)
+
+-- ---- one more access in the last change
+
+last_arrival : (T : Part) (e : Edit) (p : Placed) (rest : List Change) (cs : List Change) (ys : List Placed) → rest ++ change.Arrive T ∷ [] ≡ cs ++ change_by e ys ∷ []
+    → rest ++ change.Arrive (record T { accesses = T.accesses ++ p ∷ [] }) ∷ [] ≡ cs ++ change_by e (ys ++ p ∷ []) ∷ []
+last_arrival T (edit.Arrive U) p rest cs ys is =
+    let same = same_last rest cs (change.Arrive T) (change_by (edit.Arrive U) ys) is in
+    let part : T ≡ record { id = U.id; start = U.start; status = U.status; accesses = ys } = cc in
+    ap (λ l. l ++ change.Arrive (record T { accesses = T.accesses ++ p ∷ [] }) ∷ []) same.0 ∙ ap (λ (P : Part). cs ++ change.Arrive (record P { accesses = P.accesses ++ p ∷ [] }) ∷ []) part
+last_arrival T (edit.Resolve u o) p rest cs ys is = (let same = same_last rest cs (change.Arrive T) (change.Resolve u o) is in cc)
+last_arrival T (edit.Withdraw u) p rest cs ys is = (let same = same_last rest cs (change.Arrive T) (change.Withdraw u) is in cc)
+last_arrival T (edit.SetUp x v) p rest cs ys is = (let same = same_last rest cs (change.Arrive T) (change.SetUp v) is in cc)
+
+pub arrival_added : (T : Part) (e : Edit) (p : Placed) (old rest : List Change) → old ≡ rest ++ change.Arrive T ∷ [] → AddsToLast e p old (rest ++ change.Arrive (record T { accesses = T.accesses ++ p ∷ [] }) ∷ [])
+arrival_added T e p old rest split cs ys is = last_arrival T e p rest cs ys (sym split ∙ is)
+
+pub another_stays : (e : Edit) (p : Placed) (old rest : List Change) (c : Change) → ((T : Part) → c ≡ change.Arrive T → ⊥) → old ≡ rest ++ c ∷ [] → AddsToLast e p old (rest ++ c ∷ [])
+another_stays (edit.Arrive U) p old rest c other split cs ys is = (let same = same_last rest cs c (change_by (edit.Arrive U) ys) (sym split ∙ is) in absurd (other (record { id = U.id; start = U.start; status = U.status; accesses = ys }) same.1))
+another_stays (edit.Resolve u o) p old rest c other split cs ys is = sym split ∙ is
+another_stays (edit.Withdraw u) p old rest c other split cs ys is = sym split ∙ is
+another_stays (edit.SetUp x v) p old rest c other split cs ys is = sym split ∙ is
+
+pub none_stays : (e : Edit) (p : Placed) (old new : List Change) → old ≡ [] → AddsToLast e p old new
+none_stays e p old new none cs ys is = by cs (sym none ∙ is)
+  where
+    by : (cs : List Change) → [] ≡ cs ++ change_by e ys ∷ [] → new ≡ cs ++ change_by e (ys ++ p ∷ []) ∷ []
+    by [] f = cc
+    by (c ∷ cs) f = cc

@@ -3,7 +3,7 @@ pub mod Together
 pub mod Gathering
 pub mod ArrivalPlaces
 pub mod KeyChanges
-pub mod ChangeLists
+pub mod Leading
 pub mod Applying
 pub mod ShardFindings
 pub mod Beginnings

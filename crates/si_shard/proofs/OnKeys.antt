@@ -12,10 +12,10 @@ use Rattle.si_model.specs.Findings.{cases, findings_on}
 use Rattle.si_model.specs.Order.{in_order}
 use Rattle.si_model.proofs.Equalities.{same_key_from, same_key_is}
 use Rattle.si_judge.specs.Following.{empty_key}
-use Rattle.si_judge.specs.States.{AreSameOnKey, State}
+use Rattle.si_judge.specs.States.{State}
 use Rattle.si_shard.specs.declared.changes.Change.{Change}
 use Rattle.si_shard.specs.declared.keyed.KeyStates.{KeyStates}
-use Rattle.si_shard.specs.Changes.{changed_on}
+use Rattle.si_shard.specs.Changes.{IsLedBy}
 use Rattle.si_shard.specs.Keyed.{AreStates, HasFinding, IsChangedAt, IsChangedIn, IsLeft, IsWhole, on, present_in}
 
 -- ---- where nothing is
@@ -48,8 +48,8 @@ none_yet ks states found = record {
 abbrev pub kept : Bool → State → Option State
 kept is_empty s = cond is_empty None (Some s)
 
-module _ (x : List ℕ) (c : Change) (old new : KeyStates) (s : State) (is_empty has_findings : Bool)
-    (sound : AreStates old) (whole : IsWhole x s) (present : AreSameOnKey (changed_on c (on old x)) s.present) (left : IsLeft is_empty has_findings s)
+module _ (x : List ℕ) (cs : List Change) (old new : KeyStates) (s : State) (is_empty has_findings : Bool)
+    (sound : AreStates old) (whole : IsWhole x s) (present : IsLedBy cs (on old x) s.present) (left : IsLeft is_empty has_findings s)
     (states : (y : List ℕ) → get same_key new.states y ≡ cond (same_key x y) (kept is_empty s) (get same_key old.states y))
     (found : (y : List ℕ) → contains (slice_cmp nat_cmp) new.found y ≡ cond (same_key x y) has_findings (contains (slice_cmp nat_cmp) old.found y)) where
   here_is : get same_key new.states x ≡ kept is_empty s
@@ -92,9 +92,9 @@ module _ (x : List ℕ) (c : Change) (old new : KeyStates) (s : State) (is_empty
   pub states_after : AreStates new
   states_after = record { states = λ y t. whole_at y t (same_key x y) refl; found = λ y. found_at y (same_key x y) refl }
 
-  pub changed_after : IsChangedAt x c old new
+  pub changed_after : IsChangedAt x cs old new
   changed_after = record {
-    present = subst (AreSameOnKey (changed_on c (on old x))) (sym on_here) present;
+    present = subst (IsLedBy cs (on old x)) (sym on_here) present;
     others = λ y d. other y d (same_key x y) refl;
   }
     where
@@ -103,27 +103,27 @@ module _ (x : List ℕ) (c : Change) (old new : KeyStates) (s : State) (is_empty
       other y d false at = on_else y at
 
 -- what the calls of one change give: the state was changed, and it stayed or was dropped
-module _ (x : List ℕ) (c : Change) (old new : KeyStates) (is_empty has_findings : Bool) (sound : AreStates old)
+module _ (x : List ℕ) (cs : List Change) (old new : KeyStates) (is_empty has_findings : Bool) (sound : AreStates old)
     (found : SetUpdates (slice_cmp nat_cmp) old.found new.found x has_findings) where
   found_by : (y : List ℕ) → contains (slice_cmp nat_cmp) new.found y ≡ cond (same_key x y) has_findings (contains (slice_cmp nat_cmp) old.found y)
   found_by y = found.0 y ∙ ap (λ b. cond b has_findings (contains (slice_cmp nat_cmp) old.found y)) (sym (texts_ties x y))
 
-  pub changed_kept : IsChangedIn x c is_empty has_findings old.states new.states → is_empty ≡ false → AreStates new × IsChangedAt x c old new
+  pub changed_kept : IsChangedIn x cs is_empty has_findings old.states new.states → is_empty ≡ false → AreStates new × IsChangedAt x cs old new
   unfolding on
   changed_kept made e =
       let states : (y : List ℕ) → get same_key new.states y ≡ cond (same_key x y) (kept is_empty made.state) (get same_key old.states y) =
       λ y. made.states.0 y ∙ ap (λ b. cond (same_key x y) (kept b made.state) (get same_key old.states y)) (sym e) in (
-        states_after x c old new made.state is_empty has_findings sound made.whole made.present made.left states found_by,
-        changed_after x c old new made.state is_empty has_findings sound made.whole made.present made.left states found_by,
+        states_after x cs old new made.state is_empty has_findings sound made.whole made.present made.left states found_by,
+        changed_after x cs old new made.state is_empty has_findings sound made.whole made.present made.left states found_by,
       )
 
-  pub changed_dropped : (mid : HashMap (List ℕ) State RandomState) → IsChangedIn x c is_empty has_findings old.states mid → is_empty ≡ true
-      → ((y : List ℕ) → get same_key new.states y ≡ cond (same_key x y) None (get same_key mid y)) → AreStates new × IsChangedAt x c old new
+  pub changed_dropped : (mid : HashMap (List ℕ) State RandomState) → IsChangedIn x cs is_empty has_findings old.states mid → is_empty ≡ true
+      → ((y : List ℕ) → get same_key new.states y ≡ cond (same_key x y) None (get same_key mid y)) → AreStates new × IsChangedAt x cs old new
   unfolding on
   changed_dropped mid made e dropped =
       let states : (y : List ℕ) → get same_key new.states y ≡ cond (same_key x y) (kept is_empty made.state) (get same_key old.states y) = λ y. by y (same_key x y) refl in (
-        states_after x c old new made.state is_empty has_findings sound made.whole made.present made.left states found_by,
-        changed_after x c old new made.state is_empty has_findings sound made.whole made.present made.left states found_by,
+        states_after x cs old new made.state is_empty has_findings sound made.whole made.present made.left states found_by,
+        changed_after x cs old new made.state is_empty has_findings sound made.whole made.present made.left states found_by,
       )
     where
       by : (y : List ℕ) (b : Bool) → same_key x y ≡ b → get same_key new.states y ≡ cond (same_key x y) (kept is_empty made.state) (get same_key old.states y)

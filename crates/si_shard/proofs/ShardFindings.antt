@@ -25,9 +25,9 @@ use Rattle.si_model.proofs.Histories.{key_of_history}
 use Rattle.si_model.proofs.InOrder.{sorted-cons, sorted-nil}
 use Rattle.si_model.proofs.Orderless.{key_order_free, unique_list}
 use Rattle.si_model.proofs.PresentHistories.{present_history}
-use Rattle.si_shard.specs.declared.accesses.ShardId.{ShardId}
+use Rattle.si_shard.specs.declared.shard_ids.ShardId.{ShardId}
 use Rattle.si_shard.specs.declared.applied.Applied.{Applied}
-use Rattle.si_shard.specs.Accesses.{is_ours}
+use Rattle.si_shard.specs.ShardIds.{is_ours}
 use Rattle.si_shard.specs.Applied.{AreApplied}
 use Rattle.si_shard.specs.Keyed.{findings_at, on}
 use Rattle.si_shard.specs.Shards.{findings_in}

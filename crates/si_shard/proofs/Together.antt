@@ -1,15 +1,23 @@
--- Changes on many keys, one after the other.
-use Rattle.std.proofs.Common.{◌≡◌, ◌≢◌, ◌∙◌, inl, inr, ℕ, List, [], ◌∷◌, ◌++◌, refl, sym, subst}
-use Rattle.std.specs.List.{Contains, AllPairs}
+-- Changes on many keys, one key after the other.
+use Rattle.std.proofs.Common.{◌≡◌, ◌≢◌, ◌∙◌, inl, inr, ℕ, Bool, true, false, cond, List, [], ◌∷◌, ◌++◌, Some, None, refl, sym, ap, subst}
+use Rattle.std.specs.List.{Contains, AllPairs, IsDistinct}
+use Rattle.std.specs.HashMap.{HashMap, IsUnique, get}
+use Rattle.std.specs.Map.{keys_of, lookup}
 use Rattle.std.proofs.lemmas.List.Elements.{Contains-append_right}
-use Rattle.si_lists.proofs.Members.{Contains-nil, Contains-cons_cases, here}
-use Rattle.si_lists.proofs.Names.{pairs_head, pairs_tail}
+use Rattle.std.proofs.lemmas.Map.Views.{Contains-from_lookup}
+use Rattle.si_lists.proofs.Members.{Contains-map, Contains-nil, Contains-cons_cases, at_each, here}
+use Rattle.si_lists.proofs.Names.{pairs_cons, pairs_head, pairs_nil, pairs_tail}
 use Rattle.si_lists.proofs.Pushes.{push_cases, push_keeps, push_last}
-use Rattle.si_judge.specs.States.{AreSameOnKey}
-use Rattle.si_shard.specs.declared.changes.Change.{Change}
+use Rattle.si_model.specs.declared.parts.OnKey.{OnKey}
+use Rattle.si_model.specs.Operations.{same_key}
+use Rattle.si_model.proofs.Equalities.{same_key_from, same_key_is}
+use Rattle.si_shard.specs.declared.waiting.Waits.{Waits}
 use Rattle.si_shard.specs.declared.keyed.KeyStates.{KeyStates}
-use Rattle.si_shard.specs.Changes.{CanChange, changed_on}
-use Rattle.si_shard.specs.Keyed.{AreChangedAll, CanChangeAll, HasNone, IsChangedAt, on}
+use Rattle.si_shard.specs.Changes.{IsLedBy, LeadsTo}
+use Rattle.si_shard.specs.Keyed.{AreChangedAll, CanChangeAll, IsChangedAt, on}
+
+abbrev pub Entries : Type 0
+Entries = List (List ℕ × Waits)
 
 -- what stands before an element of a list is related to it
 pub pairs_before : {X : Type 0} (R : X → X → Type 0) (xs : List X) (y : X) (ys : List X) → AllPairs R (xs ++ y ∷ ys) → (x : X) → Contains xs x → R x y
@@ -19,29 +27,67 @@ pairs_before R (z ∷ xs) y ys pairs x c = elim (Contains-cons_cases z xs x c) [
   | inr d ↦ pairs_before R xs y ys (pairs_tail R z (xs ++ y ∷ ys) pairs) x d
 ]
 
-module _ (cs done rest : List (List ℕ × Change)) (x : List ℕ) (c : Change) (split : cs ≡ done ++ (x, c) ∷ rest) (once : AllPairs (λ a b. a.0 ≢ b.0) cs) where
-  -- the key of a change comes once
-  new_key : HasNone x done
-  new_key d at = pairs_before (λ a b. a.0 ≢ b.0) done (x, c) rest (subst (AllPairs (λ a b. a.0 ≢ b.0)) split once) (x, d) at refl
+-- ---- the lists of a map
 
-  is_there : Contains cs (x, c)
-  is_there = subst (λ l. Contains l (x, c)) (sym split) (Contains-append_right done ((x, c) ∷ rest) (x, c) (here (x, c) rest))
+-- the keys differ
+once : (es : Entries) → IsDistinct same_key (keys_of es) → AllPairs (λ a b. a.0 ≢ b.0) es
+unfolding IsDistinct
+once [] u = pairs_nil (λ a b. a.0 ≢ b.0)
+once (p ∷ es) u = pairs_cons (λ a b. a.0 ≢ b.0) p es
+    (λ q c same. (let differ = at_each (λ y. same_key p.0 y ≡ false) (keys_of es) q.0 u.0 (Contains-map (λ r. r.0) es q c) in let no : true ≡ false = sym (same_key_from p.0 q.0 same) ∙ differ in cc))
+    (once es u.1)
 
-  pub next_can : (old mid : KeyStates) → CanChangeAll cs old → AreChangedAll done old mid → CanChange c (on mid x)
-  next_can old mid can changed = subst (CanChange c) (sym (changed.others x new_key)) (can x c is_there)
+looked_up : (x : List ℕ) (list : Waits) (es : Entries) → AllPairs (λ a b. a.0 ≢ b.0) es → Contains es (x, list) → lookup (same_key x) es ≡ Some list
+looked_up x list [] pairs c = absurd (Contains-nil (x, list) c)
+looked_up x list (p ∷ es) pairs c = elim (Contains-cons_cases p es (x, list) c) [
+  | inl e ↦ ap (λ b. cond b (Some p.1) (lookup (same_key x) es)) (same_key_from x p.0 (sym (ap (λ q. q.0) e))) ∙ ap Some (ap (λ q. q.1) e)
+  | inr d ↦ by d (looked_up x list es (pairs_tail (λ a b. a.0 ≢ b.0) p es pairs) d) (same_key x p.0) refl
+]
+  where
+    by : Contains es (x, list) → lookup (same_key x) es ≡ Some list → (b : Bool) → same_key x p.0 ≡ b → cond (same_key x p.0) (Some p.1) (lookup (same_key x) es) ≡ Some list
+    by d later true e = absurd (pairs_head (λ a b. a.0 ≢ b.0) p es pairs (x, list) d (sym (same_key_is x p.0 e)))
+    by d later false e = ap (λ b. cond b (Some p.1) (lookup (same_key x) es)) e ∙ later
 
-  pub next_changed : (old mid new : KeyStates) → AreChangedAll done old mid → IsChangedAt x c mid new → AreChangedAll (done ++ (x, c) ∷ []) old new
-  next_changed old mid new before step = record {
-    changed = λ y d at. elim (push_cases done (x, c) (y, d) at) [
-      | inl earlier ↦ subst (AreSameOnKey (changed_on d (on old y))) (sym (step.others y (λ e. new_key d (subst (λ z. Contains done (z, d)) e earlier)))) (before.changed y d earlier)
-      | inr last ↦ subst (λ p. AreSameOnKey (changed_on p.1 (on old p.0)) (on new p.0)) last
-          (subst (λ Q. AreSameOnKey (changed_on c Q) (on new x)) (before.others x new_key) step.present)
-    ];
-    others = λ y none.
-        step.others y (λ e. none c (subst (λ z. Contains (done ++ (x, c) ∷ []) (z, c)) (sym e) (push_last done (x, c))))
-        ∙ before.others y (λ d at. none d (push_keeps done (x, c) (y, d) at));
-  }
+-- ---- one key after the other
+
+-- the lists of these keys were made, and nothing else was
+pub record AreDone (es : Entries) (old new : KeyStates) : Type 0 where
+  pub changed : (x : List ℕ) (list : Waits) → Contains es (x, list) → IsLedBy list.changes.items (on old x) (on new x)
+  pub others : (x : List ℕ) → ((list : Waits) → Contains es (x, list) → ⊥) → on new x ≡ on old x
 
 -- before any change
-pub none_changed : (ks : KeyStates) → AreChangedAll [] ks ks
-none_changed ks = record { changed = λ x c at. absurd (Contains-nil (x, c) at); others = λ x none. refl }
+pub none_done : (ks : KeyStates) → AreDone [] ks ks
+none_done ks = record { changed = λ x list at. absurd (Contains-nil (x, list) at); others = λ x none. refl }
+
+module _ {S : Type 0} (lists : HashMap (List ℕ) Waits S) (unique : IsUnique same_key lists) where
+  pairs : AllPairs (λ a b. a.0 ≢ b.0) lists.entries
+  pairs = once lists.entries unique
+
+  module _ (done rest : Entries) (x : List ℕ) (list : Waits) (split : lists.entries ≡ done ++ (x, list) ∷ rest) where
+    -- the key of a list comes once
+    new_key : (d : Waits) → Contains done (x, d) → ⊥
+    new_key d at = pairs_before (λ a b. a.0 ≢ b.0) done (x, list) rest (subst (AllPairs (λ a b. a.0 ≢ b.0)) split pairs) (x, d) at refl
+
+    stands : get same_key lists x ≡ Some list
+    stands = looked_up x list lists.entries pairs (subst (λ l. Contains l (x, list)) (sym split) (Contains-append_right done ((x, list) ∷ rest) (x, list) (here (x, list) rest)))
+
+    pub next_can : (old mid : KeyStates) → CanChangeAll lists old → AreDone done old mid → (R : OnKey) × LeadsTo list.changes.items (on mid x) R
+    next_can old mid can before = subst (λ Q. (R : OnKey) × LeadsTo list.changes.items Q R) (sym (before.others x new_key)) (can x list stands)
+
+    pub next_done : (old mid new : KeyStates) → AreDone done old mid → IsChangedAt x list.changes.items mid new → AreDone (done ++ (x, list) ∷ []) old new
+    next_done old mid new before step = record {
+      changed = λ y d at. elim (push_cases done (x, list) (y, d) at) [
+        | inl earlier ↦ subst (IsLedBy d.changes.items (on old y)) (sym (step.others y (λ e. new_key d (subst (λ z. Contains done (z, d)) e earlier)))) (before.changed y d earlier)
+        | inr last ↦ subst (λ p. IsLedBy p.1.changes.items (on old p.0) (on new p.0)) last (subst (λ Q. IsLedBy list.changes.items Q (on new x)) (before.others x new_key) step.present)
+      ];
+      others = λ y none.
+          step.others y (λ e. none list (subst (λ z. Contains (done ++ (x, list) ∷ []) (z, list)) (sym e) (push_last done (x, list))))
+          ∙ before.others y (λ d at. none d (push_keeps done (x, list) (y, d) at));
+    }
+
+  -- at the end all were made
+  pub all_done : (old new : KeyStates) → AreDone lists.entries old new → AreChangedAll lists old new
+  all_done old new done = record {
+    changed = λ x list e. done.changed x list (Contains-from_lookup same_key_is x list lists.entries e);
+    others = λ x e. done.others x (λ list c. (let no : None ≡ Some list = sym e ∙ looked_up x list lists.entries pairs c in cc));
+  }

@@ -1,9 +1,7 @@
 -- What stored edits made of the keys of one shard. All of it is this project's choice.
-use Rattle.std.specs.Prelude.{◌≡◌, ◌≢◌, ℕ, Bool, true, false, nat_eq, if◌then◌else◌, List, [], ◌∷◌, Some, None, Option, slice_get}
-use Rattle.std.specs.List.{AllPairs, Contains}
+use Rattle.std.specs.Prelude.{◌≡◌, ℕ, Bool, true, false, nat_eq, if◌then◌else◌, List, [], Some, None, Option, slice_get}
+use Rattle.std.specs.List.{Contains}
 use Rattle.std.specs.HashMap.{get}
-use Rattle.std.specs.Global.{Vec}
-use Rattle.si_model.specs.declared.numbers.Value.{Value}
 use Rattle.si_model.specs.declared.operations.Op.{Op}
 use Rattle.si_model.specs.declared.parts.Placed.{Placed}
 use Rattle.si_model.specs.declared.transactions.Txn.{Txn}
@@ -13,11 +11,11 @@ use Rattle.si_model.specs.Parts.{accesses, on_key}
 use Rattle.si_model.specs.Journals.{present}
 use Rattle.si_judge.specs.Following.{empty_key}
 use Rattle.si_judge.specs.States.{AreSameOnKey}
-use Rattle.si_shard.specs.declared.accesses.ShardId.{ShardId}
+use Rattle.si_shard.specs.declared.shard_ids.ShardId.{ShardId}
 use Rattle.si_shard.specs.declared.applied.Applied.{Applied}
 use Rattle.si_shard.specs.declared.changes.Change.{Change}
 use Rattle.si_shard.specs.declared.changes.Change.TheVariants as change
-use Rattle.si_shard.specs.Accesses.{is_ours}
+use Rattle.si_shard.specs.ShardIds.{is_ours}
 use Rattle.si_shard.specs.Keyed.{AreStates, on}
 
 -- ---- the stored arrivals
@@ -76,14 +74,6 @@ change_by (edit.Resolve u o) ys = change.Resolve u o
 change_by (edit.Withdraw u) ys = change.Withdraw u
 change_by (edit.SetUp x v) ys = change.SetUp v
 
--- an entry of accesses as a change
-abbrev pub change_at : Edit → List ℕ × Vec Placed → List ℕ × Change
-change_at e entry = (entry.0, change_by e entry.1.items)
-
--- a set-up, if its key is of the shard
-abbrev pub set_up_changes : ShardId → List ℕ → Value → List (List ℕ × Change)
-set_up_changes id x v = if is_ours id x then (x, change.SetUp v) ∷ [] else []
-
 -- the transaction with these operations does something on the key x, and this is what the edit is there
 abbrev pub IsAccessChange : List Op → Edit → List ℕ → Change → Type 0
 IsAccessChange ops e x c = (a : Placed) × Contains (accesses x ops) a × (c ≡ change_by e (accesses x ops))
@@ -94,12 +84,6 @@ IsChangeOn ops (edit.Arrive T) x c = IsAccessChange ops (edit.Arrive T) x c
 IsChangeOn ops (edit.Resolve u o) x c = IsAccessChange ops (edit.Resolve u o) x c
 IsChangeOn ops (edit.Withdraw u) x c = IsAccessChange ops (edit.Withdraw u) x c
 IsChangeOn ops (edit.SetUp y v) x c = (x ≡ y) × (c ≡ change.SetUp v)
-
--- what the edit is on each key of the shard, once
-pub record AreChangesBy (id : ShardId) (ops : List Op) (e : Edit) (cs : List (List ℕ × Change)) : Type 0 where
-  pub once : AllPairs (λ c d. c.0 ≢ d.0) cs
-  pub only : (x : List ℕ) (c : Change) → Contains cs (x, c) → (is_ours id x ≡ true) × IsChangeOn ops e x c
-  pub all : (x : List ℕ) (c : Change) → is_ours id x ≡ true → IsChangeOn ops e x c → Contains cs (x, c)
 
 -- the place of the arrival is kept where it touches the shard's keys, and that of a withdrawn transaction forgotten
 abbrev pub arrivals_after : Edit → Bool → ℕ → (ℕ → Option ℕ) → ℕ → Option ℕ

@@ -1,5 +1,5 @@
 -- What an edit is on one key. All of it is this project's choice.
-use Rattle.std.specs.Prelude.{◌≡◌, false, None, ⊤}
+use Rattle.std.specs.Prelude.{◌≡◌, false, List, [], ◌∷◌, None, ⊤}
 use Rattle.si_model.specs.declared.parts.OnKey.{OnKey}
 use Rattle.si_model.specs.KeyEdits.{arrived_on, resolved_on, set_up_on, withdrawn_on}
 use Rattle.si_model.specs.History.{IsOfHistory}
@@ -30,5 +30,23 @@ pub record CanChange (c : Change) (Q : OnKey) : Type 0 where
 pub record IsChanged (c : Change) (old new : State) : Type 0 where
   pub key : new.key ≡ old.key
   pub present : AreSameOnKey (changed_on c old.present) new.present
+  pub history : IsOfHistory new.present
+  pub whole : new.spoiled ≡ false
+
+-- ---- changes one after the other
+
+-- the changes can be made on a key on which Q is, one after the other, and leave R there
+abbrev pub LeadsTo : List Change → OnKey → OnKey → Type 0
+LeadsTo [] Q R = AreSameOnKey R Q
+LeadsTo (c ∷ cs) Q R = CanChange c Q × ((N : OnKey) → IsOfHistory N → AreSameOnKey (changed_on c Q) N → LeadsTo cs N R)
+
+-- the changes leave Q where they lead
+abbrev pub IsLedBy : List Change → OnKey → OnKey → Type 0
+IsLedBy cs P Q = (R : OnKey) → LeadsTo cs P R → AreSameOnKey R Q
+
+-- a state after the changes of its key
+pub record AreMade (cs : List Change) (old new : State) : Type 0 where
+  pub key : new.key ≡ old.key
+  pub present : IsLedBy cs old.present new.present
   pub history : IsOfHistory new.present
   pub whole : new.spoiled ≡ false

@@ -11,10 +11,11 @@ use Rattle.si_model.specs.Operations.{same_key}
 use Rattle.si_model.specs.Findings.{cases, findings_on}
 use Rattle.si_model.specs.History.{IsOfHistory}
 use Rattle.si_judge.specs.Following.{empty_key}
-use Rattle.si_judge.specs.States.{AreSameOnKey, State}
+use Rattle.si_judge.specs.States.{State}
 use Rattle.si_shard.specs.declared.changes.Change.{Change}
 use Rattle.si_shard.specs.declared.keyed.KeyStates.{KeyStates}
-use Rattle.si_shard.specs.Changes.{CanChange, changed_on}
+use Rattle.si_shard.specs.declared.waiting.Waits.{Waits}
+use Rattle.si_shard.specs.Changes.{IsLedBy, LeadsTo}
 
 -- what is on the key of a state, and nothing where there is none
 abbrev pub present_in : Option State → OnKey
@@ -52,29 +53,25 @@ pub record IsLeft (is_empty has_findings : Bool) (s : State) : Type 0 where
   pub found : (has_findings ≡ true) ↔ HasFinding s.key s.present
 
 -- the state of the key x was changed so, or a new one, which is left so
-pub record IsChangedIn {S : Type 0} (x : List ℕ) (c : Change) (is_empty has_findings : Bool) (old new : HashMap (List ℕ) State S) : Type 0 where
+pub record IsChangedIn {S : Type 0} (x : List ℕ) (cs : List Change) (is_empty has_findings : Bool) (old new : HashMap (List ℕ) State S) : Type 0 where
   pub state : State
   pub whole : IsWhole x state
-  pub present : AreSameOnKey (changed_on c (present_in (get same_key old x))) state.present
+  pub present : IsLedBy cs (present_in (get same_key old x)) state.present
   pub left : IsLeft is_empty has_findings state
   pub states : Updates same_key old new x (Some state)
 
 -- what is on x was changed so, and nothing else
-pub record IsChangedAt (x : List ℕ) (c : Change) (old new : KeyStates) : Type 0 where
-  pub present : AreSameOnKey (changed_on c (on old x)) (on new x)
+pub record IsChangedAt (x : List ℕ) (cs : List Change) (old new : KeyStates) : Type 0 where
+  pub present : IsLedBy cs (on old x) (on new x)
   pub others : (y : List ℕ) → y ≢ x → on new y ≡ on old y
 
--- ---- many changes
+-- ---- the changes of many keys
 
--- there is no change on the key x
-abbrev pub HasNone : List ℕ → List (List ℕ × Change) → Type 0
-HasNone x cs = (c : Change) → Contains cs (x, c) → ⊥
+-- the changes of each key can be made
+abbrev pub CanChangeAll : {S : Type 0} → HashMap (List ℕ) Waits S → KeyStates → Type 0
+CanChangeAll lists ks = (x : List ℕ) (list : Waits) → get same_key lists x ≡ Some list → (R : OnKey) × LeadsTo list.changes.items (on ks x) R
 
--- each change can be made
-abbrev pub CanChangeAll : List (List ℕ × Change) → KeyStates → Type 0
-CanChangeAll cs ks = (x : List ℕ) (c : Change) → Contains cs (x, c) → CanChange c (on ks x)
-
--- each key with a change was changed so, and no other was
-pub record AreChangedAll (cs : List (List ℕ × Change)) (old new : KeyStates) : Type 0 where
-  pub changed : (x : List ℕ) (c : Change) → Contains cs (x, c) → AreSameOnKey (changed_on c (on old x)) (on new x)
-  pub others : (x : List ℕ) → HasNone x cs → on new x ≡ on old x
+-- each key with a list was changed so, and no other was
+pub record AreChangedAll {S : Type 0} (lists : HashMap (List ℕ) Waits S) (old new : KeyStates) : Type 0 where
+  pub changed : (x : List ℕ) (list : Waits) → get same_key lists x ≡ Some list → IsLedBy list.changes.items (on old x) (on new x)
+  pub others : (x : List ℕ) → get same_key lists x ≡ None → on new x ≡ on old x

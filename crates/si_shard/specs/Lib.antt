@@ -1,6 +1,7 @@
 -- What the contracts of the shards cite.
-pub mod Accesses
+pub mod ShardIds
 pub mod Applied
 pub mod Changes
 pub mod Keyed
 pub mod Shards
+pub mod Waiting

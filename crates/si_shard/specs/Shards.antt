@@ -6,9 +6,9 @@ use Rattle.si_model.specs.declared.edits.Edit.{Edit}
 use Rattle.si_model.specs.Parts.{Present}
 use Rattle.si_model.specs.Findings.{findings}
 use Rattle.si_model.specs.Journals.{IsAccepted}
-use Rattle.si_shard.specs.declared.accesses.ShardId.{ShardId}
+use Rattle.si_shard.specs.declared.shard_ids.ShardId.{ShardId}
 use Rattle.si_shard.specs.declared.applied.Applied.{Applied}
-use Rattle.si_shard.specs.Accesses.{is_ours}
+use Rattle.si_shard.specs.ShardIds.{is_ours}
 use Rattle.si_shard.specs.Applied.{AreApplied}
 
 -- the findings of what is present that are on keys of the shard, in order

@@ -1,28 +1,30 @@
 //! What the stored edits of one shard made of its keys.
 
-ghost use Rattle.std.specs.Prelude.{◌≡◌, ◌<◌, ℕ, Bool, List, [], ◌∷◌, ◌++◌, map, OnOk, IfOk};
+ghost use Rattle.std.specs.Prelude.{◌≡◌, ◌<◌, ◌≤◌, ℕ, Bool, List, [], ◌∷◌, ◌++◌, length, take, OnOk, IfOk};
 ghost use Rattle.std.specs.HashMap.{get};
-ghost use Rattle.std.specs.BTreeMap.{IsOrdered};
-ghost use Rattle.std.specs.Ordering.{nat_cmp};
-ghost use Rattle.std.specs.Cmp.Lexicographic.{slice_cmp};
 ghost use Rattle.std.specs.Prelude.{nat_eq};
 ghost use Rattle.si_model.specs.Journals.{IsAccepted, present};
-ghost use Rattle.si_shard.specs.Applied.{AreApplied, AreChangesBy, SetsArrival, change_at, change_by, ops_for, ops_in, set_up_changes};
+ghost use Rattle.si_shard.specs.Applied.{AreApplied, SetsArrival, ops_for, ops_in};
 ghost use Rattle.si_shard.specs.Shards.{findings_in};
+ghost use Rattle.si_shard.specs.Waiting.{AreGatheredTo};
 
-use crate::accesses::{ShardId, accesses_on};
-use crate::changes::Change;
 use crate::keyed::KeyStates;
-use si_model::parts::Accesses;
-use si_model::{Edit, Finding, Key, Op, OutOfMemory, Part, Placed, Value};
+use crate::shard_ids::ShardId;
+use crate::waiting::Waiting;
+use si_model::{Edit, Finding, Op, OutOfMemory};
 use std::alloc::Global;
-use std::collections::{BTreeMap, HashMap};
+use std::collections::HashMap;
 use std::hash::RandomState;
+use std::mem;
+
+/// How many changes may wait beside one for each stored edit.
+const MOST_WAITING: usize = 65_536;
 
 /// The states of a shard's keys after some edits, and where the transactions arrived that are on them.
 #[derive(Drop)]
 pub struct Applied {
     alloc: Global,
+    hash: RandomState,
     keys: KeyStates,
     // From the id of each present transaction that is on the shard's keys to its arrival among the stored edits, which tells
     // a resolution and a withdrawal the keys.
@@ -36,6 +38,7 @@ impl Applied {
     {
         Applied {
             alloc,
+            hash,
             keys: KeyStates::new(alloc, hash),
             arrivals: HashMap::with_hasher(alloc, hash),
         }
@@ -48,11 +51,65 @@ impl Applied {
         requires accepted { IsAccepted (stored.now ++ edit.now ∷ []) }
         ensures { OnOk result (AreApplied id (stored.now ++ edit.now ∷ []) self.new) }
     {
+        let mut waiting = Waiting::new(self.alloc, self.hash);
+        self.gather(&mut waiting, stored, edit, id)?;
+        self.make(waiting)?;
+        Ok(())
+    }
+
+    /// Applies the edits from that place on, which come after those before it.
+    ///
+    /// What they are on the keys is gathered first, so that what is known of a key is looked for once for many of them. What is
+    /// gathered grows with what is stored, but stays a part of it.
+    pub fn apply_from(
+        &mut self,
+        edits: &[Edit],
+        from: usize,
+        id: ShardId,
+    ) -> Result<(), OutOfMemory>
+        requires shards { 0 < id.shards }
+        requires from { from ≤ length edits.now }
+        requires applied { AreApplied id (take from edits.now) self.old }
+        requires accepted { IsAccepted edits.now }
+        ensures { OnOk result (AreApplied id edits.now self.new) }
+    {
+        let mut waiting = Waiting::new(self.alloc, self.hash);
+        for place in from..edits.len() {
+            self.gather(&mut waiting, &edits[..place], &edits[place], id)?;
+            if waiting.count() / MOST_WAITING > place / MOST_WAITING {
+                let gathered = mem::replace(&mut waiting, Waiting::new(self.alloc, self.hash));
+                self.make(gathered)?;
+            }
+        }
+        self.make(waiting)?;
+        Ok(())
+    }
+
+    /// Gathers what the edit, which comes after these, is on the keys.
+    fn gather(
+        &mut self,
+        waiting: &mut Waiting,
+        stored: &[Edit],
+        edit: &Edit,
+        id: ShardId,
+    ) -> Result<(), OutOfMemory>
+        requires shards { 0 < id.shards }
+        requires gathered { AreGatheredTo id stored.now self.old waiting.old.lists }
+        requires accepted { IsAccepted (stored.now ++ edit.now ∷ []) }
+        ensures { OnOk result (AreGatheredTo id (stored.now ++ edit.now ∷ []) self.new waiting.new.lists) }
+    {
         let ops = self.ops_of(stored, edit);
-        let changes = changes_of(self.alloc, ops, edit, id)?;
-        let touches = !changes.is_empty();
-        self.keys.change_all(changes)?;
+        let touches = waiting.gather(ops, edit, stored.len(), id)?;
         set_arrival(&mut self.arrivals, edit, touches, stored.len())?;
+        Ok(())
+    }
+
+    /// Makes the changes that were gathered.
+    fn make(&mut self, waiting: Waiting) -> Result<(), OutOfMemory>
+        requires { (id : ShardId) × (edits : List Edit) × AreGatheredTo id edits self.old waiting.lists }
+        ensures { OnOk result ((id : ShardId) (edits : List Edit) → AreGatheredTo id edits self.old waiting.lists → AreApplied id edits self.new) }
+    {
+        self.keys.change_all(waiting.lists)?;
         Ok(())
     }
 
@@ -89,72 +146,6 @@ fn ops_in(edit: &Edit) -> &[Op]
     match edit {
         Edit::Arrive(txn) => txn.ops.as_slice(),
         _ => &[],
-    }
-}
-
-/// What the edit, whose transaction has these operations, is on each key of the shard that it touches.
-fn changes_of(
-    alloc: Global,
-    ops: &[Op],
-    edit: &Edit,
-    id: ShardId,
-) -> Result<Vec<(Key, Change)>, OutOfMemory>
-    requires { 0 < id.shards }
-    ensures { IfOk result (λ changes. AreChangesBy id ops.now edit.now changes.items) }
-{
-    if let Edit::SetUp(key, value) = edit {
-        return set_up_changes(alloc, key, *value, id);
-    }
-    let lists = accesses_on(alloc, ops, id)?;
-    changes_by(alloc, edit, lists)
-}
-
-/// What a set-up is on the keys of the shard.
-fn set_up_changes(
-    alloc: Global,
-    key: &Key,
-    value: Value,
-    id: ShardId,
-) -> Result<Vec<(Key, Change)>, OutOfMemory>
-    requires { 0 < id.shards }
-    ensures { IfOk result (λ changes. changes.items ≡ set_up_changes id key.now value) }
-{
-    let mut changes = Vec::new(alloc);
-    if id.has(key) {
-        changes.push((key.try_clone()?, Change::SetUp(value)))?;
-    }
-    Ok(changes)
-}
-
-/// What the edit is on the keys that its transaction accesses so.
-fn changes_by(
-    alloc: Global,
-    edit: &Edit,
-    lists: BTreeMap<Key, Vec<Placed>>,
-) -> Result<Vec<(Key, Change)>, OutOfMemory>
-    ensures changes { IfOk result (λ changes. changes.items ≡ map (change_at edit.now) lists.entries) }
-    ensures ordered { IsOrdered (slice_cmp nat_cmp) lists }
-{
-    let mut changes = Vec::new(alloc);
-    for (key, list) in lists {
-        changes.push((key, change_by(edit, list)))?;
-    }
-    Ok(changes)
-}
-
-fn change_by(edit: &Edit, list: Vec<Placed>) -> Change
-    ensures { result ≡ change_by edit.now list.items }
-{
-    match edit {
-        Edit::Arrive(txn) => Change::Arrive(Part {
-            id: txn.id,
-            start: txn.start,
-            status: txn.status,
-            accesses: Accesses::from_vec(list),
-        }),
-        Edit::Resolve(id, outcome) => Change::Resolve(*id, *outcome),
-        Edit::Withdraw(id) => Change::Withdraw(*id),
-        Edit::SetUp(_, value) => Change::SetUp(*value),
     }
 }
 

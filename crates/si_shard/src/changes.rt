@@ -1,7 +1,9 @@
 //! What an edit is on one key.
 
 ghost use Rattle.std.specs.Prelude.{◌≡◌, false, OnOk};
-ghost use Rattle.si_shard.specs.Changes.{CanChange, IsChanged};
+ghost use Rattle.si_model.specs.declared.parts.OnKey.{OnKey};
+ghost use Rattle.si_model.specs.History.{IsOfHistory};
+ghost use Rattle.si_shard.specs.Changes.{AreMade, CanChange, IsChanged, LeadsTo};
 
 use si_judge::{Cases, KeyState};
 use si_model::{OutOfMemory, Outcome, Part, TxnId, Value};
@@ -20,8 +22,20 @@ pub enum Change {
     SetUp(Value),
 }
 
-/// Changes what is on one key. Its state isn't spoiled, so that it can fail for want of memory alone.
-pub fn make_change(state: &mut KeyState<Cases>, change: Change) -> Result<(), OutOfMemory>
+/// Makes the changes of one key, one after the other. Its state isn't spoiled, so that it can fail for want of memory alone.
+pub fn make_changes(state: &mut KeyState<Cases>, changes: Vec<Change>) -> Result<(), OutOfMemory>
+    requires whole { state.old.spoiled ≡ false }
+    requires history { IsOfHistory state.old.present }
+    requires can { (after : OnKey) × LeadsTo changes.items state.old.present after }
+    ensures { OnOk result (AreMade changes.items state.old state.new) }
+{
+    for change in changes {
+        make_change(state, change)?;
+    }
+    Ok(())
+}
+
+fn make_change(state: &mut KeyState<Cases>, change: Change) -> Result<(), OutOfMemory>
     requires whole { state.old.spoiled ≡ false }
     requires can { CanChange change state.old.present }
     ensures { OnOk result (IsChanged change state.old state.new) }

@@ -1,19 +1,21 @@
 //! The states of many keys, and the keys on which something is found.
 
-ghost use Rattle.std.specs.Prelude.{◌≡◌, ◌≢◌, ◌↔◌, ℕ, List, false, true, Some, None, IsTrue, OnOk, IfOk, ◌++◌};
+ghost use Rattle.std.specs.Prelude.{◌≡◌, ◌↔◌, ℕ, List, false, true, Some, None, IsTrue, OnOk, IfOk, ◌++◌};
 ghost use Rattle.std.specs.HashMap.{get};
 ghost use Rattle.std.specs.BTreeSet.{IsOrdered, Updates};
 ghost use Rattle.std.specs.Ordering.{nat_cmp};
 ghost use Rattle.std.specs.Cmp.Lexicographic.{slice_cmp};
-ghost use Rattle.std.specs.List.{AllPairs, Contains, flat_map};
+ghost use Rattle.std.specs.List.{Contains, flat_map};
+ghost use Rattle.si_model.specs.declared.parts.OnKey.{OnKey};
 ghost use Rattle.si_model.specs.Operations.{same_key};
 ghost use Rattle.si_model.specs.Findings.{cases, findings_on};
 ghost use Rattle.si_judge.specs.Following.{empty_key};
 ghost use Rattle.si_judge.specs.States.{State};
-ghost use Rattle.si_shard.specs.Changes.{CanChange};
+ghost use Rattle.si_shard.specs.Changes.{LeadsTo};
 ghost use Rattle.si_shard.specs.Keyed.{AreChangedAll, AreStates, CanChangeAll, IsChangedAt, IsChangedIn, IsLeft, IsWhole, findings_at, on, present_in};
 
-use crate::changes::{Change, make_change};
+use crate::changes::{Change, make_changes};
+use crate::waiting::Lists;
 use si_judge::{Cases, KeyState};
 use si_model::{Finding, Key, OutOfMemory};
 use std::alloc::{AllocError, Global};
@@ -48,27 +50,26 @@ impl KeyStates {
         }
     }
 
-    /// Makes each change on its key.
-    pub fn change_all(&mut self, changes: Vec<(Key, Change)>) -> Result<(), OutOfMemory>
+    /// Makes the changes of each key, one key after the other, so that what is known of a key is looked for once.
+    pub fn change_all(&mut self, lists: Lists) -> Result<(), OutOfMemory>
         requires states { AreStates self.old }
-        requires once { AllPairs (λ c d. c.0 ≢ d.0) changes.items }
-        requires can { CanChangeAll changes.items self.old }
+        requires can { CanChangeAll lists self.old }
         ensures states { OnOk result (AreStates self.new) }
-        ensures changed { OnOk result (AreChangedAll changes.items self.old self.new) }
+        ensures changed { OnOk result (AreChangedAll lists self.old self.new) }
     {
-        for (key, change) in changes {
-            self.change(&key, change)?;
+        for (key, list) in lists {
+            self.change(&key, list.changes)?;
         }
         Ok(())
     }
 
-    fn change(&mut self, key: &Key, change: Change) -> Result<(), OutOfMemory>
+    fn change(&mut self, key: &Key, changes: Vec<Change>) -> Result<(), OutOfMemory>
         requires states { AreStates self.old }
-        requires can { CanChange change (on self.old key.now) }
+        requires can { (after : OnKey) × LeadsTo changes.items (on self.old key.now) after }
         ensures states { OnOk result (AreStates self.new) }
-        ensures changed { OnOk result (IsChangedAt key.now change self.old self.new) }
+        ensures changed { OnOk result (IsChangedAt key.now changes.items self.old self.new) }
     {
-        let left = change_in(self.alloc, &mut self.states, key, change)?;
+        let left = change_in(self.alloc, &mut self.states, key, changes)?;
         keep_found(&mut self.found, key, left.has_findings)?;
         if left.is_empty {
             self.states.remove(key);
@@ -103,23 +104,23 @@ impl KeyStates {
     }
 }
 
-/// Changes the state of the key, which is a new one where there was none.
+/// Makes the changes in the state of the key, which is a new one where there was none.
 fn change_in(
     alloc: Global,
     states: &mut HashMap<Key, KeyState<Cases>, RandomState>,
     key: &Key,
-    what: Change,
+    changes: Vec<Change>,
 ) -> Result<Left, OutOfMemory>
     requires whole { (s : State) → get same_key states.old key.now ≡ Some s → IsWhole key.now s }
-    requires can { CanChange what (present_in (get same_key states.old key.now)) }
-    ensures { IfOk result (λ left. IsChangedIn key.now what left.is_empty left.has_findings states.old states.new) }
+    requires can { (after : OnKey) × LeadsTo changes.items (present_in (get same_key states.old key.now)) after }
+    ensures { IfOk result (λ left. IsChangedIn key.now changes.items left.is_empty left.has_findings states.old states.new) }
 {
     if let Some(state) = states.get_mut(key) {
-        make_change(state, what)?;
+        make_changes(state, changes)?;
         return Ok(left_on(state));
     }
     let mut state = KeyState::new(alloc, key.try_clone()?, Cases::new());
-    make_change(&mut state, what)?;
+    make_changes(&mut state, changes)?;
     let left = left_on(&state);
     states.insert(key.try_clone()?, state)?;
     Ok(left)

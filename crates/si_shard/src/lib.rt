@@ -4,10 +4,11 @@
 //! on `si_model` and `si_judge`, and its proofs on `si_lists`.
 #![tactic(auto)]
 
-mod accesses;
 mod applied;
 mod changes;
 mod keyed;
+mod shard_ids;
 pub mod shards;
+mod waiting;
 
 pub use shards::{MOST_SHARDS, Shard};

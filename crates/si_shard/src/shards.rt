@@ -1,11 +1,11 @@
-ghost use Rattle.std.specs.Prelude.{◌≡◌, ◌↔◌, ℕ, ◌+◌, ◌<◌, ◌≤◌, true, false, [], ◌∷◌, ◌++◌, length, Err, IfOk, OnOk, OnErr};
+ghost use Rattle.std.specs.Prelude.{◌≡◌, ◌↔◌, ℕ, ◌+◌, ◌<◌, ◌≤◌, true, false, [], ◌∷◌, ◌++◌, length, take, Err, IfOk, OnOk, OnErr};
 ghost use Rattle.si_model.specs.Journals.{IsAccepted, present};
 ghost use Rattle.si_judge.specs.declared.states.KeyFault.TheVariants as fault;
 ghost use Rattle.si_shard.specs.Applied.{AreApplied};
 ghost use Rattle.si_shard.specs.Shards.{findings_in};
 
-use crate::accesses::ShardId;
 use crate::applied::Applied;
+use crate::shard_ids::ShardId;
 use si_judge::KeyFault;
 use si_model::{Edit, Finding, Number, OutOfMemory};
 use std::alloc::Global;
@@ -81,6 +81,30 @@ impl Shard {
         Ok(())
     }
 
+    /// Stores the edits, which have the numbers after the last one stored, and mends the findings on the shard's keys.
+    ///
+    /// It makes of the shard what [`Shard::apply`] makes of it edit by edit, and costs less: what they are on one key is done
+    /// together. [`KeyFault::Spoiled`] is answered as there; [`KeyFault::OutOfMemory`] leaves the edits that were stored before,
+    /// and the shard is spoiled from then on.
+    pub fn apply_all(&mut self, edits: &[Edit]) -> Result<(), KeyFault>
+        requires accepted { IsAccepted (self.old.stored ++ edits.now) }
+        ensures ok { OnOk result (self.new ≡ record self.old { stored = self.old.stored ++ edits.now }) }
+        ensures spoiled { (result ≡ Err fault.Spoiled) ↔ (self.old.spoiled ≡ true) }
+        ensures wanting { OnErr result (self.new ≡ record self.old { spoiled = true }) }
+    {
+        if self.spoiled {
+            return Err(KeyFault::Spoiled);
+        }
+        self.spoiled = true;
+        let before = self.stored.len();
+        if store_and_apply(&mut self.stored, &mut self.applied, edits, self.id).is_err() {
+            self.stored.truncate(before);
+            return Err(KeyFault::OutOfMemory);
+        }
+        self.spoiled = false;
+        Ok(())
+    }
+
     /// The findings on the shard's keys of what is present after the stored edits, in order. It costs what is found.
     ///
     /// It answers [`KeyFault::Spoiled`] where an edit wanted memory and no rebuild came since.
@@ -122,6 +146,38 @@ impl Shard {
     }
 }
 
+/// Stores the edits and applies them. For want of memory a part of them may be stored.
+fn store_and_apply(
+    stored: &mut Vec<Edit>,
+    applied: &mut Applied,
+    edits: &[Edit],
+    id: ShardId,
+) -> Result<(), OutOfMemory>
+    requires shards { 0 < id.shards }
+    requires applied { AreApplied id stored.old.items applied.old }
+    requires accepted { IsAccepted (stored.old.items ++ edits.now) }
+    ensures stored { OnOk result (stored.new.items ≡ stored.old.items ++ edits.now) }
+    ensures applied { OnOk result (AreApplied id (stored.old.items ++ edits.now) applied.new) }
+    ensures begins { take (length stored.old.items) stored.new.items ≡ stored.old.items }
+{
+    let from = stored.len();
+    store(stored, edits)?;
+    applied.apply_from(stored.as_slice(), from, id)?;
+    Ok(())
+}
+
+/// Stores copies of the edits, which share the operations.
+fn store(stored: &mut Vec<Edit>, edits: &[Edit]) -> Result<(), OutOfMemory>
+    ensures stored { OnOk result (stored.new.items ≡ stored.old.items ++ edits.now) }
+    ensures begins { take (length stored.old.items) stored.new.items ≡ stored.old.items }
+{
+    stored.reserve(edits.len())?;
+    for edit in edits {
+        stored.push(edit.try_clone()?)?;
+    }
+    Ok(())
+}
+
 /// What these edits make of the shard, from nothing.
 fn applied_from(
     alloc: Global,
@@ -134,8 +190,6 @@ fn applied_from(
     ensures { IfOk result (AreApplied id edits.now) }
 {
     let mut applied = Applied::new(alloc, hash);
-    for place in 0..edits.len() {
-        applied.apply(&edits[..place], &edits[place], id)?;
-    }
+    applied.apply_from(edits, 0, id)?;
     Ok(applied)
 }

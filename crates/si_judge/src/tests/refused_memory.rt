@@ -16,7 +16,7 @@ fn idle(alloc: Global) -> Part {
         id: TxnId(90),
         start: Stamp(90),
         status: Status::Aborted,
-        accesses: Accesses::from_vec(Vec::new(alloc)),
+        accesses: Accesses::new(alloc),
     }
 }
 

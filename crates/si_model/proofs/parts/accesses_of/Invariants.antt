@@ -4,4 +4,4 @@ use Rattle.si_model.specs.Parts.{placed_at, accesses}
 use Rattle.si_model.proofs.parts.accesses_of.Given as goal
 
 abbrev pub invariant-loop-place : goal.invariant-loop-place
-invariant-loop-place l = l.items.items ++ filter_map (placed_at l.key) (enumerate_from l.place (drop l.place l.ops)) ≡ accesses l.key l.ops
+invariant-loop-place l = l.found ++ filter_map (placed_at l.key) (enumerate_from l.place (drop l.place l.ops)) ≡ accesses l.key l.ops

@@ -1,34 +1,37 @@
-use Rattle.std.proofs.Common.{◌≡◌, ◌∙◌, ◌≤◌, true≢false, length, sym, ap, subst, arith, refl}
-use Rattle.si_core.specs.declared.steps.Reply.TheVariants as reply
-use Rattle.si_core.specs.Machine.{IsApply, Machine}
-use Rattle.si_core.proofs.Applications.{apply_beside, beside_both, beside_start, further, idle_there, one_more_applied}
+use Rattle.std.proofs.Common.{rules, ◌≡◌, ◌∙◌, ◌<◌, length, sym, ap, subst, Some, slice_get, slice_set}
+use Rattle.std.proofs.lemmas.Option.{slice_get-get_or}
+use Rattle.si_core.specs.Machine.{AppliesUntil}
+use Rattle.si_core.specs.Worlds.{AppliesAll, IsShardOf, machine_of}
+use Rattle.si_core.proofs.AllLeft.{applies_all, world_settled}
+use Rattle.si_core.proofs.Progressing.{own_count}
 use Rattle.si_core.proofs.worlds.World.apply_all.Goals as goal
 
-pub loop-applied-init : goal.loop-applied-init
-loop-applied-init c = (refl, (λ p e. omega arith), beside_start c.args.self.now)
-
-pub loop-applied-preserved : goal.loop-applied-preserved
-loop-applied-preserved c =
-    let M = c.loop-applied.self in
-    let N = c.apply-reply.new.self in
+pub apply_left-requires-clause-shard : goal.apply_left-requires-clause-shard
+apply_left-requires-clause-shard c =
+    let shards = c.self.inside.shards.items in
     let k = c.args.shard in
-    let n = c.loop-applied._applied in
-    let told = c.is_applied.ensures.0 c.if-not-is_applied.false in
-    let step : IsApply M k (reply.Applied told.0) N = subst (λ r. IsApply M k r N) told.1 c.apply-reply.ensures in (
-      one_more_applied n c.args.self.now M N k told.0 c.loop-applied.invariant.0 step,
-      further M N k n told.0 c.loop-applied.invariant.1 step,
-      beside_both c.args.self.now M N c.loop-applied.invariant.2 (apply_beside M N k c.apply-reply.result c.apply-reply.ensures),
-    )
+    let s = c.index_mut.result.now in
+    let within : k < length shards = search rules in
+    let at : slice_get shards k ≡ Some s = slice_get-get_or shards k s within ∙ ap Some (sym c.index_mut.ensures.value) in
+    subst (λ J. IsShardOf J s.id.shards k s) (sym c.journal.ensures.journal) (own_count c.self.inside.book.journal _ k s (c.self.invariant.each k s at))
 
-pub returns-then-not-is_applied : goal.returns-then-not-is_applied
-returns-then-not-is_applied c =
-    (c.loop-applied._applied, c.loop-applied.self, c.loop-applied.invariant.0, c.apply-reply.ensures, λ p e. true≢false (sym (c.is_applied.ensures.1 (p, e)) ∙ c.if-not-is_applied.true))
+pub invariant_of-self : goal.invariant_of-self
+invariant_of-self c =
+    let shards = c.self.inside.shards.items in
+    let k = c.args.shard in
+    let s = c.index_mut.result.now in
+    let within : k < length shards = search rules in
+    let at : slice_get shards k ≡ Some s = slice_get-get_or shards k s within ∙ ap Some (sym c.index_mut.ensures.value) in
+    let step = subst (λ J. AppliesAll J k s c.apply_left.result c.apply_left.new.shard) c.journal.ensures.journal c.apply_left.ensures in
+    world_settled c.self.inside.book shards k s c.apply_left.new.shard at c.apply_left.result step c.self.invariant
 
 pub returns : goal.returns
 returns c =
-    let M = c.loop-applied.self in
+    let shards = c.self.inside.shards.items in
     let k = c.args.shard in
-    let n = c.loop-applied._applied in
-    let journal : M.journal ≡ c.journal-applied-end.result.now = c.loop-applied.invariant.2.journal ∙ ap (λ (N : Machine). N.journal) (sym c.self.view_is) ∙ sym c.journal-applied-end.ensures.journal in
-    let all : length M.journal ≤ n = subst (λ J. length J ≤ n) (sym journal) c.loop-applied-test.false in
-    (n, M, c.loop-applied.invariant.0, idle_there M k (λ p e. let far = c.loop-applied.invariant.1 p e in omega arith), λ p e. cc)
+    let s = c.index_mut.result.now in
+    let within : k < length shards = search rules in
+    let at : slice_get shards k ≡ Some s = slice_get-get_or shards k s within ∙ ap Some (sym c.index_mut.ensures.value) in
+    let step = subst (λ J. AppliesAll J k s c.apply_left.result c.apply_left.new.shard) c.journal.ensures.journal c.apply_left.ensures in
+    subst (λ M. AppliesUntil M k c.apply_left.result (machine_of c.self.inside.book (slice_set shards k c.apply_left.new.shard))) c.self.view_is
+    (applies_all c.self.inside.book shards k s c.apply_left.new.shard at c.apply_left.result step)

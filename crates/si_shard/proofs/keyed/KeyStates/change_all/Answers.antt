@@ -1,19 +1,32 @@
-use Rattle.std.proofs.Common.{◌∙◌, ◌++◌, ◌∷◌, [], ap, sym}
-use Rattle.std.proofs.lemmas.List.{append_assoc}
-use Rattle.si_shard.proofs.Together.{next_can, next_changed}
+use Rattle.std.proofs.Common.{◌∙◌, ◌++◌, ◌∷◌, [], ap, sym, subst}
+use Rattle.std.proofs.lemmas.List.{append-nil, append_assoc}
+use Rattle.si_shard.proofs.Together.{AreDone, all_done, next_can, next_done, none_done}
 use Rattle.si_shard.proofs.keyed.KeyStates.change_all.Goals as goal
+
+pub loop-key-init : goal.loop-key-init
+loop-key-init c = (c.requires.states, ([], none_done c.args.self.now, sym c.into_iter-key-iterator.ensures.into_iter_gives.0))
 
 pub change-requires-clause-can : goal.change-requires-clause-can
 change-requires-clause-can c =
-    let split = c.loop-key.invariant.2 ∙ ap (λ l. c.loop-key.yielded ++ l) c.in-Some.ensures.steps.0 in
-    next_can c.args.changes.items c.loop-key.yielded c.next.new.self.rest.items c.in-Some.key c.in-Some.change split c.requires.once c.args.self.now c.loop-key.self c.requires.can
-    c.loop-key.invariant.1
+    let done = c.loop-key.invariant.1 in
+    let split = done.2 ∙ ap (λ l. done.0 ++ l) c.in-Some.ensures.steps in
+    next_can c.args.lists c.into_iter-key-iterator.ensures.into_iter_gives.4 done.0 c.next.new.self c.in-Some.key c.in-Some.list split c.args.self.now c.loop-key.self c.requires.can done.1
 
 pub loop-key-preserved : goal.loop-key-preserved
 loop-key-preserved c =
-    let split = c.loop-key.invariant.2 ∙ ap (λ l. c.loop-key.yielded ++ l) c.in-Some.ensures.steps.0 in (
+    let done = c.loop-key.invariant.1 in
+    let split = done.2 ∙ ap (λ l. done.0 ++ l) c.in-Some.ensures.steps in (
       c.in_ok-change.ensures.states,
-      next_changed c.args.changes.items c.loop-key.yielded c.next.new.self.rest.items c.in-Some.key c.in-Some.change split c.requires.once c.args.self.now c.loop-key.self c.change.new.self
-          c.loop-key.invariant.1 c.in_ok-change.ensures.changed,
-      split ∙ sym (append_assoc c.loop-key.yielded ((c.in-Some.key, c.in-Some.change) ∷ []) c.next.new.self.rest.items),
+      (
+        done.0 ++ (c.in-Some.key, c.in-Some.list) ∷ [],
+        next_done c.args.lists c.into_iter-key-iterator.ensures.into_iter_gives.4 done.0 c.next.new.self c.in-Some.key c.in-Some.list split c.args.self.now c.loop-key.self c.change.new.self done.1
+            c.in_ok-change.ensures.changed,
+        split ∙ sym (append_assoc done.0 ((c.in-Some.key, c.in-Some.list) ∷ []) c.next.new.self),
+      ),
     )
+
+pub returns-clause-changed : goal.returns-clause-changed
+returns-clause-changed c =
+    let done = c.loop-key.invariant.1 in
+    all_done c.args.lists c.into_iter-key-iterator.ensures.into_iter_gives.4 c.args.self.now c.loop-key.self
+    (subst (λ es. AreDone es c.args.self.now c.loop-key.self) (sym (done.2 ∙ ap (λ l. done.0 ++ l) c.in-None.ensures.steps.0 ∙ append-nil done.0)) done.1)

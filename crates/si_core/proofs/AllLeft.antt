@@ -1,0 +1,120 @@
+-- One shard's application of all that is left, seen as steps of the machine.
+use Rattle.std.proofs.Common.{◌≡◌, ◌∙◌, inl, inr, ℕ, zero, suc, ◌+◌, ◌-◌, ◌<◌, ◌≤◌, Bool, true, false, List, [], ◌∷◌, Some, length, slice_get, slice_set, refl, sym, ap, subst, arith}
+use Rattle.std.proofs.Math.Seq.{take-length}
+use Rattle.si_model.specs.declared.edits.Edit.{Edit}
+use Rattle.si_accept.specs.Books.{BookState}
+use Rattle.si_accept.proofs.SlotLemmas.{set_same}
+use Rattle.si_shard.specs.Shards.{ShardState}
+use Rattle.si_core.specs.declared.steps.Reply.{Reply}
+use Rattle.si_core.specs.declared.steps.Reply.TheVariants as reply
+use Rattle.si_core.specs.Machine.{AppliesUntil, AreApplied, IsApplicationOf, IsOther, Machine, Progress, with_progress}
+use Rattle.si_core.specs.Worlds.{AppliesAll, AppliesAllLeft, IsShardOf, IsWorld, machine_of, progress_of}
+use Rattle.si_core.proofs.Progressing.{at_progress, progressed, set_again, world_put}
+
+-- what stands at k is what was put there last
+set_twice : {X : Type 0} (xs : List X) (k : ℕ) (x y : X) → slice_set (slice_set xs k x) k y ≡ slice_set xs k y
+set_twice [] k x y = refl
+set_twice (z ∷ xs) zero x y = refl
+set_twice (z ∷ xs) (suc k) x y = ap (λ l. z ∷ l) (set_twice xs k x y)
+
+-- ---- so many applications
+
+abbrev at_position : ℕ → Progress
+at_position n = record { position = n; spoiled = false }
+
+many : (n : ℕ) (M : Machine) (k : ℕ) (p : Progress) → slice_get M.shards k ≡ Some p → p.spoiled ≡ false → p.position + n ≤ length M.journal
+    → AreApplied n M k (with_progress M k (at_position (p.position + n)))
+many zero M k p at whole le =
+    let none : p.position + 0 ≡ p.position = omega arith in
+    let same : at_position (p.position + 0) ≡ p = ap at_position none ∙ ap (λ b. record { position = p.position; spoiled = b }) (sym whole) in
+    ap (λ l. record M { shards = l }) (ap (slice_set M.shards k) same ∙ set_again M.shards k p at)
+many (suc n) M k p at whole le =
+    let next = at_position (p.position + 1) in
+    let Q = with_progress M k next in
+    let lt : p.position < length M.journal = omega arith in
+    let more : p.position + 1 + n ≤ length M.journal = omega arith in
+    let sum : p.position + 1 + n ≡ p.position + suc n = omega arith in
+    let rest = many n Q k next (set_same M.shards k next p at) refl more in
+    let end : with_progress Q k (at_position (p.position + 1 + n)) ≡ with_progress M k (at_position (p.position + suc n)) =
+    ap (λ l. record M { shards = l }) (set_twice M.shards k next (at_position (p.position + 1 + n)) ∙ ap (λ m. slice_set M.shards k (at_position m)) sum) in (
+      p.position + 1,
+      Q,
+      inr (p, at, lt, subst (λ b. IsApplicationOf M k p b (reply.Applied (p.position + 1)) Q) (sym whole) (inl (refl, refl))),
+      subst (AreApplied n Q k) end rest,
+    )
+
+idle_is_other : (r : Reply) → r ≡ reply.Idle → IsOther r
+idle_is_other r e p f = (let no : reply.Idle ≡ reply.Applied p = sym e ∙ f in cc)
+
+spoiled_is_other : (r : Reply) (k : ℕ) → r ≡ reply.Spoiled k → IsOther r
+spoiled_is_other r k e p f = (let no : reply.Spoiled k ≡ reply.Applied p = sym e ∙ f in cc)
+
+-- ---- one shard
+
+-- it stores a beginning of the journal still
+pub stores_all : (J : List Edit) (k : ℕ) (s t : ShardState) (n : ℕ) (r : Reply) → IsShardOf J n k s → AppliesAll J k s r t → IsShardOf J n k t
+stores_all J k s t n r is (inl idle) = subst (IsShardOf J n k) (sym idle.2) is
+stores_all J k s t n r is (inr left) = by s.spoiled left.1
+  where
+    by : (b : Bool) → AppliesAllLeft J k s b r t → IsShardOf J n k t
+    by true e = subst (IsShardOf J n k) (sym e.1) is
+    by false (inl e) =
+        let within : length J ≤ length J = omega arith in
+        subst (IsShardOf J n k) (sym e.1) (record { number = is.number; count = is.count; begins = sym (take-length J); within = within })
+    by false (inr e) = subst (IsShardOf J n k) (sym e.1) (record { number = is.number; count = is.count; begins = is.begins; within = is.within })
+
+module _ (book : BookState) (shards : List ShardState) (k : ℕ) (s t : ShardState) (at : slice_get shards k ≡ Some s) (r : Reply) (step : AppliesAll book.journal k s r t) where
+  pub world_settled : IsWorld book shards → IsWorld book (slice_set shards k t)
+  world_settled w = world_put book shards k s t at (stores_all book.journal k s t (length shards) r (w.each k s at) step) w
+
+  abbrev M : Machine
+  M = machine_of book shards
+
+  abbrev N : Machine
+  N = machine_of book (slice_set shards k t)
+
+  -- nothing changes where the shard doesn't
+  unchanged : t ≡ s → N ≡ M
+  unchanged e = ap (machine_of book) (ap (slice_set shards k) e ∙ set_again shards k s at)
+
+  pub applies_all : AppliesUntil (machine_of book shards) k r (machine_of book (slice_set shards k t))
+  applies_all = elim step [
+    | inl idle ↦ (0, M, refl, inl (inr (progress_of s, at_progress book shards k s t at, idle.0), idle.1, unchanged idle.2), idle_is_other r idle.1)
+    | inr left ↦ by s.spoiled refl left.0 left.1
+  ]
+    where
+      by : (b : Bool) → s.spoiled ≡ b → length s.stored < length book.journal → AppliesAllLeft book.journal k s b r t → AppliesUntil M k r N
+      by true is lt e = (
+        0,
+        M,
+        refl,
+        inr (progress_of s, at_progress book shards k s t at, lt, subst (λ b. IsApplicationOf M k (progress_of s) b r N) (sym is) (e.0, unchanged e.1)),
+        spoiled_is_other r k e.0,
+      )
+      by false is lt (inl e) =
+          let J = book.journal in
+          let n = length J - length s.stored in
+          let all : length s.stored + n ≡ length J = omega arith in
+          let within : length s.stored + n ≤ length J = omega arith in
+          let end : N ≡ with_progress M k (at_position (length s.stored + n)) =
+          progressed book shards k s t at (at_position (length s.stored + n)) (ap progress_of e.1 ∙ ap (λ m. record { position = m; spoiled = s.spoiled }) (sym all)
+          ∙ ap (λ b. record { position = length s.stored + n; spoiled = b }) is) in
+          let idle : length J ≤ length s.stored + n = omega arith in (
+            n,
+            N,
+            subst (AreApplied n M k) (sym end) (many n M k (progress_of s) (at_progress book shards k s t at) is within),
+            inl (inr (at_position (length s.stored + n), ap (λ P. slice_get P.shards k) end ∙ set_same M.shards k (at_position (length s.stored + n)) (progress_of s) (at_progress book shards k s t at), idle), e.0, refl),
+            idle_is_other r e.0,
+          )
+      by false is lt (inr e) = (
+        0,
+        M,
+        refl,
+        inr (
+          progress_of s,
+          at_progress book shards k s t at,
+          lt,
+          subst (λ b. IsApplicationOf M k (progress_of s) b r N) (sym is) (inr (inr (e.0, progressed book shards k s t at (record { position = length s.stored; spoiled = true }) (ap progress_of e.1)))),
+        ),
+        spoiled_is_other r k e.0,
+      )

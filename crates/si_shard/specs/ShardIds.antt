@@ -1,0 +1,8 @@
+-- The keys of one shard. All of it is this project's choice.
+use Rattle.std.specs.Prelude.{ℕ, Bool, nat_eq, List}
+use Rattle.si_model.specs.KeyTexts.{shard_number}
+use Rattle.si_shard.specs.declared.shard_ids.ShardId.{ShardId}
+
+-- whether the key is of the shard
+abbrev pub is_ours : ShardId → List ℕ → Bool
+is_ours id x = nat_eq (shard_number x id.shards) id.shard
