@@ -1,4 +1,4 @@
-ghost use Rattle.std.specs.Prelude.{◌≡◌, false, IfOk, IfErr, OnOk, OnErr};
+ghost use Rattle.std.specs.Prelude.{◌≡◌, false, take, if◌then◌else◌, IfOk, IfErr, OnOk, OnErr};
 ghost use Rattle.std.specs.Io.KnownBytes.{Appends};
 ghost use Rattle.si_cli.specs.Engines.{progress_of, terms_of};
 ghost use Rattle.si_cli.specs.Outputs.{report_at, start, status_at};
@@ -7,7 +7,7 @@ ghost use Rattle.si_cli.specs.Runs.{AppendsBeginning, IsFaultOfWriting, IsRunnab
 use crate::engines::Engine;
 use crate::writing::write_all;
 use crate::{ExitStatus, Options, RunFault};
-use si_text::{ByteSink, ByteSource, LineBuffer};
+use si_text::{ByteSink, ByteSource, KnownKeys, LineBuffer};
 use std::alloc::Global;
 use std::hash::RandomState;
 use std::mem::forget;
@@ -33,9 +33,11 @@ pub fn run<S: ByteSource, W: ByteSink>(
     ensures fault { IfErr result (IsTrueFault (S.left source.old) (S.failed source.new) (W.failed writer.new)) }
 {
     let mut engine = Engine::new(alloc, hash, options)?;
-    let ended = decide_all(alloc, &mut engine, source, writer);
+    let mut keys = KnownKeys::new(alloc, hash);
+    let ended = decide_all(alloc, &mut engine, &mut keys, source, writer);
     // The program ends after a run: to give back each piece of the machine's memory before it would take a tenth of its time.
     forget(engine);
+    forget(keys);
     ended
 }
 
@@ -44,6 +46,7 @@ pub fn run<S: ByteSource, W: ByteSink>(
 fn decide_all<S: ByteSource, W: ByteSink>(
     alloc: Global,
     engine: &mut Engine,
+    keys: &mut KnownKeys,
     source: &mut S,
     writer: &mut W,
 ) -> Result<ExitStatus, RunFault>
@@ -60,14 +63,27 @@ fn decide_all<S: ByteSource, W: ByteSink>(
     let mut text = Vec::new(alloc);
     'items: for _turn in 0..u64::MAX {
         text.clear();
-        let Some(item) = lines.next_item(source)? else {
+        let known = keys.len();
+        let Some(item) = lines.next_item(source, keys)? else {
             let status = finish(engine, &mut text, writer)?;
             return Ok(status);
         };
+        let refused = engine.refused();
         engine.decide(&mut text, 0, item)?;
+        keep_keys(keys, known, engine.refused() == refused);
         write_all(writer, &text)?;
     }
     Err(RunFault::Input(0))
+}
+
+/// Keeps the keys that an item brought where it was accepted, and else those alone that were known before it, so that the memory for
+/// keys grows with what is accepted.
+fn keep_keys(keys: &mut KnownKeys, known: usize, accepted: bool)
+    ensures { keys.new ≡ (if accepted then keys.old else take known keys.old) }
+{
+    if !accepted {
+        keys.truncate(known);
+    }
 }
 
 /// Writes the last report in the place of this text, and answers the status.

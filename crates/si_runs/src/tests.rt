@@ -6,6 +6,7 @@ mod files;
 mod helps;
 mod inputs;
 mod interruptions;
+mod known_keys;
 mod long_runs;
 mod named_files;
 mod programs;

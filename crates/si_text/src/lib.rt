@@ -1,13 +1,14 @@
 //! The texts of the checker: lines in, report lines out, and the devices that carry their bytes.
 //!
 //! It carries the promise that an edit read from a line is what the line says by its definition, and that what is
-//! printed is exactly the text of its definition. It stands on `si_model` for the types and evidence, on `serde_json` for JSON
-//! and on `itoa` for numbers.
+//! printed is exactly the text of its definition. It stands on `si_model` for the types and evidence, on `serde_json` for JSON,
+//! on `indexmap` for keys that came before and on `itoa` for numbers.
 #![tactic(auto)]
 
 pub mod devices;
 pub mod explaining;
 pub mod faults;
+pub mod known_keys;
 pub mod laws;
 pub mod line_buffers;
 pub mod line_items;
@@ -24,6 +25,7 @@ pub mod verdicts;
 pub use devices::{ByteSink, ByteSource, DeviceFailed};
 pub use explaining::print_evidence;
 pub use faults::{Field, LineFault};
+pub use known_keys::KnownKeys;
 pub use line_buffers::{InputFault, LineBuffer};
 pub use line_items::LineItem;
 pub use printing::{print_finding, print_refusal, print_report};

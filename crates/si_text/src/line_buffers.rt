@@ -4,6 +4,7 @@ ghost use Rattle.std.specs.Io.KnownBytes.{Consumes, IsAtEnd, Keeps};
 ghost use Rattle.si_text.specs.Inputs.{has_line_feed, item_of, items_after, Yields};
 ghost use Rattle.si_text.specs.declared.readings.TheConstants.{MOST_LINE_BYTES};
 
+use crate::KnownKeys;
 use crate::devices::{ByteSource, DeviceFailed};
 use crate::line_items::{LineItem, item_of, length_to_line_feed};
 use crate::pieces::Piece;
@@ -85,6 +86,7 @@ impl LineBuffer {
     pub fn next_item<S: ByteSource>(
         &mut self,
         source: &mut S,
+        keys: &mut KnownKeys,
     ) -> Result<Option<LineItem>, InputFault>
         ensures items { IfOk result (λ item.
             Yields (lines_ended self.old) (bytes_to_come self.old (S.left source.old))
@@ -110,17 +112,17 @@ impl LineBuffer {
             → S.failed source.new ≡ S.failed source.old) }
     {
         'pieces: loop {
-            if let Some(item) = self.next_in_piece()? {
+            if let Some(item) = self.next_in_piece(keys)? {
                 return Ok(Some(item));
             }
             if !self.refill(source)? {
-                return self.last_item();
+                return self.last_item(keys);
             }
         }
     }
 
     /// The next line that isn't blank and has its end in the piece; none once the piece is used up.
-    fn next_in_piece(&mut self) -> Result<Option<LineItem>, InputFault>
+    fn next_in_piece(&mut self, keys: &mut KnownKeys) -> Result<Option<LineItem>, InputFault>
         ensures items { IfOk result (λ item. Passes self.old self.new (option_to_list item)) }
         ensures end { IfOk result (λ item. IsNone item → self.new.piece ≡ []) }
         ensures err { OnErr result (Passes self.old self.new []) }
@@ -131,7 +133,7 @@ impl LineBuffer {
             ≤ self.old.lines + length (bytes_held self.old) }
     {
         'lines: while self.gather()? {
-            if let Some(item) = self.end_line()? {
+            if let Some(item) = self.end_line(keys)? {
                 return Ok(Some(item));
             }
         }
@@ -158,7 +160,7 @@ impl LineBuffer {
     }
 
     /// Ends the line, whose line feed comes next.
-    fn end_line(&mut self) -> Result<Option<LineItem>, InputFault>
+    fn end_line(&mut self, keys: &mut KnownKeys) -> Result<Option<LineItem>, InputFault>
         requires { (rest : List ℕ) × (self.old.piece ≡ 10 ∷ rest) }
         ensures items { IfOk result (λ item. Passes self.old self.new (option_to_list item)) }
         ensures shorter { OnOk result (length self.new.piece < length self.old.piece) }
@@ -169,7 +171,7 @@ impl LineBuffer {
         ensures lines { self.new.lines + length (bytes_held self.new)
             ≤ self.old.lines + length (bytes_held self.old) }
     {
-        let item = self.item()?;
+        let item = self.item(keys)?;
         self.piece.take(1);
         self.line.clear();
         self.lines += 1;
@@ -177,7 +179,7 @@ impl LineBuffer {
     }
 
     /// The line at the end of the source, which has no line feed.
-    fn last_item(&mut self) -> Result<Option<LineItem>, InputFault>
+    fn last_item(&mut self, keys: &mut KnownKeys) -> Result<Option<LineItem>, InputFault>
         requires { self.old.piece ≡ [] }
         ensures items { IfOk result (λ item. items_after self.old.lines (bytes_held self.old)
             ≡ option_to_list item) }
@@ -192,14 +194,14 @@ impl LineBuffer {
         if self.line.is_empty() {
             return Ok(None);
         }
-        let item = self.item()?;
+        let item = self.item(keys)?;
         self.line.clear();
         self.lines += 1;
         Ok(item)
     }
 
     /// The item that the line is.
-    fn item(&self) -> Result<Option<LineItem>, InputFault>
+    fn item(&self, keys: &mut KnownKeys) -> Result<Option<LineItem>, InputFault>
         ensures item { IfOk result
             (λ item. option_to_list item ≡ item_of (self.now.lines + 1) self.now.line.items) }
         ensures numbered { OnOk result (self.now.lines < 2 ^ 64 - 1) }
@@ -209,7 +211,7 @@ impl LineBuffer {
         if self.lines == u64::MAX {
             return Err(InputFault::DeviceFailed);
         }
-        Ok(item_of(self.alloc, self.lines + 1, &self.line)?)
+        Ok(item_of(self.alloc, keys, self.lines + 1, &self.line)?)
     }
 
     /// Reads the next piece, and says whether there was one.

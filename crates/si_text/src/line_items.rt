@@ -3,8 +3,8 @@ ghost use Rattle.std.specs.List.{list_all, position, prefix_len};
 ghost use Rattle.std.specs.Option.{option_to_list};
 ghost use Rattle.si_text.specs.Inputs.{is_blank, is_line_feed, is_space, item_of};
 
-use crate::readings::MOST_LINE_BYTES;
-use crate::{LineFault, read_edit};
+use crate::readings::{MOST_LINE_BYTES, read_edit_with};
+use crate::{KnownKeys, LineFault};
 use si_model::{Edit, OutOfMemory};
 use std::alloc::{AllocError, Global};
 
@@ -14,6 +14,7 @@ pub type LineItem = (u64, Result<Edit, LineFault>);
 /// The item that a line is, without its line feed; a blank one is none.
 pub(crate) fn item_of(
     alloc: Global,
+    keys: &mut KnownKeys,
     number: u64,
     line: &[u8],
 ) -> Result<Option<LineItem>, OutOfMemory>
@@ -22,7 +23,7 @@ pub(crate) fn item_of(
     if is_blank(line) {
         return Ok(None);
     }
-    match read_edit(alloc, line) {
+    match read_edit_with(alloc, keys, line) {
         Err(LineFault::OutOfMemory) => Err(AllocError),
         answer => Ok(Some((number, answer))),
     }

@@ -3,7 +3,7 @@ ghost use Rattle.si_model.specs.KeyTexts.{IsKeyText};
 ghost use Rattle.serde_json.specs.View.{view};
 ghost use Rattle.si_text.specs.Lines.{Gives, or_fault, triple_in, read_in, op_at, op_named, ops_from, ops_in};
 
-use crate::LineFault;
+use crate::{KnownKeys, LineFault};
 use serde_json::Value;
 use si_model::operations::MOST_OPS;
 use si_model::{Key, Op, Ops};
@@ -11,29 +11,29 @@ use std::alloc::Global;
 
 /// The operations that the items of an array are, which are too many or else each one in its turn.
 #[tactic(auto, unfolding(crate::specs::Lines::ops_in), using(crate::proofs::OpLemmas::length_map_view))]
-pub(crate) fn ops_of(alloc: Global, items: &[Value]) -> Result<Ops, LineFault>
+pub(crate) fn ops_of(alloc: Global, keys: &mut KnownKeys, items: &[Value]) -> Result<Ops, LineFault>
     ensures { Gives result (ops_in (map view items.now)) }
 {
     if items.len() > MOST_OPS {
         return Err(LineFault::TooManyOps);
     }
-    all_ops(alloc, items)
+    all_ops(alloc, keys, items)
 }
 
-fn all_ops(alloc: Global, items: &[Value]) -> Result<Ops, LineFault>
+fn all_ops(alloc: Global, keys: &mut KnownKeys, items: &[Value]) -> Result<Ops, LineFault>
     requires { length items.now ≤ MOST_OPS }
     ensures { Gives result (ops_from 0 (map view items.now)) }
 {
     let mut ops = Vec::new(alloc);
     for (index, item) in items.iter().enumerate() {
-        ops.push(op_of(alloc, index, item)?)?;
+        ops.push(op_of(keys, index, item)?)?;
     }
     Ok(Ops::from_vec(ops)?)
 }
 
 /// The operation that the item at index is.
 #[tactic(auto, unfolding(crate::specs::Lines::op_at))]
-fn op_of(alloc: Global, index: usize, item: &Value) -> Result<Op, LineFault>
+fn op_of(keys: &mut KnownKeys, index: usize, item: &Value) -> Result<Op, LineFault>
     ensures { Gives result (op_at index (view item.now)) }
 {
     if !is_triple(item) {
@@ -49,7 +49,7 @@ fn op_of(alloc: Global, index: usize, item: &Value) -> Result<Op, LineFault>
         return Err(LineFault::BadOp(index));
     }
     match item.get(2usize) {
-        Some(value) => named_op(alloc, index, word, text, value),
+        Some(value) => named_op(keys, index, word, text, value),
         None => Err(LineFault::BadOp(index)),
     }
 }
@@ -57,7 +57,7 @@ fn op_of(alloc: Global, index: usize, item: &Value) -> Result<Op, LineFault>
 /// The operation of that name on a key.
 #[tactic(auto, unfolding(crate::specs::Lines::op_named))]
 fn named_op(
-    alloc: Global,
+    keys: &mut KnownKeys,
     index: usize,
     word: &str,
     key: &str,
@@ -71,13 +71,13 @@ fn named_op(
         let Some(read) = returned(value) else {
             return Err(LineFault::BadOp(index));
         };
-        return Ok(Op::Read(Key::new(alloc, key)?, read));
+        return Ok(Op::Read(keys.key(key)?, read));
     }
     if word == "w" {
         let Some(number) = value.as_u64() else {
             return Err(LineFault::BadOp(index));
         };
-        return Ok(Op::Write(Key::new(alloc, key)?, si_model::Value(number)));
+        return Ok(Op::Write(keys.key(key)?, si_model::Value(number)));
     }
     Err(LineFault::BadOp(index))
 }

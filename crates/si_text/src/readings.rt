@@ -4,7 +4,7 @@ ghost use Rattle.si_text.specs.Lines.{Gives, value_of, object_edit, arrival_of, 
 
 use crate::members::{number_at, outcome_of, status_at};
 use crate::operations::ops_of;
-use crate::{Field, LineFault};
+use crate::{Field, KnownKeys, LineFault};
 use serde_json::Value;
 use si_model::{Edit, Key, Stamp, Txn, TxnId};
 use std::alloc::Global;
@@ -14,8 +14,20 @@ pub const MOST_LINE_BYTES: usize = 1_048_576;
 
 /// The edit that a line is, without its line feed, or the first fault that applies. Members that the line's kind
 /// doesn't name are ignored.
-#[tactic(auto, unfolding(crate::specs::Lines::edit_of))]
 pub fn read_edit(alloc: Global, line: &[u8]) -> Result<Edit, LineFault>
+    ensures { Gives result (edit_of line.now) }
+{
+    let mut keys = KnownKeys::none(alloc);
+    read_edit_with(alloc, &mut keys, line)
+}
+
+/// The same, where the keys are taken from those that are known.
+#[tactic(auto, unfolding(crate::specs::Lines::edit_of))]
+pub(crate) fn read_edit_with(
+    alloc: Global,
+    keys: &mut KnownKeys,
+    line: &[u8],
+) -> Result<Edit, LineFault>
     ensures { Gives result (edit_of line.now) }
 {
     if line.len() > MOST_LINE_BYTES {
@@ -25,7 +37,7 @@ pub fn read_edit(alloc: Global, line: &[u8]) -> Result<Edit, LineFault>
     if !value.is_object() {
         return Err(LineFault::NotObject);
     }
-    object_edit(alloc, &value)
+    object_edit(alloc, keys, &value)
 }
 
 /// The JSON value that a line is.
@@ -43,14 +55,14 @@ fn value_of(alloc: Global, line: &[u8]) -> Result<Value, LineFault>
 
 /// The edit that an object is.
 #[tactic(auto, unfolding(crate::specs::Lines::object_edit, crate::specs::Lines::edit_named))]
-fn object_edit(alloc: Global, value: &Value) -> Result<Edit, LineFault>
+fn object_edit(alloc: Global, keys: &mut KnownKeys, value: &Value) -> Result<Edit, LineFault>
     ensures { Gives result (object_edit (view value.now)) }
 {
     let Some(word) = value.get("do").and_then(Value::as_str) else {
         return Err(LineFault::BadKind);
     };
     if word == "txn" {
-        return arrival_of(alloc, value);
+        return arrival_of(alloc, keys, value);
     }
     if word == "resolve" {
         return resolution_of(value);
@@ -59,14 +71,14 @@ fn object_edit(alloc: Global, value: &Value) -> Result<Edit, LineFault>
         return withdrawal_of(value);
     }
     if word == "setup" {
-        return set_up_of(alloc, value);
+        return set_up_of(keys, value);
     }
     Err(LineFault::BadKind)
 }
 
 /// A transaction that arrives. All its members are looked at before its status word.
 #[tactic(auto, unfolding(crate::specs::Lines::arrival_of), using(crate::proofs::OpLemmas::list_of_items_view))]
-fn arrival_of(alloc: Global, value: &Value) -> Result<Edit, LineFault>
+fn arrival_of(alloc: Global, keys: &mut KnownKeys, value: &Value) -> Result<Edit, LineFault>
     ensures { Gives result (arrival_of (view value.now)) }
 {
     let id = number_at(value, Field::Id)?;
@@ -78,7 +90,7 @@ fn arrival_of(alloc: Global, value: &Value) -> Result<Edit, LineFault>
     let Some(status) = named else {
         return Err(LineFault::BadStatus);
     };
-    let ops = ops_of(alloc, items)?;
+    let ops = ops_of(alloc, keys, items)?;
     Ok(Edit::Arrive(Txn {
         id: TxnId(id),
         start: Stamp(start),
@@ -111,7 +123,7 @@ fn withdrawal_of(value: &Value) -> Result<Edit, LineFault>
 
 /// A value that a key had before the run.
 #[tactic(auto, unfolding(crate::specs::Lines::set_up_of))]
-fn set_up_of(alloc: Global, value: &Value) -> Result<Edit, LineFault>
+fn set_up_of(keys: &mut KnownKeys, value: &Value) -> Result<Edit, LineFault>
     ensures { Gives result (set_up_of (view value.now)) }
 {
     let Some(text) = value.get(Field::Key.name()).and_then(Value::as_str) else {
@@ -121,6 +133,6 @@ fn set_up_of(alloc: Global, value: &Value) -> Result<Edit, LineFault>
         return Err(LineFault::BadField(Field::Key));
     }
     let number = number_at(value, Field::Value)?;
-    let key = Key::new(alloc, text)?;
+    let key = keys.key(text)?;
     Ok(Edit::SetUp(key, si_model::Value(number)))
 }

@@ -1,9 +1,12 @@
 use si_model::{Edit, TxnId};
 use si_text::memory::{FailingSink, FailingSource, MemorySink, MemorySource};
 use si_text::{
-    ByteSink, ByteSource, InputFault, LineBuffer, LineFault, LineItem, StdSink, StdSource,
+    ByteSink, ByteSource, InputFault, KnownKeys, LineBuffer, LineFault, LineItem, StdSink,
+    StdSource,
 };
 use std::alloc::Global;
+use std::hash::RandomState;
+use std::random::RandomSource;
 use std::test::Fail;
 
 /// Two edits, a faulty line and blank lines, of which the last line lacks its line feed.
@@ -12,13 +15,15 @@ const INPUT: &[u8] =
 
 /// The items of a source up to its end, or up to a fault.
 fn items_of<S: ByteSource + Drop>(
+    rt: &impl RandomSource,
     alloc: Global,
     mut source: S,
 ) -> Result<(Vec<LineItem>, Option<InputFault>), Fail> {
+    let mut keys = KnownKeys::new(alloc, RandomState::new(rt)?);
     let mut lines = LineBuffer::new(alloc)?;
     let mut items = Vec::new(alloc);
     for _ in 0..1000 {
-        match lines.next_item(&mut source) {
+        match lines.next_item(&mut source, &mut keys) {
             Ok(Some(item)) => items.push(item)?,
             Ok(None) => return Ok((items, None)),
             Err(fault) => return Ok((items, Some(fault))),
@@ -37,11 +42,11 @@ fn lines_in_pieces_of_any_size(rt: HostRuntime) -> Result<(), Fail> {
     ];
     for piece in [1, 2, 7, 1000] {
         let source = MemorySource::new(Vec::from_slice(alloc, INPUT)?, piece);
-        let (items, fault) = items_of(alloc, source)?;
+        let (items, fault) = items_of(&rt, alloc, source)?;
         assert_eq!(rt; fault, None);
         assert_eq!(rt; items.as_slice(), expected.as_slice(), "by {piece}");
     }
-    let (items, _) = items_of(alloc, StdSource::new(INPUT))?;
+    let (items, _) = items_of(&rt, alloc, StdSource::new(INPUT))?;
     assert_eq!(rt; items.as_slice(), expected.as_slice());
     Ok(())
 }
@@ -61,7 +66,7 @@ fn lines_that_are_too_long(rt: HostRuntime) -> Result<(), Fail> {
         (3, Err(LineFault::TooLong)),
         (4, Err(LineFault::NotObject)),
     ];
-    let (items, fault) = items_of(alloc, MemorySource::new(input, 5000))?;
+    let (items, fault) = items_of(&rt, alloc, MemorySource::new(input, 5000))?;
     assert_eq!(rt; fault, None);
     assert_eq!(rt; items.as_slice(), expected.as_slice());
     Ok(())
@@ -81,7 +86,7 @@ fn reads_that_fail(rt: HostRuntime) -> Result<(), Fail> {
             _ => 4,
         };
         let bytes = MemorySource::new(Vec::from_slice(alloc, b"1\n[]\n \n{}\n[1]")?, 1);
-        let (items, fault) = items_of(alloc, FailingSource::new(bytes, reads))?;
+        let (items, fault) = items_of(&rt, alloc, FailingSource::new(bytes, reads))?;
         assert_eq!(rt; items.len(), lines, "{reads}");
         let told = if reads < 15 {
             Some(InputFault::DeviceFailed)

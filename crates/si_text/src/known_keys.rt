@@ -1,0 +1,93 @@
+//! The keys that were read, so that a key that comes again shares the text of the first.
+//!
+//! A history names the same keys again and again. Copies that share one text take less memory, and where two of them are compared
+//! later, less of it is looked at.
+
+ghost use Rattle.std.specs.Prelude.{◌≡◌, ◌⊎◌, ◌∷◌, ◌++◌, [], IfOk, length, take};
+ghost use Rattle.si_model.specs.KeyTexts.{IsKeyText};
+
+use indexmap::IndexMap;
+use si_model::{Key, OutOfMemory};
+use std::alloc::Global;
+use std::hash::{BuildHasher, RandomState};
+use std::marker::Model;
+
+/// Keys that were read, in the order in which each came first. Contracts see the list of their texts.
+#[derive(Drop)]
+pub struct KnownKeys {
+    alloc: Global,
+    /// What a text's hash is computed by; none where no key is to be known.
+    hash: Option<RandomState>,
+    /// The keys by the hashes of their texts, so that a look-up makes no key of its own.
+    known: IndexMap<u64, Key>,
+}
+
+impl Model for KnownKeys {
+    ghost use Rattle.std.specs.Prelude.{List, ℕ};
+    ghost use Rattle.indexmap.specs.IndexMap.{values};
+
+    ghost Value = { List (List ℕ) };
+
+    ghost view = { λ k. values k.known };
+}
+
+impl KnownKeys {
+    /// No key is known yet. The secret key of the hash is what keeps a text from being chosen for the hash of another.
+    pub fn new(alloc: Global, hash: RandomState) -> Self
+        ensures { result ≡ [] }
+    {
+        KnownKeys {
+            alloc,
+            hash: Some(hash),
+            known: IndexMap::new(alloc),
+        }
+    }
+
+    /// No key is ever known: each one gets a text of its own.
+    pub(crate) fn none(alloc: Global) -> Self
+        ensures { result ≡ [] }
+    {
+        KnownKeys {
+            alloc,
+            hash: None,
+            known: IndexMap::new(alloc),
+        }
+    }
+
+    /// The key with this text: a copy of the known one, which shares its text, or else a new one, which is known from then on unless
+    /// another known text has its hash.
+    pub fn key(&mut self, text: &str) -> Result<Key, OutOfMemory>
+        requires { IsKeyText text.now }
+        ensures key { IfOk result (λ key. key ≡ text.now) }
+
+        // What is known stays so in its place.
+        ensures known { (self.new ≡ self.old) ⊎ (self.new ≡ self.old ++ text.now ∷ []) }
+    {
+        let Some(builder) = self.hash else {
+            return Key::new(self.alloc, text);
+        };
+        let hash = builder.hash_one(text);
+        match self.known.get(&hash) {
+            Some(known) if known.as_str() == text => return known.try_clone(),
+            Some(_) => return Key::new(self.alloc, text),
+            None => {}
+        }
+        let key = Key::new(self.alloc, text)?;
+        self.known.insert(hash, key.try_clone()?)?;
+        Ok(key)
+    }
+
+    /// How many keys are known.
+    pub fn len(&self) -> usize
+        ensures { result ≡ length self.now }
+    {
+        self.known.len()
+    }
+
+    /// Forgets the keys that came after the first so many.
+    pub fn truncate(&mut self, len: usize)
+        ensures { self.new ≡ take len self.old }
+    {
+        self.known.truncate(len);
+    }
+}
