@@ -17,7 +17,7 @@ use std::collections::HashMap;
 use std::hash::RandomState;
 use std::mem;
 
-/// How many changes may wait beside one for each stored edit.
+/// How many accesses may be walked for changes that wait, beside one for each stored edit.
 const MOST_WAITING: usize = 65_536;
 
 /// The states of a shard's keys after some edits, and where the transactions arrived that are on them.
@@ -76,7 +76,7 @@ impl Applied {
         let mut waiting = Waiting::new(self.alloc, self.hash);
         for place in from..edits.len() {
             self.gather(&mut waiting, &edits[..place], &edits[place], id)?;
-            if waiting.count() / MOST_WAITING > place / MOST_WAITING {
+            if waiting.count / MOST_WAITING > place / MOST_WAITING {
                 let gathered = mem::replace(&mut waiting, Waiting::new(self.alloc, self.hash));
                 self.make(gathered)?;
             }
@@ -116,7 +116,8 @@ impl Applied {
     /// The findings on the shard's keys, in order.
     pub fn findings(&self) -> Result<Vec<Finding>, OutOfMemory>
         requires { (id : ShardId) × (edits : List Edit) × IsAccepted edits × AreApplied id edits self.now }
-        ensures { IfOk result (λ found. (id : ShardId) (edits : List Edit) → IsAccepted edits → AreApplied id edits self.now → found.items ≡ findings_in id (present edits)) }
+        ensures { IfOk result (λ found. (id : ShardId) (edits : List Edit) → IsAccepted edits → AreApplied id edits self.now
+            → found.items ≡ findings_in id (present edits)) }
     {
         let found = self.keys.findings()?;
         Ok(found)

@@ -36,8 +36,8 @@ pub type Lists = IndexMap<Key, Waits, RandomState>;
 pub struct Waiting {
     alloc: Global,
     pub lists: Lists,
-    // How many changes wait, as far as it is counted.
-    count: usize,
+    /// How many accesses were walked for them.
+    pub count: usize,
 }
 
 impl Waiting {
@@ -49,11 +49,6 @@ impl Waiting {
             lists: IndexMap::with_hasher(alloc, hash),
             count: 0,
         }
-    }
-
-    /// How many changes wait, about.
-    pub fn count(&self) -> usize {
-        self.count
     }
 
     /// Gathers what the edit, before which so many are, is on the keys of the shard, where its transaction has these

@@ -3,7 +3,7 @@ use Rattle.si_shard.proofs.Beginnings.{all_taken, begins_accepted, one_more_take
 use Rattle.si_shard.specs.Waiting.{AreGatheredTo}
 use Rattle.si_shard.proofs.Leading.{nothing_waits}
 use Rattle.si_shard.proofs.applied.Applied.apply_from.Goals as goal
-use Rattle.si_shard.proofs.applied.Applied.apply_from.Goals.{then-count-place+in_ok-make, else-count-place}
+use Rattle.si_shard.proofs.applied.Applied.apply_from.Goals.{then-waiting-place+in_ok-make, else-waiting-place}
 
 pub loop-place-init : goal.loop-place-init
 loop-place-init c = nothing_waits c.args.id (take c.args.from c.args.edits.now) c.args.self.now c.new-waiting.result.lists c.new-waiting.ensures c.requires.applied
@@ -17,11 +17,11 @@ loop-place-preserved c =
     let gathered : AreGatheredTo c.args.id next c.gather.new.self c.gather.new.waiting.lists =
     subst (λ l. AreGatheredTo c.args.id l c.gather.new.self c.gather.new.waiting.lists)
     (one_more_taken c.args.edits.now c.loop-place.place c.index-edits-place.result c.loop-place-test.true c.index-edits-place.is) c.in_ok-gather.ensures in
-    elim c.if-count-place.branch [
-      | then-count-place+in_ok-make w ↦ (let made = w.in_ok-make.ensures c.args.id next (subst (λ v. AreGatheredTo c.args.id next c.gather.new.self v.lists) (sym w.replace-gathered.ensures.value) gathered) in
-          subst (λ v. AreGatheredTo c.args.id next c.if-count-place.self v.lists) (sym (w.waiting-is ∙ w.replace-gathered.ensures.after))
+    elim c.if-waiting-place.branch [
+      | then-waiting-place+in_ok-make w ↦ (let made = w.in_ok-make.ensures c.args.id next (subst (λ v. AreGatheredTo c.args.id next c.gather.new.self v.lists) (sym w.replace-gathered.ensures.value) gathered) in
+          subst (λ v. AreGatheredTo c.args.id next c.if-waiting-place.self v.lists) (sym (w.waiting-is ∙ w.replace-gathered.ensures.after))
           (subst (λ a. AreGatheredTo c.args.id next a w.new.result.lists) (sym w.self-is) (nothing_waits c.args.id next w.make.new.self w.new.result.lists w.new.ensures made)))
-      | else-count-place w ↦ subst (λ v. AreGatheredTo c.args.id next c.if-count-place.self v.lists) (sym w.waiting-is)
+      | else-waiting-place w ↦ subst (λ v. AreGatheredTo c.args.id next c.if-waiting-place.self v.lists) (sym w.waiting-is)
           (subst (λ a. AreGatheredTo c.args.id next a c.gather.new.waiting.lists) (sym w.self-is) gathered)
     ]
 
