@@ -38,12 +38,6 @@ all_taken [] (suc n) le = refl
 all_taken (x ∷ xs) zero le = absurd (omega arith)
 all_taken (x ∷ xs) (suc n) le = ap (λ l. x ∷ l) (all_taken xs n (omega arith))
 
-pub all_dropped : {X : Type 0} (xs : List X) (n : ℕ) → length xs ≤ n → drop n xs ≡ []
-all_dropped [] zero le = refl
-all_dropped [] (suc n) le = refl
-all_dropped (x ∷ xs) zero le = absurd (omega arith)
-all_dropped (x ∷ xs) (suc n) le = all_dropped xs n (omega arith)
-
 -- a shard that has stored no edit
 pub new_shard : (id : ShardId) (stored : List Edit) (a : Applied) → id.shard < id.shards → stored ≡ [] → ((s : ShardId) → AreApplied s [] a) → IsShard id stored a false
 new_shard id stored a within is applied =
