@@ -1,5 +1,5 @@
 -- The indexes of what is on a key stay so when a transaction comes or goes.
-use Rattle.std.proofs.Common.{◌≡◌, ◌≢◌, ◌∙◌, ◌⊎◌, inl, inr, ◌↔◌, Bool, true, false, [], Option, Some, None, refl, sym, ap, subst, true≢false}
+use Rattle.std.proofs.Common.{◌≡◌, ◌≢◌, ◌∙◌, ◌⊎◌, inl, inr, ◌↔◌, Bool, true, false, [], Option, Some, None, refl, sym, ap, subst, true≢false, IfSome}
 use Rattle.std.specs.BTreeMap.{BTreeMap, get, IsOrdered}
 use Rattle.std.specs.List.{AllPairs, Contains}
 use Rattle.std.specs.Map.{values_of}
@@ -165,6 +165,14 @@ has_version ix T is c = by (version_of T) refl
     by : (o : Option Dated) → version_of T ≡ o → HasVersion o ix.timeline
     by None e = tt
     by (Some d) e = (d.1, (is.timeline d).1 (T, c, e))
+
+-- it itself does
+pub version_stands : (ix : Indexes) (T : Part) → AreIndexes ix → Contains (present_in ix).parts T → IfSome (version_of T) (Contains ix.timeline)
+version_stands ix T is c = by (version_of T) refl
+  where
+    by : (o : Option Dated) → version_of T ≡ o → IfSome o (Contains ix.timeline)
+    by None e = tt
+    by (Some d) e = (is.timeline d).1 (T, c, e)
 
 -- ---- one goes
 

@@ -1,6 +1,7 @@
 -- The neighbours in the timeline are the next version and the one before.
-use Rattle.std.proofs.Common.{◌≡◌, ◌<◌, Option, Some, None, ap, arith}
+use Rattle.std.proofs.Common.{◌≡◌, ◌<◌, inl, inr, Option, Some, None, ap, arith}
 use Rattle.std.specs.List.{Contains}
+use Rattle.std.proofs.lemmas.Bool.{cases_lt}
 use Rattle.std.specs.Option.{option_map}
 use Rattle.si_model.specs.declared.numbers.Stamp.{Stamp}
 use Rattle.si_model.specs.declared.sights.Installer.{Installer}
@@ -8,7 +9,7 @@ use Rattle.si_model.specs.declared.sights.VersionId.{VersionId}
 use Rattle.si_model.specs.declared.sights.VersionId.TheVariants as version
 use Rattle.si_model.specs.Versions.{IsAfter, IsInstaller, IsNextIfAny, commit_of, next_after}
 use Rattle.si_model.proofs.NextVersions.{next_exact}
-use Rattle.si_timeline.specs.Timelines.{Dated, IsNearestAfter}
+use Rattle.si_timeline.specs.Timelines.{Dated, IsNearestAfter, IsNearestBefore}
 use Rattle.si_judge.specs.declared.indexes.Indexes.{Indexes}
 use Rattle.si_judge.specs.Indexes.{AreIndexes, present_in}
 use Rattle.si_judge.specs.Mending.{installer}
@@ -55,3 +56,14 @@ module _ (ix : Indexes) (is : AreIndexes ix) where
             let least = near.2 s.0 s.1 (omega (arith, lt, same)) in
             omega (arith, least, same);
       }
+
+  -- what was installed next after the version that was installed last before one is that one
+  pub former_then : (b d : Dated) → IsNearestBefore ix.timeline d.0 (Some b) → Contains ix.timeline d → Some (installer d) ≡ next_after (present_in ix).parts (version.Installed b.0)
+  former_then b d near stands = next_version (version.Installed b.0) (Some d) (
+    stands,
+    near.1,
+    (λ e c more. elim (cases_lt e.0.0 d.0.0) [
+      | inl less ↦ (let most = near.2 e c less in absurd (omega (arith, most, more)))
+      | inr least ↦ least
+    ]),
+  )

@@ -1,6 +1,7 @@
 //! What a judge found on a key, kept under what was judged.
 
-ghost use Rattle.std.specs.Prelude.{◌≡◌, ◌+◌, ◌≤◌, None, Option, OnOk, length};
+ghost use Rattle.std.specs.Prelude.{◌≡◌, ◌+◌, ◌≤◌, None, Option, IfSome, OnOk, length};
+ghost use Rattle.std.specs.List.{Contains};
 ghost use Rattle.std.specs.BTreeMap.{get};
 ghost use Rattle.si_model.specs.Findings.{overlap_with};
 ghost use Rattle.si_judge.specs.Indexes.{AreIndexes, present_in};
@@ -78,10 +79,23 @@ impl<J: Judge + Drop> Judgements<J> {
         ensures reads { OnOk result (self.new.reads ≡ self.old.reads) }
         ensures counted { OnOk result (RisesBy 1 (J.answers self.old.judge) (J.answers self.new.judge)) }
     {
-        let kind = self.overlap_with(
-            first,
-            indexes.next_after(VersionId::Installed(first.commit)),
-        );
+        let next = indexes.next_after(VersionId::Installed(first.commit));
+        self.judge_neighbours(first, next)?;
+        Ok(())
+    }
+
+    /// Judges a version with that one, which is next after it, if there is one.
+    fn judge_neighbours(
+        &mut self,
+        first: Installer,
+        next: Option<Installer>,
+    ) -> Result<(), OutOfMemory>
+        ensures overlaps { OnOk result ((c : Stamp) → get stamp_cmp self.new.overlaps c
+            ≡ with_kind (get stamp_cmp self.old.overlaps) first.commit (overlap_with J.rules first next) c) }
+        ensures reads { OnOk result (self.new.reads ≡ self.old.reads) }
+        ensures counted { OnOk result (RisesBy 1 (J.answers self.old.judge) (J.answers self.new.judge)) }
+    {
+        let kind = self.overlap_with(first, next);
         put(&mut self.overlaps, first.commit, kind)?;
         Ok(())
     }
@@ -114,14 +128,35 @@ impl<J: Judge + Drop> Judgements<J> {
         indexes: &Indexes,
         version: Option<(Stamp, Version)>,
     ) -> Result<(), OutOfMemory>
-        requires { AreIndexes indexes.now }
+        requires indexes { AreIndexes indexes.now }
+        requires stands { IfSome version (Contains indexes.now.timeline) }
         ensures overlaps { OnOk result (IsVersionJudged J.rules indexes.now version (get stamp_cmp self.old.overlaps) (get stamp_cmp self.new.overlaps)) }
         ensures reads { OnOk result (self.new.reads ≡ self.old.reads) }
         ensures counted { OnOk result (RisesBy 2 (J.answers self.old.judge) (J.answers self.new.judge)) }
     {
         if let Some((commit, version)) = version {
-            self.judge_pair_before(indexes, commit)?;
+            self.judge_former(indexes, commit, version)?;
             self.judge_pair(indexes, installer(commit, version))?;
+        }
+        Ok(())
+    }
+
+    /// Judges the version that was installed last before that one with that one, which is next after it.
+    fn judge_former(
+        &mut self,
+        indexes: &Indexes,
+        commit: Stamp,
+        version: Version,
+    ) -> Result<(), OutOfMemory>
+        requires indexes { AreIndexes indexes.now }
+        requires stands { Contains indexes.now.timeline (commit, version) }
+        ensures overlaps { OnOk result (IsPairJudgedBefore J.rules indexes.now commit (get stamp_cmp self.old.overlaps) (get stamp_cmp self.new.overlaps)) }
+        ensures reads { OnOk result (self.new.reads ≡ self.old.reads) }
+        ensures counted { OnOk result (RisesBy 1 (J.answers self.old.judge) (J.answers self.new.judge)) }
+    {
+        if let Some((former, first)) = indexes.timeline.before(commit) {
+            let next = Some(installer(commit, version));
+            self.judge_neighbours(installer(former, first), next)?;
         }
         Ok(())
     }

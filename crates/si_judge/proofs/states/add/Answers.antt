@@ -1,12 +1,20 @@
-use Rattle.std.proofs.Common.{◌∙◌, ◌+◌, inr, length, refl, subst, sym}
+use Rattle.std.proofs.Common.{◌∙◌, ◌+◌, IfSome, inr, length, refl, subst, sym}
+use Rattle.std.specs.List.{Contains}
 use Rattle.std.specs.BTreeMap.{get}
 use Rattle.si_judge.specs.Indexes.{AreTouchedReads, reads_in, version_of}
 use Rattle.si_judge.specs.Mending.{AreReadsJudged, IsVersionJudged, RisesBy, read_cmp, stamp_cmp}
+use Rattle.si_judge.proofs.Coming.{version_stands}
 use Rattle.si_judge.proofs.Counts.{rises, rises_on}
 use Rattle.si_judge.proofs.states.add.Goals as goal
 
 pub reads_in-requires : goal.reads_in-requires
 reads_in-requires g c = let fits = c.requires.fits in fits.2.places c.args.part ((fits.1.parts c.args.part).1 (inr refl))
+
+pub judge_version-requires-clause-stands : goal.judge_version-requires-clause-stands
+judge_version-requires-clause-stands g c =
+    let ix = c.put_in.new.self in
+    let there = (c.in_ok-put_in.ensures.joined.parts c.args.part).1 (inr refl) in
+    subst (λ o. IfSome o (Contains ix.timeline)) (sym c.version_of-version.ensures) (version_stands ix c.args.part c.in_ok-put_in.ensures.indexes there)
 
 pub returns-clause-judged : goal.returns-clause-judged
 returns-clause-judged g c =

@@ -1,11 +1,9 @@
-use Rattle.std.proofs.Common.{◌∙◌, ap, ap₂, cond}
+use Rattle.std.proofs.Common.{◌∙◌, ap}
 use Rattle.std.specs.BTreeMap.{get}
-use Rattle.std.specs.Ordering.{eq_by_cmp}
 use Rattle.si_model.specs.Findings.{overlap_with}
-use Rattle.si_judge.specs.Mending.{stamp_cmp}
+use Rattle.si_judge.specs.Mending.{stamp_cmp, with_kind}
 use Rattle.si_judge.proofs.judgements.Judgements.judge_pair.Goals as goal
 
 pub returns-clause-overlaps : goal.returns-clause-overlaps
-returns-clause-overlaps g c = λ d. c.in_ok-put.ensures.0 d
-    ∙ ap₂ (λ k m. cond (eq_by_cmp stamp_cmp c.args.first.commit d) k (get stamp_cmp m d))
-    (c.overlap_with-kind.ensures.overlap ∙ ap (overlap_with g.J.Judge.rules c.args.first) c.next_after.ensures) c.overlap_with-kind.ensures.overlaps
+returns-clause-overlaps g c = λ d. c.in_ok-judge_neighbours.ensures.overlaps d
+    ∙ ap (λ n. with_kind (get stamp_cmp c.args.self.now.overlaps) c.args.first.commit (overlap_with g.J.Judge.rules c.args.first n) d) c.next_after-next.ensures
