@@ -1,8 +1,10 @@
 ghost use Rattle.std.specs.Prelude.{◌≡◌, ℕ, ◌<◌, ◌↔◌, ◌%◌, IsTrue, IfOk, fold};
 ghost use Rattle.std.specs.String.{string_bytes};
 ghost use Rattle.si_model.specs.KeyTexts.{IsKeyText, shard_hash, shard_hash_with, shard_number};
+ghost use Rattle.si_model.specs.Keys.{text_bytes};
 
 use crate::OutOfMemory;
+use arrayvec::ArrayString;
 use std::alloc::Global;
 use std::cmp::Ordering;
 use std::fmt;
@@ -13,25 +15,74 @@ use std::sync::ArcStr;
 /// The most bytes that a key may have.
 pub const MOST_KEY_BYTES: usize = 128;
 
+/// The most bytes of a text that stands in the key itself and takes no memory of its own. Most keys of a test are as short.
+pub const MOST_INLINE_BYTES: usize = 16;
+
+/// The text of a key.
+#[derive(Drop)]
+enum Text {
+    Short(ArrayString<MOST_INLINE_BYTES>),
+    Long(ArcStr),
+}
+
+impl Text {
+    /// A copy of this text.
+    fn new(alloc: Global, text: &str) -> Result<Self, OutOfMemory>
+        ensures { IfOk result (λ made. text_bytes made ≡ text.now) }
+    {
+        match ArrayString::from(text) {
+            Ok(short) => Ok(Text::Short(short)),
+            Err(_) => Text::from_string(String::from_str(alloc, text)?),
+        }
+    }
+
+    fn from_string(text: String) -> Result<Self, OutOfMemory>
+        ensures { IfOk result (λ made. text_bytes made ≡ string_bytes text) }
+    {
+        if let Ok(short) = ArrayString::from(text.as_str()) {
+            return Ok(Text::Short(short));
+        }
+        Ok(Text::Long(ArcStr::from_string(text)?))
+    }
+
+    fn try_clone(&self) -> Result<Self, OutOfMemory>
+        ensures { IfOk result (λ copy. text_bytes copy ≡ text_bytes self.now) }
+    {
+        match self {
+            Text::Short(short) => Ok(Text::Short(*short)),
+            Text::Long(long) => Ok(Text::Long(long.clone()?)),
+        }
+    }
+
+    fn as_str(&self) -> &str
+        ensures { result.now ≡ text_bytes self.now }
+    {
+        match self {
+            Text::Short(short) => short.as_str(),
+            Text::Long(long) => long.as_str(),
+        }
+    }
+}
+
 /// A key: text of 1 to 128 bytes, which contracts see as the list of its bytes.
 ///
-/// Copies share the text, so that a copy costs a few words.
+/// A copy costs a few words: a short text is copied with them, and a longer one is shared.
 #[derive(Drop)]
 pub struct Key {
-    text: ArcStr,
+    text: Text,
     hash: u32,
 }
 
 impl Model for Key {
     ghost use Rattle.std.specs.Prelude.{◌≡◌, ℕ, List};
-    ghost use Rattle.std.specs.Arc.{arc_str_bytes};
     ghost use Rattle.si_model.specs.KeyTexts.{IsKeyText, shard_hash};
+    ghost use Rattle.si_model.specs.Keys.{text_bytes};
 
     ghost Value = { List ℕ };
 
-    ghost view = { λ k. arc_str_bytes k.text };
+    ghost view = { λ k. text_bytes k.text };
 
-    ghost invariant = { λ k. IsKeyText (arc_str_bytes k.text) × (k.hash ≡ shard_hash (arc_str_bytes k.text)) };
+    ghost invariant = { λ k. IsKeyText (text_bytes k.text) × (k.hash ≡ shard_hash (text_bytes k.text)) };
 }
 
 impl Key {
@@ -47,27 +98,30 @@ impl Key {
         requires { IsKeyText text.now }
         ensures { IfOk result (λ key. key ≡ text.now) }
     {
-        Key::from_string(String::from_str(alloc, text)?)
+        Ok(Key {
+            text: Text::new(alloc, text)?,
+            hash: hash_of(text.as_bytes()),
+        })
     }
 
-    /// The key with this text, which isn't copied.
+    /// The key with this text, which is copied only where it is short.
     pub fn from_string(text: String) -> Result<Self, OutOfMemory>
         requires { IsKeyText (string_bytes text) }
         ensures { IfOk result (λ key. key ≡ string_bytes text) }
     {
         let hash = hash_of(text.as_bytes());
         Ok(Key {
-            text: ArcStr::from_string(text)?,
+            text: Text::from_string(text)?,
             hash,
         })
     }
 
-    /// Another owner of the same text.
+    /// Another key of the same text.
     pub fn try_clone(&self) -> Result<Self, OutOfMemory>
         ensures { IfOk result (λ key. key ≡ self.now) }
     {
         Ok(Key {
-            text: self.text.clone()?,
+            text: self.text.try_clone()?,
             hash: self.hash,
         })
     }
@@ -119,7 +173,7 @@ impl PartialEq for Key {
     ghost laws = { Cmp.partial_equiv_from_equiv nat_list_eq_equiv };
 
     fn eq(&self, other: &Self) -> bool {
-        self.text == other.text
+        self.as_str() == other.as_str()
     }
 }
 
@@ -158,7 +212,7 @@ impl Ord for Key {
     ghost matches_eq = { texts_ties };
 
     fn cmp(&self, other: &Self) -> Ordering {
-        self.text.cmp(&other.text)
+        self.as_str().cmp(other.as_str())
     }
 }
 
@@ -172,7 +226,7 @@ impl Hash for Key {
     ghost respects_eq = { Prim.search (hashing, rules) };
 
     fn hash<H: Hasher>(&self, state: &mut H) {
-        self.text.hash(state);
+        self.as_str().hash(state);
     }
 }
 
@@ -182,12 +236,12 @@ impl fmt::Display for Key {
     ghost output = { λ k. Some k };
 
     fn fmt<W: fmt::Write>(&self, f: &mut fmt::Formatter<W>) -> fmt::Result {
-        fmt::Display::fmt(&self.text, f)
+        fmt::Display::fmt(self.as_str(), f)
     }
 }
 
 impl fmt::Debug for Key {
     fn fmt<W: fmt::Write>(&self, f: &mut fmt::Formatter<W>) -> fmt::Result {
-        fmt::Debug::fmt(&self.text, f)
+        fmt::Debug::fmt(self.as_str(), f)
     }
 }

@@ -3,6 +3,7 @@ use Rattle.std.proofs.Common.{◌≡◌, ◌≢◌, ◌∙◌, inl, inr, ℕ, Bo
 use Rattle.std.specs.List.{Contains, AllPairs, IsDistinct}
 use Rattle.std.specs.HashMap.{HashMap, IsUnique, get}
 use Rattle.std.specs.Map.{keys_of, lookup}
+use Rattle.std.proofs.lemmas.List.{append_assoc}
 use Rattle.std.proofs.lemmas.List.Elements.{Contains-append_right}
 use Rattle.std.proofs.lemmas.Map.Views.{Contains-from_lookup}
 use Rattle.si_lists.proofs.Members.{Contains-map, Contains-nil, Contains-cons_cases, at_each, here}
@@ -74,7 +75,7 @@ module _ {S : Type 0} (lists : HashMap (List ℕ) Waits S) (unique : IsUnique sa
     pub next_can : (old mid : KeyStates) → CanChangeAll lists old → AreDone done old mid → (R : OnKey) × LeadsTo list.changes.items (on mid x) R
     next_can old mid can before = subst (λ Q. (R : OnKey) × LeadsTo list.changes.items Q R) (sym (before.others x new_key)) (can x list stands)
 
-    pub next_done : (old mid new : KeyStates) → AreDone done old mid → IsChangedAt x list.changes.items mid new → AreDone (done ++ (x, list) ∷ []) old new
+    next_done : (old mid new : KeyStates) → AreDone done old mid → IsChangedAt x list.changes.items mid new → AreDone (done ++ (x, list) ∷ []) old new
     next_done old mid new before step = record {
       changed = λ y d at. elim (push_cases done (x, list) (y, d) at) [
         | inl earlier ↦ subst (IsLedBy d.changes.items (on old y)) (sym (step.others y (λ e. new_key d (subst (λ z. Contains done (z, d)) e earlier)))) (before.changed y d earlier)
@@ -84,6 +85,10 @@ module _ {S : Type 0} (lists : HashMap (List ℕ) Waits S) (unique : IsUnique sa
           step.others y (λ e. none list (subst (λ z. Contains (done ++ (x, list) ∷ []) (z, list)) (sym e) (push_last done (x, list))))
           ∙ before.others y (λ d at. none d (push_keeps done (x, list) (y, d) at));
     }
+
+    -- one more list was made, of those that the map has in its order
+    pub goes_on : (old mid new : KeyStates) → AreDone done old mid → IsChangedAt x list.changes.items mid new → (all : Entries) × AreDone all old new × (lists.entries ≡ all ++ rest)
+    goes_on old mid new before step = (done ++ (x, list) ∷ [], next_done old mid new before step, split ∙ sym (append_assoc done ((x, list) ∷ []) rest))
 
   -- at the end all were made
   pub all_done : (old new : KeyStates) → AreDone lists.entries old new → AreChangedAll lists old new

@@ -1,18 +1,19 @@
-//! The keys that were read, so that a key that comes again shares the text of the first.
+//! The longer keys that were read, so that one that comes again shares the text of the first.
 //!
-//! A history names the same keys again and again. Copies that share one text take less memory, and where two of them are compared
-//! later, less of it is looked at.
+//! A history names the same keys again and again. Copies that share one text take less memory. A short text stands in the key
+//! itself, so that there is nothing to share.
 
 ghost use Rattle.std.specs.Prelude.{◌≡◌, ◌⊎◌, ◌∷◌, ◌++◌, [], IfOk, length, take};
 ghost use Rattle.si_model.specs.KeyTexts.{IsKeyText};
 
 use indexmap::IndexMap;
+use si_model::keys::MOST_INLINE_BYTES;
 use si_model::{Key, OutOfMemory};
 use std::alloc::Global;
 use std::hash::{BuildHasher, RandomState};
 use std::marker::Model;
 
-/// Keys that were read, in the order in which each came first. Contracts see the list of their texts.
+/// Longer keys that were read, in the order in which each came first. Contracts see the list of their texts.
 #[derive(Drop)]
 pub struct KnownKeys {
     alloc: Global,
@@ -54,8 +55,8 @@ impl KnownKeys {
         }
     }
 
-    /// The key with this text: a copy of the known one, which shares its text, or else a new one, which is known from then on unless
-    /// another known text has its hash.
+    /// The key with this text. Of a longer one it is a copy of the known one, which shares its text, or else a new one, which is
+    /// known from then on unless another known text has its hash.
     pub fn key(&mut self, text: &str) -> Result<Key, OutOfMemory>
         requires { IsKeyText text.now }
         ensures key { IfOk result (λ key. key ≡ text.now) }
@@ -66,6 +67,9 @@ impl KnownKeys {
         let Some(builder) = self.hash else {
             return Key::new(self.alloc, text);
         };
+        if text.len() <= MOST_INLINE_BYTES {
+            return Key::new(self.alloc, text);
+        }
         let hash = builder.hash_one(text);
         match self.known.get(&hash) {
             Some(known) if known.as_str() == text => return known.try_clone(),

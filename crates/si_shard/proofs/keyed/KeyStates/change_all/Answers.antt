@@ -1,6 +1,6 @@
-use Rattle.std.proofs.Common.{◌∙◌, ◌++◌, ◌∷◌, [], ap, sym, subst}
-use Rattle.std.proofs.lemmas.List.{append-nil, append_assoc}
-use Rattle.si_shard.proofs.Together.{AreDone, all_done, next_can, next_done, none_done}
+use Rattle.std.proofs.Common.{◌∙◌, ◌++◌, [], ap, sym, subst}
+use Rattle.std.proofs.lemmas.List.{append-nil}
+use Rattle.si_shard.proofs.Together.{AreDone, all_done, goes_on, next_can, none_done}
 use Rattle.si_shard.proofs.keyed.KeyStates.change_all.Goals as goal
 
 pub loop-key-init : goal.loop-key-init
@@ -12,17 +12,23 @@ change-requires-clause-can c =
     let split = done.2 ∙ ap (λ l. done.0 ++ l) c.in-Some.ensures.steps in
     next_can c.args.lists c.into_iter-key-iterator.ensures.into_iter_gives.4 done.0 c.next.new.self c.in-Some.key c.in-Some.list split c.args.self.now c.loop-key.self c.requires.can done.1
 
+-- a key goes with its text, short or long
 pub loop-key-preserved : goal.loop-key-preserved
 loop-key-preserved c =
     let done = c.loop-key.invariant.1 in
     let split = done.2 ∙ ap (λ l. done.0 ++ l) c.in-Some.ensures.steps in (
       c.in_ok-change.ensures.states,
-      (
-        done.0 ++ (c.in-Some.key, c.in-Some.list) ∷ [],
-        next_done c.args.lists c.into_iter-key-iterator.ensures.into_iter_gives.4 done.0 c.next.new.self c.in-Some.key c.in-Some.list split c.args.self.now c.loop-key.self c.change.new.self done.1
-            c.in_ok-change.ensures.changed,
-        split ∙ sym (append_assoc done.0 ((c.in-Some.key, c.in-Some.list) ∷ []) c.next.new.self),
-      ),
+      goes_on c.args.lists c.into_iter-key-iterator.ensures.into_iter_gives.4 done.0 c.next.new.self c.in-Some.key c.in-Some.list split c.args.self.now c.loop-key.self c.change.new.self done.1
+          c.in_ok-change.ensures.changed,
+    )
+
+pub loop-key-preserved-in_ok-change : goal.loop-key-preserved-in_ok-change
+loop-key-preserved-in_ok-change c =
+    let done = c.loop-key.invariant.1 in
+    let split = done.2 ∙ ap (λ l. done.0 ++ l) c.in-Some.ensures.steps in (
+      c.in_ok-change.ensures.states,
+      goes_on c.args.lists c.into_iter-key-iterator.ensures.into_iter_gives.4 done.0 c.next.new.self c.in-Some.key c.in-Some.list split c.args.self.now c.loop-key.self c.change.new.self done.1
+          c.in_ok-change.ensures.changed,
     )
 
 pub returns-clause-changed : goal.returns-clause-changed
