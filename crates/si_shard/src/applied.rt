@@ -18,7 +18,7 @@ use std::hash::RandomState;
 use std::mem;
 
 /// How many accesses may be walked for changes that wait, beside one for each stored edit.
-const MOST_WAITING: usize = 65_536;
+const MOST_WAITING: usize = 1_048_576;
 
 /// The states of a shard's keys after some edits, and where the transactions arrived that are on them.
 #[derive(Drop)]
