@@ -14,7 +14,8 @@ use Rattle.si_model.specs.declared.numbers.Value.{Value}
 use Rattle.si_model.specs.Operations.{same_value}
 use Rattle.si_model.proofs.Equalities.{read_is}
 use Rattle.si_judge.specs.declared.reads.Reader.{Reader}
-use Rattle.si_judge.specs.Indexes.{beyond, is_later, is_reader_of, least_of, least_reader, reader_cmp, value_cmp}
+use Rattle.si_judge.specs.Indexes.{beyond, is_later, is_reader_of, least_of, least_reader, reader_cmp}
+use Rattle.si_judge.specs.Spread.{value_cmp}
 
 -- ---- from the least reader on
 

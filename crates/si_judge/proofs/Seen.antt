@@ -1,6 +1,5 @@
 -- What the indexes say of a read is what is seen at it.
 use Rattle.std.proofs.Common.{◌≡◌, ◌∙◌, ℕ, ◌<◌, Bool, true, false, cond, nat_lt, Option, Some, None, refl, sym, ap, ap₂, subst, true≢false}
-use Rattle.std.specs.BTreeMap.{get}
 use Rattle.std.specs.List.{Contains, find}
 use Rattle.std.specs.Option.{option_eq}
 use Rattle.std.proofs.lemmas.Bool.{and_parts, and_from, ltb-true, lt-ltb}
@@ -20,7 +19,8 @@ use Rattle.si_model.proofs.Sources.{writer_found}
 use Rattle.si_judge.specs.declared.reads.Reader.{Reader}
 use Rattle.si_judge.specs.declared.reads.Write.{Write}
 use Rattle.si_judge.specs.declared.indexes.Indexes.{Indexes}
-use Rattle.si_judge.specs.Indexes.{AreIndexes, present_in, reader_of, reads_in, value_cmp, write_of}
+use Rattle.si_judge.specs.Indexes.{AreIndexes, present_in, reader_of, reads_in, write_of}
+use Rattle.si_judge.specs.Spread.{at_value}
 use Rattle.si_judge.specs.Sights.{is_later_write, sight_in, source_in, source_with, write_in}
 use Rattle.si_judge.proofs.IndexEdits.{no_value}
 use Rattle.si_judge.proofs.PartLists.{read_from, write_from, write_to}
@@ -36,15 +36,15 @@ module _ (ix : Indexes) (is : AreIndexes ix) where
   abbrev Found : Value → Write → Type 0
   Found w x = (U : Part) × Contains (present_in ix).parts U × ((j : ℕ) × Contains U.accesses (record { place = j; access = access.Write w }) × (write_of U j w ≡ (w, x)))
 
-  found : (w : Value) (x : Write) → get value_cmp ix.writes w ≡ Some x → Found w x
+  found : (w : Value) (x : Write) → at_value ix.writes w ≡ Some x → Found w x
   found w x e = let u = (is.writes w x).0 e in (u.0, u.1, write_from u.0 w x u.2)
 
-  unwritten : (w : Value) → get value_cmp ix.writes w ≡ None → (U : Part) → Contains (present_in ix).parts U → Writes U w → ⊥
+  unwritten : (w : Value) → at_value ix.writes w ≡ None → (U : Part) → Contains (present_in ix).parts U → Writes U w → ⊥
   unwritten w e U c i = no_value _ (sym e ∙ (is.writes w (write_of U i.0 w).1).1 (U, c, write_to U i.0 w i.1))
 
   -- ---- where a value comes from
 
-  source_found : (w : Value) (o : Option Write) → get value_cmp ix.writes w ≡ o → source_with o ≡ source_among (present_in ix).parts (Some w)
+  source_found : (w : Value) (o : Option Write) → at_value ix.writes w ≡ o → source_with o ≡ source_among (present_in ix).parts (Some w)
   source_found w None e = ap (source_from w) (sym (none (find (part_writes w) (present_in ix).parts) refl))
     where
       none : (f : Option Part) → find (part_writes w) (present_in ix).parts ≡ f → f ≡ None
@@ -63,12 +63,12 @@ module _ (ix : Indexes) (is : AreIndexes ix) where
     where
       among : (v : Option Value) → source_with (write_in ix v) ≡ source_among (present_in ix).parts v
       among None = refl
-      among (Some w) = source_found w (get value_cmp ix.writes w) refl
+      among (Some w) = source_found w (at_value ix.writes w) refl
 
   -- ---- a later write
 
   module _ (T : Part) (there : Contains (present_in ix).parts T) (i : ℕ) where
-    later_found : (w : Value) (o : Option Write) → get value_cmp ix.writes w ≡ o → is_later_write (reader_of T i (Some w)) o ≡ writes_later T i (Some w)
+    later_found : (w : Value) (o : Option Write) → at_value ix.writes w ≡ o → is_later_write (reader_of T i (Some w)) o ≡ writes_later T i (Some w)
     later_found w None e = same_tests false (writes_later T i (Some w)) (λ t. absurd (true≢false (sym t))) (λ t.
         let l = (later_are T i (Some w)).0 t in
         let same : w ≡ l.0 = same_some l.1 in
@@ -106,7 +106,7 @@ module _ (ix : Indexes) (is : AreIndexes ix) where
     later_is : (v : Option Value) → is_later_write (reader_of T i v) (write_in ix v) ≡ writes_later T i v
     unfolding writes_later
     later_is None = refl
-    later_is (Some w) = later_found w (get value_cmp ix.writes w) refl
+    later_is (Some w) = later_found w (at_value ix.writes w) refl
 
   -- ---- all of it
 

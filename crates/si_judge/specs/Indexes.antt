@@ -1,13 +1,11 @@
 -- The indexes of what is on a key. All of it is this project's choice.
 use Rattle.std.specs.Prelude.{◌≡◌, ◌≢◌, ◌⊎◌, ◌↔◌, ℕ, ◌<◌, ◌+◌, ◌-◌, ◌^◌, Bool, true}
-use Rattle.std.specs.Prelude.{◌&&◌, if◌then◌else◌, nat_eq, nat_lt, List, [], ◌∷◌, ◌++◌, Some, None, Option, ⊤}
+use Rattle.std.specs.Prelude.{◌&&◌, if◌then◌else◌, nat_eq, nat_lt, List, [], ◌++◌, map, Some, None, Option, ⊤}
 use Rattle.std.specs.BTreeMap.{get, IsOrdered}
-use Rattle.std.specs.Map.{values_of}
 use Rattle.std.specs.Ordering.{nat_cmp, ordering_then}
 use Rattle.std.specs.declared.cmp.Ordering.{Ordering}
 use Rattle.std.specs.declared.ops.Bound.{Bound}
 use Rattle.std.specs.declared.ops.Bound.TheVariants.{Included, Excluded, Unbounded}
-use Rattle.si_model.specs.declared.numbers.TxnId.{TxnId}
 use Rattle.std.specs.List.{Contains, AllPairs, filter, filter_map, flat_map}
 use Rattle.std.specs.Option.{option_cmp, option_eq}
 use Rattle.si_model.specs.declared.numbers.Stamp.{Stamp}
@@ -23,6 +21,10 @@ use Rattle.si_model.specs.Reads.{own_value, source_by}
 use Rattle.si_model.specs.History.{IsOfHistory}
 use Rattle.si_timeline.specs.Timelines.{Adds, Dated, Has, IsNearestBefore, Lacks}
 use Rattle.si_timeline.specs.declared.versions.Version.{Version}
+use Rattle.si_judge.specs.Held.{part_of}
+use Rattle.si_judge.specs.Spread.{at_value, spread_cmp, value_cmp}
+use Rattle.si_judge.specs.declared.held.Held.{Held}
+use Rattle.si_judge.specs.declared.spread.Spread.{Spread}
 use Rattle.si_judge.specs.declared.indexes.Indexes.{Indexes}
 use Rattle.si_judge.specs.declared.reads.Reader.{Reader}
 use Rattle.si_judge.specs.declared.reads.Write.{Write}
@@ -84,13 +86,7 @@ version_of T = version_with T (commit_of T.status) (last_write T.accesses)
 
 -- ---- what the indexes hold
 
--- ids, values and readers in their orders
-abbrev pub id_cmp : TxnId → TxnId → Ordering
-id_cmp u w = nat_cmp u.0 w.0
-
-abbrev pub value_cmp : Value → Value → Ordering
-value_cmp v w = nat_cmp v.0 w.0
-
+-- readers in their order
 abbrev pub reader_cmp : Reader → Reader → Ordering
 reader_cmp r s = ordering_then (option_cmp value_cmp r.value s.value)
     (ordering_then (nat_cmp r.start.0 s.start.0) (ordering_then (nat_cmp r.txn.0 s.txn.0) (nat_cmp r.place s.place)))
@@ -99,20 +95,20 @@ reader_cmp r s = ordering_then (option_cmp value_cmp r.value s.value)
 abbrev pub IsIndexOf : {K V : Type 0} → (Part → List (K × V)) → List Part → (K → Option V) → Type 0
 IsIndexOf {K} {V} f parts at = (k : K) (v : V) → (at k ≡ Some v) ↔ ((T : Part) × Contains parts T × Contains (f T) (k, v))
 
--- T itself, under its id
-abbrev pub itself : Part → List (TxnId × Part)
-itself T = (T.id, T) ∷ []
+-- the transactions that are held
+abbrev pub parts_in : List (Spread × Held) → List Part
+parts_in es = map (λ e. part_of (record { 0 = e.0.0 }) e.1) es
 
 -- what is on the key
 abbrev pub present_in : Indexes → OnKey
-present_in ix = record { initial = ix.initial; parts = values_of ix.parts.entries }
+present_in ix = record { initial = ix.initial; parts = parts_in ix.parts.entries }
 
 -- the indexes are those of what is on the key, which is of a history
 pub record AreIndexes (ix : Indexes) : Type 0 where
   pub history : IsOfHistory (present_in ix)
-  pub parts : IsIndexOf itself (present_in ix).parts (get id_cmp ix.parts)
+  pub parts : IsOrdered spread_cmp ix.parts
   pub timeline : (d : Dated) → Contains ix.timeline d ↔ ((T : Part) × Contains (present_in ix).parts T × (version_of T ≡ Some d))
-  pub writes : IsIndexOf writes_of (present_in ix).parts (get value_cmp ix.writes)
+  pub writes : IsIndexOf writes_of (present_in ix).parts (at_value ix.writes)
   pub readers : IsIndexOf reads_in (present_in ix).parts (get reader_cmp ix.readers)
   pub ordered : IsOrdered reader_cmp ix.readers
 

@@ -1,8 +1,10 @@
 pub mod Following
+pub mod Held
 pub mod Indexes
 pub mod Judges
 pub mod Maps
 pub mod Mending
 pub mod Sights
+pub mod Spread
 pub mod States
 pub mod Touched

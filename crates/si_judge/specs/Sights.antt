@@ -1,6 +1,5 @@
 -- What is seen at a read, by the indexes. All of it is this project's choice.
 use Rattle.std.specs.Prelude.{Bool, false, ◌&&◌, if◌then◌else◌, nat_lt, Some, None, Option}
-use Rattle.std.specs.BTreeMap.{get}
 use Rattle.std.specs.Option.{option_eq}
 use Rattle.si_model.specs.declared.numbers.Stamp.{Stamp}
 use Rattle.si_model.specs.declared.numbers.Value.{Value}
@@ -15,7 +14,8 @@ use Rattle.si_model.specs.Reads.{missed_of, version_of}
 use Rattle.si_judge.specs.declared.reads.Reader.{Reader}
 use Rattle.si_judge.specs.declared.reads.Write.{Write}
 use Rattle.si_judge.specs.declared.indexes.Indexes.{Indexes}
-use Rattle.si_judge.specs.Indexes.{value_cmp, present_in}
+use Rattle.si_judge.specs.Indexes.{present_in}
+use Rattle.si_judge.specs.Spread.{at_value}
 
 -- the stamp after which the versions are that come after this one
 abbrev pub stamp_of : VersionId → Stamp
@@ -25,7 +25,7 @@ stamp_of (version.Installed c) = c
 -- the write of the value, if there is one
 abbrev pub write_in : Indexes → Option Value → Option Write
 write_in ix None = None
-write_in ix (Some v) = get value_cmp ix.writes v
+write_in ix (Some v) = at_value ix.writes v
 
 -- where a value comes from, by its write, if there is one
 abbrev pub source_with : Option Write → Source

@@ -10,8 +10,10 @@ ghost use Rattle.si_judge.specs.Indexes.{AddsVersion, AreIndexes, Fits, HasVersi
 ghost use Rattle.si_judge.specs.Sights.{is_later_write, sight_in, source_in, stamp_of, write_in};
 ghost use Rattle.si_judge.specs.Mending.{installer};
 
-use crate::maps::{insert_all, remove_all};
+use crate::held::Held;
+use crate::maps::{insert_all, insert_writes, remove_all, remove_writes};
 use crate::reads::{OwnRead, Reader, Write, reads_in, version_of, writes_of};
+use crate::spread::Spread;
 use si_model::reads::{if_before, version_of as version_read};
 use si_model::{Installer, OutOfMemory, Part, Sight, Source, Stamp, TxnId, Value, VersionId};
 use si_timeline::{Timeline, Version};
@@ -24,11 +26,11 @@ use std::ops::Bound;
 pub struct Indexes {
     /// What the initial version returns.
     pub initial: Option<Value>,
-    pub parts: BTreeMap<TxnId, Part>,
+    pub parts: BTreeMap<Spread, Held>,
     /// The installed versions.
     pub timeline: Timeline,
     /// The writes of all transactions, by their values.
-    pub writes: BTreeMap<Value, Write>,
+    pub writes: BTreeMap<Spread, Write>,
     /// The reads of the committed transactions, each with its transaction's own value there.
     pub readers: BTreeMap<Reader, Option<Value>>,
 }
@@ -58,6 +60,7 @@ impl Indexes {
     /// Puts a transaction in, whose reads and writes these are.
     pub fn put_in(
         &mut self,
+        alloc: Global,
         part: Part,
         reads: &[OwnRead],
         writes: &[(Value, Write)],
@@ -69,10 +72,12 @@ impl Indexes {
         ensures indexes { OnOk result (AreIndexes self.new) }
         ensures joined { OnOk result (Joins part (present_in self.old) (present_in self.new)) }
     {
-        insert_all(&mut self.writes, writes)?;
+        insert_writes(&mut self.writes, writes)?;
         insert_all(&mut self.readers, reads)?;
         add_version(&mut self.timeline, &part)?;
-        self.parts.insert(part.id, part)?;
+        let id = part.id;
+        let held = Held::of(alloc, part)?;
+        self.parts.insert(Spread(id.0), held)?;
         Ok(())
     }
 
@@ -86,12 +91,13 @@ impl Indexes {
         ensures writes { IfOk result (λ taken. taken.writes.items ≡ writes_of taken.part) }
         ensures id { IfOk result (λ taken. taken.part.id ≡ id) }
     {
-        let Some(part) = self.parts.remove(&id) else {
+        let Some(held) = self.parts.remove(&Spread(id.0)) else {
             unreachable!();
         };
+        let part = held.part(alloc, id)?;
         let reads = reads_in(alloc, &part)?;
         let writes = writes_of(alloc, &part)?;
-        remove_all(&mut self.writes, writes.as_slice());
+        remove_writes(&mut self.writes, writes.as_slice());
         remove_all(&mut self.readers, reads.as_slice());
         remove_version(&mut self.timeline, &part);
         Ok(TakenOut {
@@ -163,7 +169,7 @@ impl Indexes {
     fn write_of(&self, value: Option<Value>) -> Option<Write>
         ensures { result ≡ write_in self.now value }
     {
-        match self.writes.get(&value?) {
+        match self.writes.get(&Spread(value?.0)) {
             Some(write) => Some(*write),
             None => None,
         }

@@ -4,12 +4,14 @@
 //! what is seen at the reads that it touches alone. It stands on `si_model`, and its proofs on `si_lists`.
 #![tactic(auto)]
 
+mod held;
 mod indexes;
 mod judgements;
 pub mod judges;
 pub mod laws;
 mod maps;
 mod reads;
+mod spread;
 pub mod states;
 
 pub use judges::{Cases, Judge};

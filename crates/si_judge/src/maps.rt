@@ -1,11 +1,14 @@
 //! Many entries at once, put into a map or taken out.
 
-ghost use Rattle.std.specs.Prelude.{OnOk};
+ghost use Rattle.std.specs.Prelude.{OnOk, Some, None};
 ghost use Rattle.std.specs.BTreeMap.{get, IsOrdered, Updates};
 ghost use Rattle.std.specs.Ordering.{eq_by_cmp};
-ghost use Rattle.si_judge.specs.Maps.{AreInserted, AreTakenOut};
+ghost use Rattle.si_judge.specs.Maps.{AreInserted, AreTakenOut, SetsValue};
+ghost use Rattle.si_judge.specs.Spread.{at_value, value_cmp};
 
-use si_model::OutOfMemory;
+use crate::reads::Write;
+use crate::spread::Spread;
+use si_model::{OutOfMemory, Value};
 use std::collections::BTreeMap;
 
 /// Puts the entries in.
@@ -33,6 +36,45 @@ pub fn remove_all<K: Ord + Copy + Drop, V: Copy + Drop>(
     for entry in entries {
         map.remove(&entry.0);
     }
+}
+
+/// Puts the writes in, each under the number of its value.
+pub fn insert_writes(
+    map: &mut BTreeMap<Spread, Write>,
+    writes: &[(Value, Write)],
+) -> Result<(), OutOfMemory>
+    ensures { OnOk result (AreInserted (eq_by_cmp value_cmp) (at_value map.old) writes.now (at_value map.new)) }
+{
+    for write in writes {
+        insert_write(map, write.0, write.1)?;
+    }
+    Ok(())
+}
+
+fn insert_write(
+    map: &mut BTreeMap<Spread, Write>,
+    value: Value,
+    write: Write,
+) -> Result<(), OutOfMemory>
+    ensures { OnOk result (SetsValue value (Some write) map.old map.new) }
+{
+    map.insert(Spread(value.0), write)?;
+    Ok(())
+}
+
+/// Takes the writes out.
+pub fn remove_writes(map: &mut BTreeMap<Spread, Write>, writes: &[(Value, Write)])
+    ensures { AreTakenOut (eq_by_cmp value_cmp) (at_value map.old) writes.now (at_value map.new) }
+{
+    for write in writes {
+        remove_write(map, write.0);
+    }
+}
+
+fn remove_write(map: &mut BTreeMap<Spread, Write>, value: Value)
+    ensures { SetsValue value None map.old map.new }
+{
+    map.remove(&Spread(value.0));
 }
 
 /// Puts the value in its place, or takes it out where there is none.

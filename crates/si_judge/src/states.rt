@@ -290,7 +290,7 @@ fn add<J: Judge + Drop>(
     let writes = writes_of(alloc, &part)?;
     let others = touched(alloc, indexes, &part, writes.as_slice())?;
     let version = version_of(&part);
-    indexes.put_in(part, reads.as_slice(), writes.as_slice())?;
+    indexes.put_in(alloc, part, reads.as_slice(), writes.as_slice())?;
     judgements.judge_reads(indexes, others.as_slice())?;
     judgements.judge_reads(indexes, reads.as_slice())?;
     judgements.judge_version(indexes, version)?;
