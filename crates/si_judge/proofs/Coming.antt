@@ -1,29 +1,25 @@
 -- The indexes of what is on a key stay so when a transaction comes or goes.
-use Rattle.std.proofs.Common.{◌≡◌, ◌≢◌, ◌∙◌, ◌⊎◌, inl, inr, ◌↔◌, Bool, true, false, [], ◌∷◌, Option, Some, None, refl, sym, ap, subst, true≢false, IfSome}
-use Rattle.std.specs.BTreeMap.{get, IsOrdered}
+use Rattle.std.proofs.Common.{◌≡◌, ◌≢◌, ◌∙◌, ◌⊎◌, inl, inr, ◌↔◌, [], ◌∷◌, ◌++◌, Option, Some, None, refl, sym, ap, subst, IfSome}
 use Rattle.std.specs.List.{AllPairs, Contains}
 use Rattle.std.specs.Ordering.{eq_by_cmp}
 use Rattle.si_lists.proofs.Members.{same_some}
-use Rattle.si_model.specs.declared.numbers.TxnId.{TxnId}
+use Rattle.si_lists.proofs.Names.{pairs_push}
+use Rattle.si_lists.proofs.Pushes.{push_cases, push_keeps, push_last}
 use Rattle.si_model.specs.declared.parts.Part.{Part}
 use Rattle.si_model.specs.declared.parts.OnKey.{OnKey}
 use Rattle.si_model.specs.History.{IsOfHistory}
-use Rattle.si_model.proofs.Equalities.{same_id_or_not}
-use Rattle.si_model.proofs.Histories.{one_part, one_installer}
+use Rattle.si_model.proofs.Histories.{one_installer}
 use Rattle.si_timeline.specs.Timelines.{Dated}
-use Rattle.si_judge.specs.declared.held.Held.{Held}
-use Rattle.si_judge.specs.declared.spread.Spread.{Spread}
 use Rattle.si_judge.specs.declared.indexes.Indexes.{Indexes}
-use Rattle.si_judge.specs.Held.{part_of}
-use Rattle.si_judge.specs.Spread.{at_value, spread_cmp, value_cmp}
+use Rattle.si_judge.specs.Held.{AreNamedApart, IsLeftBy}
+use Rattle.si_judge.specs.Spread.{at_value, value_cmp}
 use Rattle.si_judge.specs.Maps.{AreInserted, AreTakenOut}
-use Rattle.si_judge.specs.Indexes.{AddsVersion, AreIndexes, Fits, Joins, LacksVersion, HasVersion, RemovesVersion, present_in, reader_cmp, reads_in, version_of, writes_of}
+use Rattle.si_judge.specs.Indexes.{AddsVersion, AreIndexes, Fits, Joins, LacksVersion, HasVersion, RemovesVersion, present_in, reads_in, version_of, writes_of}
+use Rattle.si_judge.specs.Readers.{reader_cmp, own_at, AreInOrder}
 use Rattle.si_judge.specs.Mending.{installer}
 use Rattle.si_judge.proofs.IndexEdits.{comes, goes, no_value}
-use Rattle.si_judge.proofs.Orders.{spread_decides, value_decides, reader_decides}
+use Rattle.si_judge.proofs.Orders.{value_decides, reader_decides}
 use Rattle.si_judge.proofs.PartLists.{added_are, reads_are_apart, version_installs, writes_are_apart}
-use Rattle.si_judge.proofs.PartMaps.{held_is_there, is_held, names_apart}
-use Rattle.si_judge.proofs.Updates.{step_other, step_there}
 
 -- what has no other transaction than a history is one
 pub history_within : (Q R : OnKey) → IsOfHistory Q → Q.initial ≡ R.initial → ((X : Part) → Contains R.parts X → Contains Q.parts X)
@@ -40,43 +36,18 @@ history_within Q R h initial within names = record {
 
 -- ---- one comes
 
--- where what is held of T stands
-abbrev pub under : Part → Spread
-under T = record { 0 = T.id.0 }
-
-other_key : (X T : Part) → X.id ≢ T.id → under T ≢ under X
-other_key X T d e = d (sym (ap (λ (u : Spread). record { 0 = u.0 }) e))
-
-module _ (old new : Indexes) (T : Part) (is : AreIndexes old) (fits : Fits T (present_in old)) (initial : new.initial ≡ old.initial) (h : Held) (holds : part_of T.id h ≡ T)
-    (parts : AreInserted (eq_by_cmp spread_cmp) (get spread_cmp old.parts) ((under T, h) ∷ []) (get spread_cmp new.parts)) (ordered : IsOrdered spread_cmp new.parts) where
+module _ (old new : Indexes) (T : Part) (is : AreIndexes old) (fits : Fits T (present_in old)) (initial : new.initial ≡ old.initial) (parts : new.parts ≡ old.parts ++ T ∷ []) where
   absent : (X : Part) → Contains (present_in old).parts X → X.id ≢ T.id
   absent = fits.1.absent
 
-  at_T : get spread_cmp new.parts (under T) ≡ Some h
-  at_T = parts (under T) ∙ step_there (eq_by_cmp spread_cmp) spread_decides (λ (p : Spread × Held). p.0) (λ p. Some p.1) (get spread_cmp old.parts) (under T, h) (under T) refl
-
-  at_other : (u : Spread) → under T ≢ u → get spread_cmp new.parts u ≡ get spread_cmp old.parts u
-  at_other u d = parts u ∙ step_other (eq_by_cmp spread_cmp) spread_decides (λ (p : Spread × Held). p.0) (λ p. Some p.1) (get spread_cmp old.parts) (under T, h) u d
-
   joined : (X : Part) → Contains (present_in new).parts X ↔ (Contains (present_in old).parts X ⊎ (X ≡ T))
-  joined X = (to, from)
-    where
-      by : (k : Held) → get spread_cmp new.parts (under X) ≡ Some k → part_of X.id k ≡ X → (b : Bool) → eq_by_cmp spread_cmp (under T) (under X) ≡ b → Contains (present_in old).parts X ⊎ (X ≡ T)
-      by k e x true at =
-          let s : under T ≡ under X = (spread_decides (under T) (under X)).0 at in
-          let id : T.id ≡ X.id = ap (λ (u : Spread). record { 0 = u.0 }) s in
-          let same : h ≡ k = same_some (sym at_T ∙ ap (get spread_cmp new.parts) s ∙ e) in
-          inr (sym x ∙ ap (λ n. part_of n k) (sym id) ∙ ap (part_of T.id) (sym same) ∙ holds)
-      by k e x false at =
-          inl (subst (Contains (present_in old).parts) x (held_is_there old.parts (under X) k (sym (at_other (under X) (λ s. true≢false (sym ((spread_decides (under T) (under X)).1 s) ∙ at))) ∙ e)))
+  joined X = (
+    (λ c. elim (push_cases old.parts T X (subst (λ l. Contains l X) parts c)) [ inl o ↦ inl o | inr e ↦ inr (sym e) ]),
+    (λ c. subst (λ l. Contains l X) (sym parts) (elim c [ inl o ↦ push_keeps old.parts T X o | inr e ↦ subst (Contains (old.parts ++ T ∷ [])) (sym e) (push_last old.parts T) ])),
+  )
 
-      to : Contains (present_in new).parts X → Contains (present_in old).parts X ⊎ (X ≡ T)
-      to c = let k = is_held new.parts ordered X c in by k.0 k.1 k.2 (eq_by_cmp spread_cmp (under T) (under X)) refl
-
-      from : Contains (present_in old).parts X ⊎ (X ≡ T) → Contains (present_in new).parts X
-      from (inl c) = let k = is_held old.parts is.parts X c in
-          subst (Contains (present_in new).parts) k.2 (held_is_there new.parts (under X) k.0 (at_other (under X) (other_key X T (absent X c)) ∙ k.1))
-      from (inr e) = subst (Contains (present_in new).parts) (holds ∙ sym e) (held_is_there new.parts (under T) h at_T)
+  named : AreNamedApart new.parts
+  named = subst AreNamedApart (sym parts) (pairs_push (λ A B. A.id ≢ B.id) old.parts T is.history.names absent)
 
   joins : Joins T (present_in old) (present_in new)
   joins = record { initial = sym initial; absent = absent; parts = joined }
@@ -85,21 +56,20 @@ module _ (old new : Indexes) (T : Part) (is : AreIndexes old) (fits : Fits T (pr
   among X c = (fits.1.parts X).1 ((joined X).0 c)
 
   history : IsOfHistory (present_in new)
-  history = history_within fits.0 (present_in new) fits.2 (sym fits.1.initial ∙ sym initial) among (names_apart new.parts.entries ordered)
+  history = history_within fits.0 (present_in new) fits.2 (sym fits.1.initial ∙ sym initial) among named
 
   pub came : AreInserted (eq_by_cmp value_cmp) (at_value old.writes) (writes_of T) (at_value new.writes)
-      → AreInserted (eq_by_cmp reader_cmp) (get reader_cmp old.readers) (reads_in T) (get reader_cmp new.readers)
+      → AreInserted (eq_by_cmp reader_cmp) (own_at old.readers) (reads_in T) (own_at new.readers)
       → AddsVersion (version_of T) old.timeline new.timeline
-      → IsOrdered reader_cmp new.readers
+      → AreInOrder new.readers
       → AreIndexes new × Joins T (present_in old) (present_in new)
   came writes readers timeline readers_ordered = (
     record {
       ordered = readers_ordered;
       history = history;
-      parts = ordered;
       timeline = versions (version_of T) refl timeline;
       writes = comes (eq_by_cmp value_cmp) value_decides writes_of T (present_in old).parts (present_in new).parts joined (writes_are_apart (present_in new) history) (at_value old.writes) (at_value new.writes) is.writes writes;
-      readers = comes (eq_by_cmp reader_cmp) reader_decides reads_in T (present_in old).parts (present_in new).parts joined (reads_are_apart (present_in new) history) (get reader_cmp old.readers) (get reader_cmp new.readers) is.readers readers;
+      readers = comes (eq_by_cmp reader_cmp) reader_decides reads_in T (present_in old).parts (present_in new).parts joined (reads_are_apart (present_in new) history) (own_at old.readers) (own_at new.readers) is.readers readers;
     },
     joins,
   )
@@ -154,32 +124,15 @@ version_stands ix T is c = by (version_of T) refl
 
 -- ---- one goes
 
-module _ (old new : Indexes) (T : Part) (is : AreIndexes old) (there : Contains (present_in old).parts T) (initial : new.initial ≡ old.initial) (h : Held)
-    (parts : AreTakenOut (eq_by_cmp spread_cmp) (get spread_cmp old.parts) ((under T, h) ∷ []) (get spread_cmp new.parts)) (ordered : IsOrdered spread_cmp new.parts) where
-  gone_T : get spread_cmp new.parts (under T) ≡ None
-  gone_T = parts (under T) ∙ step_there (eq_by_cmp spread_cmp) spread_decides (λ (p : Spread × Held). p.0) (λ p. None) (get spread_cmp old.parts) (under T, h) (under T) refl
+module _ (old new : Indexes) (T : Part) (is : AreIndexes old) (initial : new.initial ≡ old.initial) (without : IsLeftBy T old.parts new.parts) (named : AreNamedApart new.parts) where
+  there : Contains (present_in old).parts T
+  there = (without.parts T).1 (inr refl)
 
-  stays_other : (u : Spread) → under T ≢ u → get spread_cmp new.parts u ≡ get spread_cmp old.parts u
-  stays_other u d = parts u ∙ step_other (eq_by_cmp spread_cmp) spread_decides (λ (p : Spread × Held). p.0) (λ p. None) (get spread_cmp old.parts) (under T, h) u d
-
-  -- what is left was there, under another id
   left : (X : Part) → Contains (present_in new).parts X → Contains (present_in old).parts X × (X.id ≢ T.id)
-  left X c =
-      let k = is_held new.parts ordered X c in
-      let differ : under T ≢ under X = λ s. no_value k.0 (sym gone_T ∙ ap (get spread_cmp new.parts) s ∙ k.1) in (
-        subst (Contains (present_in old).parts) k.2 (held_is_there old.parts (under X) k.0 (sym (stays_other (under X) differ) ∙ k.1)),
-        λ s. differ (ap (λ (n : TxnId). record { 0 = n.0 }) (sym s)),
-      )
+  left X c = ((without.parts X).1 (inl c), without.absent X c)
 
   left_over : (X : Part) → Contains (present_in old).parts X ↔ (Contains (present_in new).parts X ⊎ (X ≡ T))
-  left_over X = (
-    (λ c. elim (same_id_or_not T.id X.id) [
-      | inl s ↦ inr (one_part (present_in old) is.history X T c there (sym s))
-      | inr d ↦ inl (let k = is_held old.parts is.parts X c in
-          subst (Contains (present_in new).parts) k.2 (held_is_there new.parts (under X) k.0 (stays_other (under X) (other_key X T (λ e. d (sym e))) ∙ k.1)))
-    ]),
-    (λ c. elim c [ inl n ↦ (left X n).0 | inr e ↦ subst (Contains (present_in old).parts) (sym e) there ]),
-  )
+  left_over = without.parts
 
   leaves : Joins T (present_in new) (present_in old)
   leaves = record { initial = initial; absent = λ X c. (left X c).1; parts = left_over }
@@ -188,18 +141,17 @@ module _ (old new : Indexes) (T : Part) (is : AreIndexes old) (there : Contains 
   apart_T X c e = (left X c).1 (ap (λ (Y : Part). Y.id) e)
 
   pub went : AreTakenOut (eq_by_cmp value_cmp) (at_value old.writes) (writes_of T) (at_value new.writes)
-      → AreTakenOut (eq_by_cmp reader_cmp) (get reader_cmp old.readers) (reads_in T) (get reader_cmp new.readers)
+      → AreTakenOut (eq_by_cmp reader_cmp) (own_at old.readers) (reads_in T) (own_at new.readers)
       → RemovesVersion (version_of T) old.timeline new.timeline
-      → IsOrdered reader_cmp new.readers
+      → AreInOrder new.readers
       → AreIndexes new × Joins T (present_in new) (present_in old)
   went writes readers timeline readers_ordered = (
     record {
       ordered = readers_ordered;
-      history = history_within (present_in old) (present_in new) is.history (sym initial) (λ X c. (left X c).0) (names_apart new.parts.entries ordered);
-      parts = ordered;
+      history = history_within (present_in old) (present_in new) is.history (sym initial) (λ X c. (left X c).0) named;
       timeline = versions (version_of T) refl timeline;
       writes = goes (eq_by_cmp value_cmp) value_decides writes_of T (present_in new).parts (present_in old).parts left_over (writes_are_apart (present_in old) is.history) (at_value old.writes) (at_value new.writes) apart_T is.writes writes;
-      readers = goes (eq_by_cmp reader_cmp) reader_decides reads_in T (present_in new).parts (present_in old).parts left_over (reads_are_apart (present_in old) is.history) (get reader_cmp old.readers) (get reader_cmp new.readers) apart_T is.readers readers;
+      readers = goes (eq_by_cmp reader_cmp) reader_decides reads_in T (present_in new).parts (present_in old).parts left_over (reads_are_apart (present_in old) is.history) (own_at old.readers) (own_at new.readers) apart_T is.readers readers;
     },
     leaves,
   )

@@ -1,6 +1,6 @@
 -- The reads that are gathered are those that a transaction touches, each once.
 use Rattle.std.proofs.Common.{◌≡◌, ◌≢◌, ◌∙◌, ◌⊎◌, inl, inr, ◌↔◌, ℕ, ◌<◌, true, List, [], ◌∷◌, ◌++◌, Option, Some, None, refl, sym, ap, subst, arith}
-use Rattle.std.specs.BTreeMap.{get, is_at}
+use Rattle.std.specs.BTreeMap.{is_at}
 use Rattle.std.specs.Cmp.{IsTotalOrder}
 use Rattle.std.specs.Cmp.Lexicographic.{options_total}
 use Rattle.std.specs.List.{AllByRecursion, AllPairs, Contains, flat_map}
@@ -13,9 +13,9 @@ use Rattle.std.proofs.lemmas.Cmp.{nat_cmp_total, on_total, then_total}
 use Rattle.std.proofs.lemmas.Bool.{and_parts, and_from, ltb-true, lt-ltb}
 use Rattle.std.proofs.lemmas.List.Elements.{Contains-append_cases, Contains-append_left, Contains-append_right}
 use Rattle.std.proofs.lemmas.List.Kept.{AllPairs-filter}
-use Rattle.std.proofs.lemmas.Map.Entries.{btree_map_get_place, place_from_lookup}
+use Rattle.std.proofs.lemmas.Map.Entries.{place_from_lookup}
 use Rattle.std.proofs.lemmas.Map.Keys.{sorted_head, sorted_tail}
-use Rattle.si_lists.proofs.Members.{same_some, Contains-nil, contains_get, get_contains, here, there, Contains-cons_cases, Contains-filter, Contains-from_filter}
+use Rattle.si_lists.proofs.Members.{same_some, Contains-nil, get_contains, here, there, Contains-cons_cases, Contains-filter, Contains-from_filter}
 use Rattle.si_lists.proofs.Names.{Differ, names_filter_map, pairs_cons, pairs_head, pairs_nil, pairs_tail}
 use Rattle.si_model.specs.declared.numbers.Stamp.{Stamp}
 use Rattle.si_model.specs.declared.numbers.Value.{Value}
@@ -32,10 +32,12 @@ use Rattle.si_timeline.specs.Timelines.{Dated, IsNearestBefore}
 use Rattle.si_judge.specs.declared.reads.Reader.{Reader}
 use Rattle.si_judge.specs.declared.reads.Write.{Write}
 use Rattle.si_judge.specs.declared.indexes.Indexes.{Indexes}
-use Rattle.si_judge.specs.Indexes.{AreIndexes, AreReadsBefore, AreReadsOf, AreTouchedReads, Fits, IsLaterThan, IsReaderOf, IsTouchedBy, IsValueBefore, is_later, is_reader_of, present_in, reader_cmp, reader_of, readers_in, reads_in, returned_by, version_of, write_at, write_by, write_of, writes_of}
+use Rattle.si_judge.specs.Indexes.{AreIndexes, AreReadsBefore, AreReadsOf, AreTouchedReads, Fits, IsTouchedBy, IsValueBefore, present_in, reader_of, readers_in, reads_in, returned_by, version_of, write_at, write_by, write_of, writes_of}
+use Rattle.si_judge.specs.Readers.{IsLaterThan, IsReaderOf, is_later, is_reader_of, reader_cmp, own_at}
 use Rattle.si_judge.specs.Mending.{id_of, installer}
 use Rattle.si_judge.proofs.IndexEdits.{no_value}
 use Rattle.si_judge.proofs.Orders.{reader_decides}
+use Rattle.si_judge.proofs.ReaderLists.{stands_beside}
 use Rattle.si_judge.proofs.PartLists.{read_from, version_from, version_installs, write_from, write_to}
 
 reader_total : IsTotalOrder reader_cmp
@@ -73,19 +75,19 @@ keys_apart (e ∷ es) s = pairs_cons (λ p q. p.0 ≢ q.0) e es (below e.0 es (s
     ]
 
 module _ (ix : Indexes) (is : AreIndexes ix) where
-  entry : (r : Reader) (own : Option Value) → get reader_cmp ix.readers r ≡ Some own → Contains ix.readers.entries (r, own)
+  entry : (r : Reader) (own : Option Value) → own_at ix.readers r ≡ Some own → Contains ix.readers (r, own)
   entry r own e =
-      let p = place_from_lookup (is_at (reader_cmp r)) ix.readers.entries own e in
-      subst (λ k. Contains ix.readers.entries (k, own)) (sym ((reader_decides r p.1).0 p.3)) (get_contains ix.readers.entries p.0 (p.1, own) p.2)
+      let p = place_from_lookup (is_at (reader_cmp r)) ix.readers own e in
+      subst (λ k. Contains ix.readers (k, own)) (sym ((reader_decides r p.1).0 p.3)) (get_contains ix.readers p.0 (p.1, own) p.2)
 
-  stands : (p : Reader × Option Value) → Contains ix.readers.entries p → get reader_cmp ix.readers p.0 ≡ Some p.1
-  stands p c = let i = contains_get ix.readers.entries p c in btree_map_get_place reader_total ix.readers i.0 p.0 p.1 is.ordered i.1
+  stands : (p : Reader × Option Value) → Contains ix.readers p → own_at ix.readers p.0 ≡ Some p.1
+  stands = stands_beside ix.readers (keys_apart ix.readers is.ordered)
 
   pub readers_are : (v : Option Value) (after : Option Stamp) → AreReadsOf ix (IsReaderOf v after) (readers_in ix v after)
   readers_are v after = record {
-    all = λ r own e i. Contains-filter (λ p. is_reader_of v after p.0) ix.readers.entries (r, own) (entry r own e) ((reader_is v after r).1 i);
-    only = λ p c. let f = Contains-from_filter (λ q. is_reader_of v after q.0) ix.readers.entries p c in (stands p f.0, (reader_is v after p.0).0 f.1);
-    once = AllPairs-filter (λ p q. p.0 ≢ q.0) (λ p. is_reader_of v after p.0) ix.readers.entries (keys_apart ix.readers.entries is.ordered);
+    all = λ r own e i. Contains-filter (λ p. is_reader_of v after p.0) ix.readers (r, own) (entry r own e) ((reader_is v after r).1 i);
+    only = λ p c. let f = Contains-from_filter (λ q. is_reader_of v after q.0) ix.readers p c in (stands p f.0, (reader_is v after p.0).0 f.1);
+    once = AllPairs-filter (λ p q. p.0 ≢ q.0) (λ p. is_reader_of v after p.0) ix.readers (keys_apart ix.readers is.ordered);
   }
 
   pub none_are : {P : Reader → Type 0} → ((r : Reader) → P r → ⊥) → AreReadsOf ix P []

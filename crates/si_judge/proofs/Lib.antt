@@ -10,6 +10,7 @@ pub mod PartLists
 pub mod Coming
 pub mod Neighbours
 pub mod Ranges
+pub mod ReaderLists
 pub mod Seen
 pub mod Gathered
 pub mod Touching

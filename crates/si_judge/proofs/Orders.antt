@@ -10,7 +10,7 @@ use Rattle.si_model.specs.declared.numbers.TxnId.{TxnId}
 use Rattle.si_model.specs.declared.numbers.Value.{Value}
 use Rattle.si_judge.specs.Spread.{spread_cmp, value_cmp}
 use Rattle.si_judge.specs.declared.spread.Spread.{Spread}
-use Rattle.si_judge.specs.Indexes.{reader_cmp}
+use Rattle.si_judge.specs.Readers.{reader_cmp}
 use Rattle.si_judge.specs.Mending.{read_cmp, stamp_cmp}
 
 pub spread_total : IsTotalOrder spread_cmp

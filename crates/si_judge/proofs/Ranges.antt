@@ -1,7 +1,7 @@
 -- The range of the readers of a value has them all.
 use Rattle.std.proofs.Common.{Ordering}
 use Rattle.std.proofs.Common.{◌≡◌, ◌∙◌, ℕ, ◌+◌, ◌-◌, ◌^◌, ◌≤◌, Bool, true, false, cond, ◌&&◌, not, nat_eq, List, [], ◌∷◌, Option, Some, None, refl, sym, ap, ap₂, subst, arith, true≢false}
-use Rattle.std.specs.BTreeMap.Range.{entries_between, is_from_start, is_past_end, range_contains}
+use Rattle.std.specs.BTreeMap.Range.{is_from_start, is_past_end, range_contains}
 use Rattle.std.specs.Cmp.{ranked, nat_cmp_is}
 use Rattle.std.specs.List.{filter}
 use Rattle.std.specs.Option.{option_cmp, option_eq}
@@ -14,7 +14,7 @@ use Rattle.si_model.specs.declared.numbers.Value.{Value}
 use Rattle.si_model.specs.Operations.{same_value}
 use Rattle.si_model.proofs.Equalities.{read_is}
 use Rattle.si_judge.specs.declared.reads.Reader.{Reader}
-use Rattle.si_judge.specs.Indexes.{beyond, is_later, is_reader_of, least_of, least_reader, reader_cmp}
+use Rattle.si_judge.specs.Readers.{beyond, is_later, is_reader_of, least_of, least_reader, reader_cmp, readers_among, with_own}
 use Rattle.si_judge.specs.Spread.{value_cmp}
 
 -- ---- from the least reader on
@@ -80,19 +80,19 @@ in_range v after r e =
     ap₂ (λ a b. a && not b) from (up_to_next v r value)
 
 -- no reader of the value is outside
-pub range_has_all : (v : Option Value) (after : Option Stamp) (es : List (Reader × Option Value))
-    → filter (λ p. is_reader_of v after p.0) (entries_between reader_cmp (least_reader v after) (beyond v) es) ≡ filter (λ p. is_reader_of v after p.0) es
-range_has_all v after [] = refl
-range_has_all v after (p ∷ es) = by (range_contains reader_cmp (least_reader v after) (beyond v) p.0) (is_reader_of v after p.0) refl refl (range_has_all v after es)
+pub range_has_all : (v : Option Value) (after : Option Stamp) (f : Reader → Option Value) (rs : List Reader)
+    → readers_among (with_own f (filter (range_contains reader_cmp (least_reader v after) (beyond v)) rs)) v after ≡ readers_among (with_own f rs) v after
+range_has_all v after f [] = refl
+range_has_all v after f (r ∷ rs) = by (is_inside r) (is_reader_of v after r) refl refl (range_has_all v after f rs)
   where
-    keep : Reader × Option Value → Bool
-    keep p = is_reader_of v after p.0
+    is_inside : Reader → Bool
+    is_inside = range_contains reader_cmp (least_reader v after) (beyond v)
 
-    by : (a b : Bool) → range_contains reader_cmp (least_reader v after) (beyond v) p.0 ≡ a → is_reader_of v after p.0 ≡ b
-        → filter (λ p. is_reader_of v after p.0) (entries_between reader_cmp (least_reader v after) (beyond v) es) ≡ filter (λ p. is_reader_of v after p.0) es
-        → filter (λ p. is_reader_of v after p.0) (cond a (p ∷ entries_between reader_cmp (least_reader v after) (beyond v) es) (entries_between reader_cmp (least_reader v after) (beyond v) es))
-        ≡ cond b (p ∷ filter (λ p. is_reader_of v after p.0) es) (filter (λ p. is_reader_of v after p.0) es)
-    by true true e f rest = rw f (ap (λ l. p ∷ l) rest)
-    by true false e f rest = rw f rest
-    by false true e f rest = absurd (true≢false (sym (in_range v after p.0 f) ∙ e))
-    by false false e f rest = rest
+    by : (a b : Bool) → is_inside r ≡ a → is_reader_of v after r ≡ b
+        → readers_among (with_own f (filter is_inside rs)) v after ≡ readers_among (with_own f rs) v after
+        → readers_among (with_own f (cond a (r ∷ filter is_inside rs) (filter is_inside rs))) v after
+        ≡ cond b ((r, f r) ∷ readers_among (with_own f rs) v after) (readers_among (with_own f rs) v after)
+    by true true e g rest = rw g (ap (λ l. (r, f r) ∷ l) rest)
+    by true false e g rest = rw g rest
+    by false true e g rest = absurd (true≢false (sym (in_range v after r g) ∙ e))
+    by false false e g rest = rest

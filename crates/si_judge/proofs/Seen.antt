@@ -1,5 +1,5 @@
 -- What the indexes say of a read is what is seen at it.
-use Rattle.std.proofs.Common.{◌≡◌, ◌∙◌, ℕ, ◌<◌, Bool, true, false, cond, nat_lt, Option, Some, None, refl, sym, ap, ap₂, subst, true≢false}
+use Rattle.std.proofs.Common.{◌≡◌, ◌∙◌, ℕ, ◌<◌, Bool, true, false, cond, if◌then◌else◌, nat_lt, Option, Some, None, refl, sym, ap, ap₂, subst, true≢false}
 use Rattle.std.specs.List.{Contains, find}
 use Rattle.std.specs.Option.{option_eq}
 use Rattle.std.proofs.lemmas.Bool.{and_parts, and_from, ltb-true, lt-ltb}
@@ -8,20 +8,23 @@ use Rattle.si_model.specs.declared.numbers.Value.{Value}
 use Rattle.si_model.specs.declared.parts.Access.TheVariants as access
 use Rattle.si_model.specs.declared.parts.Part.{Part}
 use Rattle.si_model.specs.declared.sights.Source.TheVariants as source
+use Rattle.si_model.specs.declared.transactions.Status.{Status}
+use Rattle.si_model.specs.declared.transactions.Status.TheVariants as status
 use Rattle.si_model.specs.Edits.{same_id}
 use Rattle.si_model.specs.Operations.{same_value}
-use Rattle.si_model.specs.Versions.{Writes, part_writes}
-use Rattle.si_model.specs.Reads.{missed_at, missed_of, own_value, sight_of, source_among, source_from, source_of, version_of, writes_later}
+use Rattle.si_model.specs.Versions.{Writes, last_write, part_writes}
+use Rattle.si_model.specs.Reads.{missed_at, missed_of, own_value, sight_of, source_among, source_by, source_from, source_of, version_of, writes_later}
 use Rattle.si_model.proofs.Equalities.{same_id_is, same_id_from}
 use Rattle.si_model.proofs.Histories.{one_part}
 use Rattle.si_model.proofs.LastWrites.{later_are}
 use Rattle.si_model.proofs.Sources.{writer_found}
+use Rattle.si_judge.specs.declared.reads.Fate.TheVariants as fate
 use Rattle.si_judge.specs.declared.reads.Reader.{Reader}
 use Rattle.si_judge.specs.declared.reads.Write.{Write}
 use Rattle.si_judge.specs.declared.indexes.Indexes.{Indexes}
-use Rattle.si_judge.specs.Indexes.{AreIndexes, present_in, reader_of, reads_in, write_of}
+use Rattle.si_judge.specs.Indexes.{AreIndexes, fate_of, present_in, reader_of, reads_in, write_of}
 use Rattle.si_judge.specs.Spread.{at_value}
-use Rattle.si_judge.specs.Sights.{is_later_write, sight_in, source_in, source_with, write_in}
+use Rattle.si_judge.specs.Sights.{is_later_write, sight_in, source_in, source_told, source_with, write_in}
 use Rattle.si_judge.proofs.IndexEdits.{no_value}
 use Rattle.si_judge.proofs.PartLists.{read_from, write_from, write_to}
 
@@ -30,6 +33,15 @@ same_tests true true f g = refl
 same_tests true false f g = sym (f refl)
 same_tests false true f g = g refl
 same_tests false false f g = refl
+
+fate_tells : (T : Part) (v : Value) (s : Status) → source_told T.id (fate_of s (last_write T.accesses) v) ≡ source_by T v s
+fate_tells T v status.Aborted = refl
+fate_tells T v status.InDoubt = refl
+fate_tells T v (status.Committed c) = by (option_eq same_value (last_write T.accesses) (Some v))
+  where
+    by : (b : Bool) → source_told T.id (if b then fate.Installed c else fate.Earlier) ≡ (if b then source.Installed T.id c else source.Earlier T.id)
+    by true = refl
+    by false = refl
 
 module _ (ix : Indexes) (is : AreIndexes ix) where
   -- the write that stands in the index, with its transaction
@@ -55,7 +67,7 @@ module _ (ix : Indexes) (is : AreIndexes ix) where
       let U = u.0 in
       let x_is : (write_of U u.2.0 w).1 ≡ x = ap (λ p. p.1) u.2.2 in
       let writer : find (part_writes w) (present_in ix).parts ≡ Some U = (writer_found (present_in ix) w U is.history).1 (u.1, (u.2.0, u.2.1)) in
-      ap (λ (y : Write). y.source) (sym x_is) ∙ ap (source_from w) (sym writer)
+      ap (λ (y : Write). source_told y.txn y.fate) (sym x_is) ∙ fate_tells U w U.status ∙ ap (source_from w) (sym writer)
 
   source_is : (v : Option Value) → source_in ix v (write_in ix v) ≡ source_of (present_in ix) v
   unfolding source_of

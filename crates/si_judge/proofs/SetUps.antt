@@ -16,7 +16,8 @@ use Rattle.si_model.proofs.Sources.{sight_law}
 use Rattle.si_judge.specs.declared.reads.Reader.{Reader}
 use Rattle.si_judge.specs.declared.judgements.ReadId.{ReadId}
 use Rattle.si_judge.specs.declared.indexes.Indexes.{Indexes}
-use Rattle.si_judge.specs.Indexes.{AreIndexes, AreReadsOf, IsReaderOf, present_in, reader_of, readers_in}
+use Rattle.si_judge.specs.Indexes.{AreIndexes, AreReadsOf, present_in, reader_of, readers_in}
+use Rattle.si_judge.specs.Readers.{IsReaderOf}
 use Rattle.si_judge.specs.Mending.{AreReadsJudged, Found, IsPairKind, risen}
 use Rattle.si_judge.specs.Touched.{IsBoundedBy, IsTouchedBySetUp}
 use Rattle.si_judge.proofs.Coverage.{bounded, readers_once}
@@ -31,7 +32,7 @@ abbrev pub set_up_in : Value → Indexes → Indexes
 set_up_in w ix = record { initial = Some w; parts = ix.parts; timeline = ix.timeline; writes = ix.writes; readers = ix.readers }
 
 pub indexes_set_up : (w : Value) (ix : Indexes) → AreIndexes ix → IsOfHistory (set_up_on w (present_in ix)) → AreIndexes (set_up_in w ix)
-indexes_set_up w ix is h = record { history = h; parts = is.parts; timeline = is.timeline; writes = is.writes; readers = is.readers; ordered = is.ordered }
+indexes_set_up w ix is h = record { history = h; timeline = is.timeline; writes = is.writes; readers = is.readers; ordered = is.ordered }
 
 next_again : (p q : Option Value) (parts : List Part) (a : VersionId) (n : Installer) → IsNext (record { initial = p; parts = parts }) a n → IsNext (record { initial = q; parts = parts }) a n
 next_again p q parts a n next = record { installs = next.installs; after = next.after; first = next.first }

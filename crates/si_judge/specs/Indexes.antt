@@ -1,15 +1,12 @@
 -- The indexes of what is on a key. All of it is this project's choice.
-use Rattle.std.specs.Prelude.{◌≡◌, ◌≢◌, ◌⊎◌, ◌↔◌, ℕ, ◌<◌, ◌+◌, ◌-◌, ◌^◌, Bool, true}
-use Rattle.std.specs.Prelude.{◌&&◌, if◌then◌else◌, nat_eq, nat_lt, List, [], ◌++◌, map, Some, None, Option, ⊤}
-use Rattle.std.specs.BTreeMap.{get, IsOrdered}
-use Rattle.std.specs.Ordering.{nat_cmp, ordering_then}
-use Rattle.std.specs.declared.cmp.Ordering.{Ordering}
-use Rattle.std.specs.declared.ops.Bound.{Bound}
-use Rattle.std.specs.declared.ops.Bound.TheVariants.{Included, Excluded, Unbounded}
-use Rattle.std.specs.List.{Contains, AllPairs, filter, filter_map, flat_map}
-use Rattle.std.specs.Option.{option_cmp, option_eq}
+use Rattle.std.specs.Prelude.{◌≡◌, ◌≢◌, ◌⊎◌, ◌↔◌, ℕ}
+use Rattle.std.specs.Prelude.{if◌then◌else◌, List, [], ◌++◌, Some, None, Option, ⊤}
+use Rattle.std.specs.List.{Contains, AllPairs, filter_map, flat_map}
+use Rattle.std.specs.Option.{option_eq}
 use Rattle.si_model.specs.declared.numbers.Stamp.{Stamp}
 use Rattle.si_model.specs.declared.numbers.Value.{Value}
+use Rattle.si_model.specs.declared.transactions.Status.{Status}
+use Rattle.si_model.specs.declared.transactions.Status.TheVariants as status
 use Rattle.si_model.specs.declared.parts.Access.{Access}
 use Rattle.si_model.specs.declared.parts.Access.TheVariants as access
 use Rattle.si_model.specs.declared.parts.Placed.{Placed}
@@ -17,15 +14,15 @@ use Rattle.si_model.specs.declared.parts.Part.{Part}
 use Rattle.si_model.specs.declared.parts.OnKey.{OnKey}
 use Rattle.si_model.specs.Operations.{same_value}
 use Rattle.si_model.specs.Versions.{Writes, commit_of, last_write, written}
-use Rattle.si_model.specs.Reads.{own_value, source_by}
+use Rattle.si_model.specs.Reads.{own_value}
 use Rattle.si_model.specs.History.{IsOfHistory}
 use Rattle.si_timeline.specs.Timelines.{Adds, Dated, Has, IsNearestBefore, Lacks}
 use Rattle.si_timeline.specs.declared.versions.Version.{Version}
-use Rattle.si_judge.specs.Held.{part_of}
-use Rattle.si_judge.specs.Spread.{at_value, spread_cmp, value_cmp}
-use Rattle.si_judge.specs.declared.held.Held.{Held}
-use Rattle.si_judge.specs.declared.spread.Spread.{Spread}
+use Rattle.si_judge.specs.Readers.{AreInOrder, IsReaderOf, own_at, readers_among}
+use Rattle.si_judge.specs.Spread.{at_value}
 use Rattle.si_judge.specs.declared.indexes.Indexes.{Indexes}
+use Rattle.si_judge.specs.declared.reads.Fate.{Fate}
+use Rattle.si_judge.specs.declared.reads.Fate.TheVariants as fate
 use Rattle.si_judge.specs.declared.reads.Reader.{Reader}
 use Rattle.si_judge.specs.declared.reads.Write.{Write}
 
@@ -57,9 +54,15 @@ reads_by T (Some c) = reads_of T
 unfoldable pub reads_in : Part → List (Reader × Option Value)
 reads_in T = reads_by T (commit_of T.status)
 
--- T's write of the value at the place i, with where a read of it comes from
+-- what became of a write of v by a transaction with that status, which writes l last
+abbrev pub fate_of : Status → Option Value → Value → Fate
+fate_of (status.Committed c) l v = if option_eq same_value l (Some v) then fate.Installed c else fate.Earlier
+fate_of status.Aborted l v = fate.Aborted
+fate_of status.InDoubt l v = fate.InDoubt
+
+-- T's write of the value at the place i, with what became of it
 abbrev pub write_of : Part → ℕ → Value → Value × Write
-write_of T i v = (v, record { txn = T.id; place = i; source = source_by T v T.status })
+write_of T i v = (v, record { txn = T.id; place = i; fate = fate_of T.status (last_write T.accesses) v })
 
 -- the write, if a value is written
 abbrev pub write_by : Part → ℕ → Option Value → Option (Value × Write)
@@ -86,31 +89,21 @@ version_of T = version_with T (commit_of T.status) (last_write T.accesses)
 
 -- ---- what the indexes hold
 
--- readers in their order
-abbrev pub reader_cmp : Reader → Reader → Ordering
-reader_cmp r s = ordering_then (option_cmp value_cmp r.value s.value)
-    (ordering_then (nat_cmp r.start.0 s.start.0) (ordering_then (nat_cmp r.txn.0 s.txn.0) (nat_cmp r.place s.place)))
-
 -- an index of what f gives for each transaction: under a key stands what f gives for one of them, and nothing else
 abbrev pub IsIndexOf : {K V : Type 0} → (Part → List (K × V)) → List Part → (K → Option V) → Type 0
 IsIndexOf {K} {V} f parts at = (k : K) (v : V) → (at k ≡ Some v) ↔ ((T : Part) × Contains parts T × Contains (f T) (k, v))
 
--- the transactions that are held
-abbrev pub parts_in : List (Spread × Held) → List Part
-parts_in es = map (λ e. part_of (record { 0 = e.0.0 }) e.1) es
-
 -- what is on the key
 abbrev pub present_in : Indexes → OnKey
-present_in ix = record { initial = ix.initial; parts = parts_in ix.parts.entries }
+present_in ix = record { initial = ix.initial; parts = ix.parts }
 
 -- the indexes are those of what is on the key, which is of a history
 pub record AreIndexes (ix : Indexes) : Type 0 where
   pub history : IsOfHistory (present_in ix)
-  pub parts : IsOrdered spread_cmp ix.parts
   pub timeline : (d : Dated) → Contains ix.timeline d ↔ ((T : Part) × Contains (present_in ix).parts T × (version_of T ≡ Some d))
   pub writes : IsIndexOf writes_of (present_in ix).parts (at_value ix.writes)
-  pub readers : IsIndexOf reads_in (present_in ix).parts (get reader_cmp ix.readers)
-  pub ordered : IsOrdered reader_cmp ix.readers
+  pub readers : IsIndexOf reads_in (present_in ix).parts (own_at ix.readers)
+  pub ordered : AreInOrder ix.readers
 
 -- R has T besides what M has, which has no other transaction of that id
 pub record Joins (T : Part) (M R : OnKey) : Type 0 where
@@ -153,40 +146,9 @@ returned_by initial (Some d) = Some d.1.value
 abbrev pub IsValueBefore : Indexes → Stamp → Option Value → Type 0
 IsValueBefore ix c v = (o : Option Dated) × IsNearestBefore ix.timeline c o × (v ≡ returned_by ix.initial o)
 
--- the stamp is later, if there is one
-abbrev pub IsLaterThan : Option Stamp → Stamp → Type 0
-IsLaterThan None s = ⊤
-IsLaterThan (Some c) s = c.0 < s.0
-
--- the least reader that the bounds let in for reads of a value after the stamp
-abbrev pub least_reader : Option Value → Option Stamp → Bound Reader
-least_reader v None = Included (record { value = v; start = record { 0 = 0 }; txn = record { 0 = 0 }; place = 0 })
-least_reader v (Some c) = Included (record { value = v; start = c; txn = record { 0 = 0 }; place = 0 })
-
--- the least reader of a value beyond n
-abbrev pub least_of : ℕ → Bound Reader
-least_of n = Excluded (record { value = Some (record { 0 = n }); start = record { 0 = 0 }; txn = record { 0 = 0 }; place = 0 })
-
--- where the readers of a greater value begin
-abbrev pub beyond : Option Value → Bound Reader
-beyond None = least_of 0
-beyond (Some v) = if nat_eq v.0 (2 ^ 64 - 1) then Unbounded else least_of (v.0 + 1)
-
--- a read of the value by a reader that started after the stamp
-abbrev pub IsReaderOf : Option Value → Option Stamp → Reader → Type 0
-IsReaderOf v after r = (r.value ≡ v) × IsLaterThan after r.start
-
--- the same as tests
-abbrev pub is_later : Option Stamp → Stamp → Bool
-is_later None s = true
-is_later (Some c) s = nat_lt c.0 s.0
-
-abbrev pub is_reader_of : Option Value → Option Stamp → Reader → Bool
-is_reader_of v after r = option_eq same_value r.value v && is_later after r.start
-
 -- the reads of the value by readers that started after the stamp
 abbrev pub readers_in : Indexes → Option Value → Option Stamp → List (Reader × Option Value)
-readers_in ix v after = filter (λ p. is_reader_of v after p.0) ix.readers.entries
+readers_in ix v after = readers_among ix.readers v after
 
 -- the reads of the version before this one, by readers that started after its commit, if there is one
 abbrev pub AreReadsBefore : Indexes → Option Dated → List (Reader × Option Value) → Type 0
@@ -206,6 +168,6 @@ IsTouchedBy ix T r = ((w : Value) × Writes T w × (r.value ≡ Some w))
 
 -- the reads that P holds of, each once
 pub record AreReadsOf (ix : Indexes) (P : Reader → Type 0) (reads : List (Reader × Option Value)) : Type 0 where
-  pub all : (r : Reader) (own : Option Value) → get reader_cmp ix.readers r ≡ Some own → P r → Contains reads (r, own)
-  pub only : (p : Reader × Option Value) → Contains reads p → (get reader_cmp ix.readers p.0 ≡ Some p.1) × P p.0
+  pub all : (r : Reader) (own : Option Value) → own_at ix.readers r ≡ Some own → P r → Contains reads (r, own)
+  pub only : (p : Reader × Option Value) → Contains reads p → (own_at ix.readers p.0 ≡ Some p.1) × P p.0
   pub once : AllPairs (λ p q. p.0 ≢ q.0) reads

@@ -4,6 +4,7 @@ pub mod Indexes
 pub mod Judges
 pub mod Maps
 pub mod Mending
+pub mod Readers
 pub mod Sights
 pub mod Spread
 pub mod States

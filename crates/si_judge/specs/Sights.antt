@@ -2,6 +2,7 @@
 use Rattle.std.specs.Prelude.{Bool, false, ◌&&◌, if◌then◌else◌, nat_lt, Some, None, Option}
 use Rattle.std.specs.Option.{option_eq}
 use Rattle.si_model.specs.declared.numbers.Stamp.{Stamp}
+use Rattle.si_model.specs.declared.numbers.TxnId.{TxnId}
 use Rattle.si_model.specs.declared.numbers.Value.{Value}
 use Rattle.si_model.specs.declared.sights.VersionId.{VersionId}
 use Rattle.si_model.specs.declared.sights.VersionId.TheVariants as version
@@ -11,6 +12,8 @@ use Rattle.si_model.specs.declared.sights.Sight.{Sight}
 use Rattle.si_model.specs.Operations.{same_value}
 use Rattle.si_model.specs.Edits.{same_id}
 use Rattle.si_model.specs.Reads.{missed_of, version_of}
+use Rattle.si_judge.specs.declared.reads.Fate.{Fate}
+use Rattle.si_judge.specs.declared.reads.Fate.TheVariants as fate
 use Rattle.si_judge.specs.declared.reads.Reader.{Reader}
 use Rattle.si_judge.specs.declared.reads.Write.{Write}
 use Rattle.si_judge.specs.declared.indexes.Indexes.{Indexes}
@@ -27,10 +30,17 @@ abbrev pub write_in : Indexes → Option Value → Option Write
 write_in ix None = None
 write_in ix (Some v) = at_value ix.writes v
 
+-- where a value comes from that the transaction wrote, by what became of the write
+abbrev pub source_told : TxnId → Fate → Source
+source_told u fate.InDoubt = source.InDoubt u
+source_told u fate.Aborted = source.Aborted u
+source_told u fate.Earlier = source.Earlier u
+source_told u (fate.Installed c) = source.Installed u c
+
 -- where a value comes from, by its write, if there is one
 abbrev pub source_with : Option Write → Source
 source_with None = source.Missing
-source_with (Some w) = w.source
+source_with (Some w) = source_told w.txn w.fate
 
 -- where what a read returned comes from, which that write wrote, if there is one
 abbrev pub source_in : Indexes → Option Value → Option Write → Source

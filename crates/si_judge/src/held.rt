@@ -1,21 +1,21 @@
 //! What a transaction does on a key, as it is held under the transaction's id.
 
-ghost use Rattle.std.specs.Prelude.{◌≡◌, ◌∷◌, [], IfOk};
+ghost use Rattle.std.specs.Prelude.{◌≡◌, ◌∷◌, [], IfOk, IfSome};
 ghost use Rattle.si_judge.specs.Held.{accesses_in, part_of};
 
 use si_model::{Access, Accesses, OutOfMemory, Part, Placed, Stamp, Status, TxnId, Value};
 use std::alloc::Global;
 
-/// The accesses of one key by one transaction. One access, as most are, takes three words.
+/// The accesses of one key by one transaction. One access, as most are, takes two words.
 #[derive(Drop)]
 pub enum HeldAccesses {
     /// One read, at that place, which returned `null`.
-    Null(usize),
+    Null(u32),
     /// One read, which returned the value.
-    Read(usize, Value),
+    Read(u32, Value),
     /// One write of the value.
-    Write(usize, Value),
-    /// Any others.
+    Write(u32, Value),
+    /// Any others, and one at a place beyond.
     Many(Box<Accesses>),
 }
 
@@ -56,19 +56,23 @@ fn held_accesses(alloc: Global, accesses: Accesses) -> Result<HeldAccesses, OutO
     ensures { IfOk result (λ held. accesses_in held ≡ accesses) }
 {
     if let [placed] = accesses.as_slice() {
-        return Ok(held_access(*placed));
+        if let Some(held) = held_access(*placed) {
+            return Ok(held);
+        }
     }
     Ok(HeldAccesses::Many(Box::new(alloc, accesses)?))
 }
 
-fn held_access(placed: Placed) -> HeldAccesses
-    ensures { accesses_in result ≡ placed ∷ [] }
+/// The access, if its place is in reach.
+fn held_access(placed: Placed) -> Option<HeldAccesses>
+    ensures { IfSome result (λ held. accesses_in held ≡ placed ∷ []) }
 {
-    match placed.access {
-        Access::Read(None) => HeldAccesses::Null(placed.place),
-        Access::Read(Some(value)) => HeldAccesses::Read(placed.place, value),
-        Access::Write(value) => HeldAccesses::Write(placed.place, value),
-    }
+    let place = u32::try_from(placed.place).ok()?;
+    Some(match placed.access {
+        Access::Read(None) => HeldAccesses::Null(place),
+        Access::Read(Some(value)) => HeldAccesses::Read(place, value),
+        Access::Write(value) => HeldAccesses::Write(place, value),
+    })
 }
 
 fn accesses_in(alloc: Global, held: HeldAccesses) -> Result<Accesses, OutOfMemory>
@@ -82,10 +86,13 @@ fn accesses_in(alloc: Global, held: HeldAccesses) -> Result<Accesses, OutOfMemor
     }
 }
 
-fn one_access(alloc: Global, place: usize, access: Access) -> Result<Accesses, OutOfMemory>
+fn one_access(alloc: Global, place: u32, access: Access) -> Result<Accesses, OutOfMemory>
     ensures { IfOk result (λ accesses. accesses ≡ record { place = place; access = access } ∷ []) }
 {
     let mut accesses = Accesses::new(alloc);
-    accesses.push(Placed { place, access })?;
+    accesses.push(Placed {
+        place: place as usize,
+        access,
+    })?;
     Ok(accesses)
 }

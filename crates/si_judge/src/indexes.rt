@@ -6,12 +6,13 @@ ghost use Rattle.si_model.specs.declared.parts.Part.{Part};
 ghost use Rattle.si_model.specs.Versions.{next_after};
 ghost use Rattle.si_model.specs.Reads.{missed_of};
 ghost use Rattle.si_model.specs.Reads.{version_of as version_read};
-ghost use Rattle.si_judge.specs.Indexes.{AddsVersion, AreIndexes, Fits, HasVersion, IsValueBefore, Joins, LacksVersion, RemovesVersion, beyond, is_later, is_reader_of, least_reader, readers_in, present_in, reads_in, version_of, writes_of};
+ghost use Rattle.si_judge.specs.Indexes.{AddsVersion, AreIndexes, Fits, HasVersion, IsValueBefore, Joins, LacksVersion, RemovesVersion, readers_in, present_in, reads_in, version_of, writes_of};
 ghost use Rattle.si_judge.specs.Sights.{is_later_write, sight_in, source_in, stamp_of, write_in};
 ghost use Rattle.si_judge.specs.Mending.{installer};
 
-use crate::held::Held;
-use crate::maps::{insert_all, insert_writes, remove_all, remove_writes};
+use crate::maps::{insert_writes, remove_writes};
+use crate::parts::Parts;
+use crate::readers::Readers;
 use crate::reads::{OwnRead, Reader, Write, reads_in, version_of, writes_of};
 use crate::spread::Spread;
 use si_model::reads::{if_before, version_of as version_read};
@@ -19,20 +20,19 @@ use si_model::{Installer, OutOfMemory, Part, Sight, Source, Stamp, TxnId, Value,
 use si_timeline::{Timeline, Version};
 use std::alloc::Global;
 use std::collections::BTreeMap;
-use std::ops::Bound;
 
 /// What is on a key: the transactions by their ids, and what is looked for in them.
 #[derive(Drop)]
 pub struct Indexes {
     /// What the initial version returns.
     pub initial: Option<Value>,
-    pub parts: BTreeMap<Spread, Held>,
+    pub parts: Parts,
     /// The installed versions.
     pub timeline: Timeline,
     /// The writes of all transactions, by their values.
     pub writes: BTreeMap<Spread, Write>,
     /// The reads of the committed transactions, each with its transaction's own value there.
-    pub readers: BTreeMap<Reader, Option<Value>>,
+    pub readers: Readers,
 }
 
 /// A transaction that was taken out, with its reads and writes.
@@ -50,10 +50,10 @@ impl Indexes {
     {
         Indexes {
             initial: None,
-            parts: BTreeMap::new(alloc),
+            parts: Parts::new(alloc),
             timeline: Timeline::new(alloc),
             writes: BTreeMap::new(alloc),
-            readers: BTreeMap::new(alloc),
+            readers: Readers::new(alloc),
         }
     }
 
@@ -73,11 +73,9 @@ impl Indexes {
         ensures joined { OnOk result (Joins part (present_in self.old) (present_in self.new)) }
     {
         insert_writes(&mut self.writes, writes)?;
-        insert_all(&mut self.readers, reads)?;
+        self.readers.insert_all(reads)?;
         add_version(&mut self.timeline, &part)?;
-        let id = part.id;
-        let held = Held::of(alloc, part)?;
-        self.parts.insert(Spread(id.0), held)?;
+        self.parts.insert(alloc, part)?;
         Ok(())
     }
 
@@ -91,14 +89,11 @@ impl Indexes {
         ensures writes { IfOk result (λ taken. taken.writes.items ≡ writes_of taken.part) }
         ensures id { IfOk result (λ taken. taken.part.id ≡ id) }
     {
-        let Some(held) = self.parts.remove(&Spread(id.0)) else {
-            unreachable!();
-        };
-        let part = held.part(alloc, id)?;
+        let part = self.parts.remove(alloc, id)?;
         let reads = reads_in(alloc, &part)?;
         let writes = writes_of(alloc, &part)?;
         remove_writes(&mut self.writes, writes.as_slice());
-        remove_all(&mut self.readers, reads.as_slice());
+        self.readers.remove_all(reads.as_slice());
         remove_version(&mut self.timeline, &part);
         Ok(TakenOut {
             part,
@@ -116,13 +111,7 @@ impl Indexes {
     ) -> Result<(), OutOfMemory>
         ensures { OnOk result (reads.new.items ≡ reads.old.items ++ readers_in self.now value after) }
     {
-        let range = (least_reader(value, after), beyond(value));
-        for (reader, own) in self.readers.range(range) {
-            if is_reader_of(value, after, *reader) {
-                reads.push((*reader, *own))?;
-            }
-        }
-        Ok(())
+        self.readers.add_to(reads, value, after)
     }
 
     /// What a read of the version returns that stands before all that were installed at the stamp or later.
@@ -184,7 +173,7 @@ impl Indexes {
         }
         match write {
             None => Source::Missing,
-            Some(write) => write.source,
+            Some(write) => write.source(),
         }
     }
 
@@ -246,53 +235,5 @@ pub fn installer(commit: Stamp, version: Version) -> Installer
         txn: version.writer,
         start: version.start,
         commit,
-    }
-}
-
-fn least_reader(value: Option<Value>, after: Option<Stamp>) -> Bound<Reader>
-    ensures { result ≡ least_reader value after }
-{
-    let start = match after {
-        Some(stamp) => stamp,
-        None => Stamp(0),
-    };
-    Bound::Included(Reader {
-        value,
-        start,
-        txn: TxnId(0),
-        place: 0,
-    })
-}
-
-/// Where the readers begin that returned a greater value.
-fn beyond(value: Option<Value>) -> Bound<Reader>
-    ensures { result ≡ beyond value }
-{
-    let next = match value {
-        None => Value(0),
-        Some(Value(u64::MAX)) => return Bound::Unbounded,
-        Some(Value(value)) => Value(value + 1),
-    };
-    Bound::Excluded(Reader {
-        value: Some(next),
-        start: Stamp(0),
-        txn: TxnId(0),
-        place: 0,
-    })
-}
-
-/// Whether it is a read of the value by a reader that started after the stamp, if there is one.
-fn is_reader_of(value: Option<Value>, after: Option<Stamp>, reader: Reader) -> bool
-    ensures { result ≡ is_reader_of value after reader }
-{
-    reader.value == value && is_later(after, reader.start)
-}
-
-fn is_later(after: Option<Stamp>, start: Stamp) -> bool
-    ensures { result ≡ is_later after start }
-{
-    match after {
-        Some(stamp) => stamp < start,
-        None => true,
     }
 }

@@ -10,6 +10,8 @@ mod judgements;
 pub mod judges;
 pub mod laws;
 mod maps;
+mod parts;
+mod readers;
 mod reads;
 mod spread;
 pub mod states;

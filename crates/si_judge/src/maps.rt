@@ -1,7 +1,7 @@
 //! Many entries at once, put into a map or taken out.
 
 ghost use Rattle.std.specs.Prelude.{OnOk, Some, None};
-ghost use Rattle.std.specs.BTreeMap.{get, IsOrdered, Updates};
+ghost use Rattle.std.specs.BTreeMap.{Updates};
 ghost use Rattle.std.specs.Ordering.{eq_by_cmp};
 ghost use Rattle.si_judge.specs.Maps.{AreInserted, AreTakenOut, SetsValue};
 ghost use Rattle.si_judge.specs.Spread.{at_value, value_cmp};
@@ -10,33 +10,6 @@ use crate::reads::Write;
 use crate::spread::Spread;
 use si_model::{OutOfMemory, Value};
 use std::collections::BTreeMap;
-
-/// Puts the entries in.
-pub fn insert_all<K: Ord + Copy + Drop, V: Copy + Drop>(
-    map: &mut BTreeMap<K, V>,
-    entries: &[(K, V)],
-) -> Result<(), OutOfMemory>
-    ensures values { OnOk result (AreInserted (eq_by_cmp K.cmp) (get K.cmp map.old) entries.now (get K.cmp map.new)) }
-    ensures ordered { OnOk result (IsOrdered K.cmp map.old → IsOrdered K.cmp map.new) }
-{
-    for entry in entries {
-        map.insert(entry.0, entry.1)?;
-    }
-    Ok(())
-}
-
-/// Takes the entries out that stand under these keys.
-pub fn remove_all<K: Ord + Copy + Drop, V: Copy + Drop>(
-    map: &mut BTreeMap<K, V>,
-    entries: &[(K, V)],
-)
-    ensures values { AreTakenOut (eq_by_cmp K.cmp) (get K.cmp map.old) entries.now (get K.cmp map.new) }
-    ensures ordered { IsOrdered K.cmp map.old → IsOrdered K.cmp map.new }
-{
-    for entry in entries {
-        map.remove(&entry.0);
-    }
-}
 
 /// Puts the writes in, each under the number of its value.
 pub fn insert_writes(

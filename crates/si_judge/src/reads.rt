@@ -2,9 +2,10 @@
 
 ghost use Rattle.std.specs.Prelude.{◌≡◌, ◌<◌, IfOk, None, length};
 ghost use Rattle.std.specs.List.{AllPairs};
-ghost use Rattle.si_judge.specs.Indexes.{read_at, reads_of, reads_in, write_at, writes_of, version_of};
+ghost use Rattle.si_judge.specs.Indexes.{fate_of, read_at, reads_of, reads_in, write_at, writes_of, version_of};
 ghost use Rattle.si_model.specs.Versions.{last_write};
-ghost use Rattle.si_model.specs.Reads.{own_value, source_by};
+ghost use Rattle.si_model.specs.Reads.{own_value};
+ghost use Rattle.si_judge.specs.Sights.{source_told};
 
 use si_model::versions::last_write;
 use si_model::{Access, OutOfMemory, Part, Placed, Source, Stamp, Status, TxnId, Value};
@@ -25,14 +26,40 @@ pub struct Reader {
 /// A read, and its transaction's own value there.
 pub type OwnRead = (Reader, Option<Value>);
 
+/// What became of a write.
+#[derive(Clone, Copy, Debug, PartialEq, Eq)]
+pub enum Fate {
+    /// Its transaction is in doubt.
+    InDoubt,
+    /// Its transaction aborted.
+    Aborted,
+    /// Its transaction is committed, and wrote the key again.
+    Earlier,
+    /// It installed a version with that commit stamp.
+    Installed(Stamp),
+}
+
 /// The write of a value.
 #[derive(Clone, Copy, Debug, PartialEq, Eq)]
 pub struct Write {
     pub txn: TxnId,
     /// The place of the write among the transaction's operations.
     pub place: usize,
-    /// Where a read of the value comes from, by what became of the transaction and whether it writes the value last.
-    pub source: Source,
+    pub fate: Fate,
+}
+
+impl Write {
+    /// Where a read of the value comes from.
+    pub fn source(self) -> Source
+        ensures { result ≡ source_told self.txn self.fate }
+    {
+        match self.fate {
+            Fate::InDoubt => Source::InDoubt(self.txn),
+            Fate::Aborted => Source::Aborted(self.txn),
+            Fate::Earlier => Source::Earlier(self.txn),
+            Fate::Installed(commit) => Source::Installed(self.txn, commit),
+        }
+    }
 }
 
 /// The reads of the transaction if it is committed, and else none.
@@ -107,21 +134,20 @@ fn write_at(part: &Part, last: Option<Value>, placed: Placed) -> Option<(Value, 
         Write {
             txn: part.id,
             place: placed.place,
-            source: source_by(part, last, value),
+            fate: fate_of(part.status, last, value),
         },
     ))
 }
 
-/// Where a read of the value comes from that the transaction writes, which writes `last` last.
-fn source_by(part: &Part, last: Option<Value>, value: Value) -> Source
-    requires { last ≡ last_write part.now.accesses }
-    ensures { result ≡ source_by part.now value part.now.status }
+/// What became of a write of the value by a transaction with that status, which writes `last` last.
+fn fate_of(status: Status, last: Option<Value>, value: Value) -> Fate
+    ensures { result ≡ fate_of status last value }
 {
-    match part.status {
-        Status::Aborted => Source::Aborted(part.id),
-        Status::InDoubt => Source::InDoubt(part.id),
-        Status::Committed(commit) if last == Some(value) => Source::Installed(part.id, commit),
-        Status::Committed(_) => Source::Earlier(part.id),
+    match status {
+        Status::Aborted => Fate::Aborted,
+        Status::InDoubt => Fate::InDoubt,
+        Status::Committed(commit) if last == Some(value) => Fate::Installed(commit),
+        Status::Committed(_) => Fate::Earlier,
     }
 }
 

@@ -1,24 +1,24 @@
 use Rattle.std.proofs.Common.{refl, subst}
-use Rattle.std.specs.BTreeMap.{get}
 use Rattle.std.specs.Ordering.{eq_by_cmp}
 use Rattle.si_judge.specs.declared.indexes.Indexes.{Indexes}
 use Rattle.si_judge.specs.Maps.{AreInserted}
 use Rattle.si_judge.specs.Spread.{at_value, value_cmp}
-use Rattle.si_judge.specs.Indexes.{AreIndexes, Joins, present_in, reader_cmp}
+use Rattle.si_judge.specs.Indexes.{AreIndexes, Joins, present_in}
+use Rattle.si_judge.specs.Readers.{reader_cmp, own_at}
 use Rattle.si_judge.proofs.Coming.{came, lacks_version}
 use Rattle.si_judge.proofs.indexes.Indexes.put_in.Goals as goal
 
 pub add_version-requires : goal.add_version-requires
 add_version-requires c = lacks_version c.args.self.now c.args.part c.requires.indexes c.requires.fits
 
-after : goal.Joined-branch-6 → Indexes
-after c = record { initial = c.args.self.now.initial; parts = c.insert.new.self; timeline = c.add_version.new.timeline; writes = c.insert_writes.new.map; readers = c.insert_all.new.map }
+after : goal.In_ok-insert → Indexes
+after c = record { initial = c.args.self.now.initial; parts = c.insert.new.self; timeline = c.add_version.new.timeline; writes = c.insert_writes.new.map; readers = c.insert_all.new.self }
 
-whole : (c : goal.Joined-branch-6) → AreIndexes (after c) × Joins c.args.part (present_in c.args.self.now) (present_in (after c))
+whole : (c : goal.In_ok-insert) → AreIndexes (after c) × Joins c.args.part (present_in c.args.self.now) (present_in (after c))
 unfolding after
-whole c = came c.args.self.now (after c) c.args.part c.requires.indexes c.requires.fits refl c.in_ok-held.held c.in_ok-held.ensures (c.in_ok-insert.ensures.updates.0) (c.in_ok-insert.ensures.ordered)
+whole c = came c.args.self.now (after c) c.args.part c.requires.indexes c.requires.fits refl c.in_ok-insert.ensures
     (subst (λ l. AreInserted (eq_by_cmp value_cmp) (at_value c.args.self.now.writes) l (at_value c.insert_writes.new.map)) c.requires.writes c.in_ok-insert_writes.ensures)
-    (subst (λ l. AreInserted (eq_by_cmp reader_cmp) (get reader_cmp c.args.self.now.readers) l (get reader_cmp c.insert_all.new.map)) c.requires.reads c.in_ok-insert_all.ensures.values)
+    (subst (λ l. AreInserted (eq_by_cmp reader_cmp) (own_at c.args.self.now.readers) l (own_at c.insert_all.new.self)) c.requires.reads c.in_ok-insert_all.ensures.values)
     c.in_ok-add_version.ensures (c.in_ok-insert_all.ensures.ordered c.requires.indexes.ordered)
 
 pub returns-clause-indexes : goal.returns-clause-indexes

@@ -1,0 +1,74 @@
+-- The reads of a key's committed transactions. All of it is this project's choice.
+use Rattle.std.specs.Prelude.{◌≡◌, ℕ, ◌<◌, ◌+◌, ◌-◌, ◌^◌, Bool, true, ◌&&◌, if◌then◌else◌, nat_eq, nat_lt, List, map, Some, None, Option, ⊤}
+use Rattle.std.specs.BTreeMap.{is_at}
+use Rattle.std.specs.List.{filter}
+use Rattle.std.specs.List.Sorted.{IsStrictlySortedBy}
+use Rattle.std.specs.Map.{keys_of, lookup, update}
+use Rattle.std.specs.Option.{option_cmp, option_eq}
+use Rattle.std.specs.Ordering.{eq_by_cmp, nat_cmp, ordering_then}
+use Rattle.std.specs.declared.cmp.Ordering.{Ordering}
+use Rattle.std.specs.declared.ops.Bound.{Bound}
+use Rattle.std.specs.declared.ops.Bound.TheVariants.{Included, Excluded, Unbounded}
+use Rattle.si_model.specs.declared.numbers.Stamp.{Stamp}
+use Rattle.si_model.specs.declared.numbers.Value.{Value}
+use Rattle.si_model.specs.Operations.{same_value}
+use Rattle.si_judge.specs.Spread.{value_cmp}
+use Rattle.si_judge.specs.declared.reads.Reader.{Reader}
+
+-- readers in their order
+abbrev pub reader_cmp : Reader → Reader → Ordering
+reader_cmp r s = ordering_then (option_cmp value_cmp r.value s.value)
+    (ordering_then (nat_cmp r.start.0 s.start.0) (ordering_then (nat_cmp r.txn.0 s.txn.0) (nat_cmp r.place s.place)))
+
+-- the readers, each with what f says of it
+abbrev pub with_own : (Reader → Option Value) → List Reader → List (Reader × Option Value)
+with_own f rs = map (λ r. (r, f r)) rs
+
+-- what stands beside the reader: its transaction's own value there, if it has one
+abbrev pub own_at : List (Reader × Option Value) → Reader → Option (Option Value)
+own_at es r = lookup (is_at (reader_cmp r)) es
+
+-- each reader stands once, in order
+abbrev pub AreInOrder : List (Reader × Option Value) → Type 0
+AreInOrder es = IsStrictlySortedBy reader_cmp (keys_of es)
+
+-- o stands beside the reader afterwards, and all else as before
+abbrev pub SetsOwn : Reader → Option (Option Value) → List (Reader × Option Value) → List (Reader × Option Value) → Type 0
+SetsOwn r o old new = (q : Reader) → own_at new q ≡ update (eq_by_cmp reader_cmp) (own_at old) r o q
+
+-- ---- the reads of a value
+
+-- the stamp is later, if there is one
+abbrev pub IsLaterThan : Option Stamp → Stamp → Type 0
+IsLaterThan None s = ⊤
+IsLaterThan (Some c) s = c.0 < s.0
+
+-- the least reader that the bounds let in for reads of a value after the stamp
+abbrev pub least_reader : Option Value → Option Stamp → Bound Reader
+least_reader v None = Included (record { value = v; start = record { 0 = 0 }; txn = record { 0 = 0 }; place = 0 })
+least_reader v (Some c) = Included (record { value = v; start = c; txn = record { 0 = 0 }; place = 0 })
+
+-- the least reader of a value beyond n
+abbrev pub least_of : ℕ → Bound Reader
+least_of n = Excluded (record { value = Some (record { 0 = n }); start = record { 0 = 0 }; txn = record { 0 = 0 }; place = 0 })
+
+-- where the readers of a greater value begin
+abbrev pub beyond : Option Value → Bound Reader
+beyond None = least_of 0
+beyond (Some v) = if nat_eq v.0 (2 ^ 64 - 1) then Unbounded else least_of (v.0 + 1)
+
+-- a read of the value by a reader that started after the stamp
+abbrev pub IsReaderOf : Option Value → Option Stamp → Reader → Type 0
+IsReaderOf v after r = (r.value ≡ v) × IsLaterThan after r.start
+
+-- the same as tests
+abbrev pub is_later : Option Stamp → Stamp → Bool
+is_later None s = true
+is_later (Some c) s = nat_lt c.0 s.0
+
+abbrev pub is_reader_of : Option Value → Option Stamp → Reader → Bool
+is_reader_of v after r = option_eq same_value r.value v && is_later after r.start
+
+-- those among the readers that returned the value and started after the stamp
+abbrev pub readers_among : List (Reader × Option Value) → Option Value → Option Stamp → List (Reader × Option Value)
+readers_among es v after = filter (λ p. is_reader_of v after p.0) es

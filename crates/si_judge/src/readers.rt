@@ -1,0 +1,177 @@
+//! The reads of a key's committed transactions, found by what they returned.
+
+ghost use Rattle.std.specs.Prelude.{◌≡◌, ◌++◌, None, OnOk, Some};
+ghost use Rattle.std.specs.BTreeMap.{get};
+ghost use Rattle.std.specs.Ordering.{eq_by_cmp};
+ghost use Rattle.si_judge.specs.Maps.{AreInserted, AreTakenOut};
+ghost use Rattle.si_judge.specs.Readers.{AreInOrder, SetsOwn, beyond, is_later, is_reader_of, least_reader, own_at, reader_cmp, readers_among, with_own};
+
+use crate::maps::put;
+use crate::reads::{OwnRead, Reader};
+use si_model::{OutOfMemory, Stamp, TxnId, Value};
+use std::alloc::Global;
+use std::collections::{BTreeMap, BTreeSet};
+use std::marker::Model;
+use std::ops::Bound;
+
+/// The reads of the committed transactions of a key, each with its transaction's own value there, if it has one.
+///
+/// Contracts see the list of pairs, in the order of readers.
+#[derive(Drop)]
+pub struct Readers {
+    all: BTreeSet<Reader>,
+    // Few have a value of their own, and the others take no room for one.
+    own: BTreeMap<Reader, Value>,
+}
+
+impl Model for Readers {
+    ghost use Rattle.std.specs.Prelude.{List, Option};
+    ghost use Rattle.std.specs.BTreeMap.{get};
+    ghost use Rattle.si_model.specs.declared.numbers.Value.{Value as Written};
+    ghost use Rattle.si_judge.specs.Readers.{reader_cmp, with_own};
+    ghost use Rattle.si_judge.specs.declared.reads.Reader.{Reader};
+
+    ghost Value = { List (Reader × Option Written) };
+
+    ghost view = { λ s. with_own (get reader_cmp s.own) s.all.keys };
+}
+
+impl Readers {
+    ghost use Rattle.std.specs.Prelude.{[]};
+
+    /// No read.
+    pub fn new(alloc: Global) -> Self
+        ensures { result ≡ [] }
+    {
+        Readers {
+            all: BTreeSet::new(alloc),
+            own: BTreeMap::new(alloc),
+        }
+    }
+
+    /// Puts the reads in.
+    pub fn insert_all(&mut self, reads: &[OwnRead]) -> Result<(), OutOfMemory>
+        ensures values { OnOk result (AreInserted (eq_by_cmp reader_cmp) (own_at self.old) reads.now (own_at self.new)) }
+        ensures ordered { OnOk result (AreInOrder self.old → AreInOrder self.new) }
+    {
+        for read in reads {
+            self.insert(read.0, read.1)?;
+        }
+        Ok(())
+    }
+
+    fn insert(&mut self, reader: Reader, own: Option<Value>) -> Result<(), OutOfMemory>
+        ensures value { OnOk result (SetsOwn reader (Some own) self.old self.new) }
+        ensures ordered { OnOk result (AreInOrder self.new) }
+    {
+        self.all.insert(reader)?;
+        put(&mut self.own, reader, own)?;
+        Ok(())
+    }
+
+    /// Takes the reads out.
+    pub fn remove_all(&mut self, reads: &[OwnRead])
+        ensures values { AreTakenOut (eq_by_cmp reader_cmp) (own_at self.old) reads.now (own_at self.new) }
+        ensures ordered { AreInOrder self.old → AreInOrder self.new }
+    {
+        for read in reads {
+            self.remove(read.0);
+        }
+    }
+
+    fn remove(&mut self, reader: Reader)
+        ensures value { SetsOwn reader None self.old self.new }
+        ensures ordered { AreInOrder self.new }
+    {
+        self.all.remove(&reader);
+        self.own.remove(&reader);
+    }
+
+    /// Adds the reads that returned the value, by readers that started after the stamp, if there is one.
+    pub fn add_to(
+        &self,
+        reads: &mut Vec<OwnRead>,
+        value: Option<Value>,
+        after: Option<Stamp>,
+    ) -> Result<(), OutOfMemory>
+        ensures { OnOk result (reads.new.items ≡ reads.old.items ++ readers_among self.now value after) }
+    {
+        add_readers(&self.all, &self.own, reads, value, after)
+    }
+}
+
+/// Adds those among all, each with what it has of its own.
+fn add_readers(
+    all: &BTreeSet<Reader>,
+    own: &BTreeMap<Reader, Value>,
+    reads: &mut Vec<OwnRead>,
+    value: Option<Value>,
+    after: Option<Stamp>,
+) -> Result<(), OutOfMemory>
+    ensures { OnOk result (reads.new.items ≡ reads.old.items ++ readers_among (with_own (get reader_cmp own.now) all.now.keys) value after) }
+{
+    let range = (least_reader(value, after), beyond(value));
+    for reader in all.range(range) {
+        if is_reader_of(value, after, *reader) {
+            reads.push((*reader, own_value(own, reader)))?;
+        }
+    }
+    Ok(())
+}
+
+fn own_value(own: &BTreeMap<Reader, Value>, reader: &Reader) -> Option<Value>
+    ensures { result ≡ get reader_cmp own.now reader.now }
+{
+    match own.get(reader) {
+        Some(value) => Some(*value),
+        None => None,
+    }
+}
+
+fn least_reader(value: Option<Value>, after: Option<Stamp>) -> Bound<Reader>
+    ensures { result ≡ least_reader value after }
+{
+    let start = match after {
+        Some(stamp) => stamp,
+        None => Stamp(0),
+    };
+    Bound::Included(Reader {
+        value,
+        start,
+        txn: TxnId(0),
+        place: 0,
+    })
+}
+
+/// Where the readers begin that returned a greater value.
+fn beyond(value: Option<Value>) -> Bound<Reader>
+    ensures { result ≡ beyond value }
+{
+    let next = match value {
+        None => Value(0),
+        Some(Value(u64::MAX)) => return Bound::Unbounded,
+        Some(Value(value)) => Value(value + 1),
+    };
+    Bound::Excluded(Reader {
+        value: Some(next),
+        start: Stamp(0),
+        txn: TxnId(0),
+        place: 0,
+    })
+}
+
+/// Whether it is a read of the value by a reader that started after the stamp, if there is one.
+fn is_reader_of(value: Option<Value>, after: Option<Stamp>, reader: Reader) -> bool
+    ensures { result ≡ is_reader_of value after reader }
+{
+    reader.value == value && is_later(after, reader.start)
+}
+
+fn is_later(after: Option<Stamp>, start: Stamp) -> bool
+    ensures { result ≡ is_later after start }
+{
+    match after {
+        Some(stamp) => stamp < start,
+        None => true,
+    }
+}
