@@ -1,15 +1,12 @@
 -- The reads that are gathered are those that a transaction touches, each once.
 use Rattle.std.proofs.Common.{◌≡◌, ◌≢◌, ◌∙◌, ◌⊎◌, inl, inr, ◌↔◌, ℕ, ◌<◌, true, List, [], ◌∷◌, ◌++◌, Option, Some, None, refl, sym, ap, subst, arith}
 use Rattle.std.specs.BTreeMap.{is_at}
-use Rattle.std.specs.Cmp.{IsTotalOrder}
-use Rattle.std.specs.Cmp.Lexicographic.{options_total}
 use Rattle.std.specs.List.{AllByRecursion, AllPairs, Contains, flat_map}
 use Rattle.std.specs.List.Sorted.{IsStrictlySortedBy}
 use Rattle.std.specs.Map.{keys_of}
 use Rattle.std.specs.Ordering.{is_eq}
 use Rattle.std.specs.declared.cmp.Ordering.TheVariants.{Less}
 use Rattle.std.proofs.Common.{true≢false}
-use Rattle.std.proofs.lemmas.Cmp.{nat_cmp_total, on_total, then_total}
 use Rattle.std.proofs.lemmas.Bool.{and_parts, and_from, ltb-true, lt-ltb}
 use Rattle.std.proofs.lemmas.List.Elements.{Contains-append_cases, Contains-append_left, Contains-append_right}
 use Rattle.std.proofs.lemmas.List.Kept.{AllPairs-filter}
@@ -39,10 +36,6 @@ use Rattle.si_judge.proofs.IndexEdits.{no_value}
 use Rattle.si_judge.proofs.Orders.{reader_decides}
 use Rattle.si_judge.proofs.ReaderLists.{stands_beside}
 use Rattle.si_judge.proofs.PartLists.{read_from, version_from, version_installs, write_from, write_to}
-
-reader_total : IsTotalOrder reader_cmp
-reader_total = then_total (on_total (λ (r : Reader). r.value) (options_total (on_total (λ (v : Value). v.0) nat_cmp_total)))
-    (then_total (on_total (λ (r : Reader). r.start.0) nat_cmp_total) (then_total (on_total (λ (r : Reader). r.txn.0) nat_cmp_total) (on_total (λ (r : Reader). r.place) nat_cmp_total)))
 
 -- ---- the readers of a value
 
