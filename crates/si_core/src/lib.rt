@@ -11,6 +11,3 @@ pub mod worlds;
 
 pub use steps::{Reply, Step, WorldFault};
 pub use worlds::World;
-
-#[cfg(test)]
-mod tests;

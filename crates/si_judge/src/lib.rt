@@ -18,6 +18,3 @@ pub mod states;
 
 pub use judges::{Cases, Judge};
 pub use states::{KeyFault, KeyState};
-
-#[cfg(test)]
-mod tests;

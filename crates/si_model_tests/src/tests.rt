@@ -8,7 +8,6 @@ mod histories;
 mod large;
 mod refusals;
 mod refused_memory;
-mod scripts;
 mod values;
 
 use std::alloc::AllocGlobal;

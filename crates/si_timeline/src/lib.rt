@@ -9,6 +9,3 @@ pub mod versions;
 
 pub use timelines::Timeline;
 pub use versions::Version;
-
-#[cfg(test)]
-mod tests;

@@ -21,6 +21,3 @@ pub mod words;
 
 pub use seats::{BookSeat, Pass, ShardSeat};
 pub use words::Words;
-
-#[cfg(test)]
-mod tests;

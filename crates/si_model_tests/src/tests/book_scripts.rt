@@ -1,9 +1,9 @@
 //! What a book answers to edits that are written as text.
 
-use super::scripts::{asked, edit_of};
 use super::*;
 use si_accept::{AcceptFault, Book};
 use si_model::{Edit, MOST_EDITS, Number, TxnId};
+use si_scripts::{asked, edit_of};
 use std::hash::RandomState;
 use std::random::RandomSource;
 

@@ -1,7 +1,6 @@
 //! What a book answers to edits that were worked out by hand, and beside the plain program.
 
 use super::book_scripts::{accept, answers};
-use super::scripts::{key, ops_of};
 use super::*;
 use si_accept::{AcceptFault, Book};
 use si_model::plain::{Walked, change};
@@ -9,6 +8,7 @@ use si_model::{
     Edit, Key, MOST_EDITS, Number, Op, Ops, Outcome, Refusal, Stamp, Status, Txn, TxnId, Value,
     refusal_on,
 };
+use si_scripts::{key, next_number, ops_of};
 use std::alloc::Global;
 use std::hash::RandomState;
 
@@ -177,13 +177,6 @@ fn many_operations_are_compared_too(rt: HostRuntime) -> Result<(), Fail> {
     answers(&rt, MOST_EDITS, &script)
 }
 
-/// The next of a row of numbers that look random (Knuth's linear congruential generator).
-fn next_number(state: u64) -> u64 {
-    state
-        .wrapping_mul(6_364_136_223_846_793_005)
-        .wrapping_add(1_442_695_040_888_963_407)
-}
-
 fn some_status(state: u64, commit: u64) -> Status {
     match (state >> 32) % 4 {
         0 => Status::InDoubt,
@@ -200,18 +193,18 @@ fn some_outcome(state: u64, commit: u64) -> Outcome {
 }
 
 /// No operations, or three writes.
-fn some_ops(rt: &(impl Abort + AllocGlobal), state: u64, none: bool) -> Result<Ops, Fail> {
+fn some_ops(rt: &impl AllocGlobal, state: u64, none: bool) -> Result<Ops, Fail> {
     let mut ops = Vec::new(rt.alloc());
     if !none {
         for (text, bits) in [("x", 36), ("y", 42), ("x", 48)] {
             ops.push(Op::Write(key(rt, text)?, Value((state >> bits) % 100)))?;
         }
     }
-    ops_of(rt, ops)
+    Ok(ops_of(ops)?)
 }
 
 /// Some edit among few ids, stamps, keys and values, so that each reason comes up.
-fn some_edit(rt: &(impl Abort + AllocGlobal), state: u64) -> Result<Edit, Fail> {
+fn some_edit(rt: &impl AllocGlobal, state: u64) -> Result<Edit, Fail> {
     let id = TxnId((state >> 8) % 24);
     let commit = (state >> 24) % 150;
     let few = (state >> 52) % 4 == 0;

@@ -4,12 +4,12 @@ ghost use Rattle.std.specs.Prelude.{IsTrue};
 ghost use Rattle.si_model.specs.Parts.{Present};
 ghost use Rattle.si_model.specs.History.{IsHistory};
 
-use super::scripts::{History, key, present};
 use super::*;
 use si_graph::{ExplainFault, check_evidence, explain};
 use si_model::{
     Edge, Evidence, Finding, Key, Kind, Label, Txn, TxnId, Value, Walk, findings_of, is_history,
 };
+use si_scripts::{History, key, present};
 
 fn number(word: Option<&str>) -> Result<u64, Fail> {
     Ok(word.ok_or("a number is wanted")?.parse::<u64>()?)

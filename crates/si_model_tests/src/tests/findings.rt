@@ -1,8 +1,8 @@
 //! Histories with their findings. What the program's own rows have doesn't stand here once more.
 
-use super::scripts::{present, trimmed};
 use super::*;
 use si_model::{Key, Txn, Value, findings_of, is_history};
+use si_scripts::{present, trimmed};
 
 /// The findings of a history, a line for each.
 fn found(

@@ -1,8 +1,8 @@
 //! What is a history, and what isn't.
 
-use super::scripts::present;
 use super::*;
 use si_model::is_history;
+use si_scripts::present;
 
 /// Whether the lines are a history, in whatever order the transactions come.
 fn is_one(rt: &(impl Abort + AllocGlobal), lines: &str) -> Result<bool, Fail> {

@@ -1,9 +1,9 @@
 //! The slow program, once over hundreds of transactions and of findings.
 
 use super::evidence::explained;
-use super::scripts::present;
 use super::*;
 use si_model::{Kind, TxnId, findings_of, is_history};
+use si_scripts::present;
 
 /// 200 pairs of transactions that run at the same time, each pair on a key of its own, to which both write.
 fn lost_updates(rt: &impl AllocGlobal) -> Result<String, Fail> {

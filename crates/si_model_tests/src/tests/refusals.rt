@@ -1,9 +1,9 @@
 //! The plain program of acceptance: what it answers to edits, and what is present then.
 
-use super::scripts::{History, asked, edit_of, present};
 use super::*;
 use si_model::plain::{Walked, change};
 use si_model::{Edit, refusal_on};
+use si_scripts::{History, asked, edit_of, present};
 
 /// `accepted`, or the first reason as its variant stands in code.
 fn answer(

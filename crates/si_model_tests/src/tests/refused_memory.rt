@@ -6,10 +6,10 @@
 //! ends with an error and says nothing of the book.
 
 use super::book_scripts::accept;
-use super::scripts::{edit_of, key, ops_of, present};
 use super::*;
 use si_accept::{AcceptFault, Book};
 use si_model::{Edit, Key, MOST_EDITS, Number, Op, Ops, Stamp, Status, Txn, TxnId, Value};
+use si_scripts::{edit_of, key, ops_of, present};
 use std::hash::RandomState;
 use std::random::RandomSource;
 
@@ -135,14 +135,14 @@ fn push_writes(ops: &mut Vec<Op>, key: &Key, other: &Key, value: u64) -> Result<
 }
 
 /// The operations of that transaction. The keys share their texts, so that few allocations come before `accept`.
-fn many_operations(rt: &(impl Abort + AllocGlobal)) -> Result<Ops, Fail> {
+fn many_operations(rt: &impl AllocGlobal) -> Result<Ops, Fail> {
     let mut ops = Vec::with_capacity(rt.alloc(), 48)?;
     let first = key(rt, "a")?;
     let second = key(rt, "b")?;
     for value in 0..24u64 {
         push_writes(&mut ops, &first, &second, value)?;
     }
-    ops_of(rt, ops)
+    Ok(ops_of(ops)?)
 }
 
 #[test]

@@ -1,11 +1,11 @@
 //! Values that no clause fixes, and calls that nothing else here makes.
 
-use super::scripts::{edit_of, key, op_of, present, txn_of};
 use super::*;
 use si_model::parts::{on_key, part_of};
 use si_model::{
     Edit, Finding, Key, Kind, Outcome, Status, TxnId, Value, evidence_of, findings_of, shard_of,
 };
+use si_scripts::{edit_of, key, op_of, present, txn_of};
 use std::collections::{BTreeMap, HashMap};
 
 #[test]

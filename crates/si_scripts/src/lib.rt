@@ -1,0 +1,17 @@
+//! What the crates of tests share: edits and histories as text, and numbers that look random.
+//!
+//! No program uses it. It makes what a line says, or tells what is wanted in its place; whether that is a history or an
+//! edit that is accepted is what tests ask of others. It stands on `si_model` and `thiserror`.
+#![tactic(auto)]
+
+pub mod chance;
+pub mod edits;
+pub mod faults;
+pub mod histories;
+pub mod lines;
+
+pub use chance::{Dice, next_number};
+pub use edits::{edit_of, key, op_of, ops_of, txn_of};
+pub use faults::ScriptFault;
+pub use histories::{History, present};
+pub use lines::{asked, trimmed};
