@@ -69,124 +69,139 @@ fn versions(rt: HostRuntime) -> Result<(), Fail> {
         assert_eq!(&rt; out.as_slice(), "sicheck 0.1.0\n".as_bytes());
         assert!(&rt; err.as_slice().is_empty());
     }
+    Ok(())
+}
+
+/// The program's name, and the words of the line.
+fn words_of(alloc: Global, line: &str) -> Result<Vec<&str>, Fail> {
+    let mut words = Vec::new(alloc);
+    words.push("sicheck")?;
+    for word in line.split_ascii_whitespace() {
+        words.push(word)?;
+    }
+    Ok(words)
+}
+
+/// On the words before the bar the program ends with the status behind it, and `writes` its output or `complains`.
+fn ends_so(
+    rt: &(impl Abort + Files + RandomSource),
+    alloc: Global,
+    line: &str,
+) -> Result<(), Fail> {
+    let (words, wanted) = line.split_once('|').ok_or("an end is wanted")?;
+    let (status, device) = wanted.trim().split_once(' ').ok_or("a device is wanted")?;
+    let words = words_of(alloc, words)?;
+    let writes = device == "writes";
+    assert!(rt; writes || device == "complains", "at {line}");
     ends(
-        &rt,
+        rt,
         alloc,
-        &["sicheck", "check", "--version"],
-        2,
-        false,
-        true,
+        words.as_slice(),
+        status.parse::<u8>()?,
+        writes,
+        !writes,
     )
 }
 
+const COMMAND_LINES: &str = "
+    check | 20 writes
+    --help | 0 writes
+    | 2 complains
+    look | 2 complains
+    help | 0 writes
+    check --help | 0 writes
+    check --unknown | 2 complains
+    check --every | 2 complains
+    check --every= | 2 complains
+    check --every=0 | 2 complains
+    check --every=16777217 | 2 complains
+    check --every=-1 | 2 complains
+    check --every=1.0 | 2 complains
+    check --shards | 2 complains
+    check --shards=0 | 2 complains
+    check --shards=17 | 2 complains
+    check --shards=x | 2 complains
+    check --explain=1 | 2 complains
+    check --shards=16 | 20 writes
+    check --every=1 --every=2 | 2 complains
+    check --version | 2 complains";
+
 #[test]
 fn command_lines(rt: HostRuntime) -> Result<(), Fail> {
-    let alloc = rt.alloc();
-    ends(&rt, alloc, &["sicheck", "check"], 20, true, false)?;
-    ends(&rt, alloc, &["sicheck", "--help"], 0, true, false)?;
-    ends(&rt, alloc, &["sicheck"], 2, false, true)?;
-    ends(&rt, alloc, &["sicheck", "look"], 2, false, true)?;
-    ends(&rt, alloc, &["sicheck", "help"], 0, true, false)?;
-    ends(&rt, alloc, &["sicheck", "check", "--help"], 0, true, false)?;
-    for option in [
-        "--unknown",
-        "--every",
-        "--every=",
-        "--every=0",
-        "--every=16777217",
-        "--every=-1",
-        "--every=1.0",
-        "--shards",
-        "--shards=0",
-        "--shards=17",
-        "--shards=x",
-        "--explain=1",
-    ] {
-        ends(&rt, alloc, &["sicheck", "check", option], 2, false, true)?;
+    for line in COMMAND_LINES.trim().lines() {
+        ends_so(&rt, rt.alloc(), line)?;
     }
-    ends(
-        &rt,
-        alloc,
-        &["sicheck", "check", "--shards=16"],
-        20,
-        true,
-        false,
-    )?;
-    let twice = ["sicheck", "check", "--every=1", "--every=2"];
-    ends(&rt, alloc, twice.as_slice(), 2, false, true)?;
     Ok(())
 }
 
-/// The settings that these words ask for have so many shards.
-fn asks_for_shards(
-    rt: &(impl Abort + RandomSource),
-    alloc: Global,
-    words: &[&str],
-    shards: usize,
-) -> Result<(), Fail> {
-    let settings = settings_of(alloc, words)?;
-    assert_eq!(rt; settings.options, Options { shards, ..PLAIN });
-    Ok(())
+/// A number, or `-` for none.
+fn number_or_none(word: &str) -> Result<Option<u64>, Fail> {
+    Ok(match word {
+        "-" => None,
+        number => Some(number.parse::<u64>()?),
+    })
 }
 
-/// The settings that the words after the program's name ask for are these.
-fn asks(
-    rt: &(impl Abort + RandomSource),
-    alloc: Global,
-    words: &[&str],
-    every: Option<u64>,
-    explain: bool,
-    files: &[&str],
-) -> Result<(), Fail> {
-    let settings = settings_of(alloc, words)?;
+/// `4 - plain`: how many shards, after how many lines a report comes, and whether its findings are `explained`.
+fn options_of(rt: &impl Abort, text: &str) -> Result<Options, Fail> {
+    let (shards, rest) = text.split_once(' ').ok_or("a number is wanted")?;
+    let (every, explained) = rest.split_once(' ').ok_or("a number is wanted")?;
+    let explain = explained == "explained";
+    assert!(rt; explain || explained == "plain");
+    Ok(Options {
+        shards: shards.parse::<usize>()?,
+        every: number_or_none(every)?,
+        explain,
+        ..PLAIN
+    })
+}
+
+/// The words before the bar ask for the options behind it, and for the file behind the second bar, if one stands there.
+fn asks_so(rt: &impl Abort, alloc: Global, line: &str) -> Result<(), Fail> {
+    let (words, wanted) = line.split_once('|').ok_or("options are wanted")?;
+    let (options, file) = wanted.split_once('|').ok_or("a file is wanted")?;
+    let words = words_of(alloc, words)?;
+    let settings = settings_of(alloc, words.as_slice())?;
     assert_eq!(rt;
         settings.options,
-        Options {
-            every,
-            explain,
-            ..PLAIN
-        }
+        options_of(rt, options.trim())?,
+        "at {line}"
     );
-    assert_eq!(rt; settings.files.as_slice(), files);
+    assert!(rt;
+        settings
+            .files
+            .iter()
+            .copied()
+            .eq(file.split_ascii_whitespace()),
+        "at {line}"
+    );
     Ok(())
 }
+
+const ASKED: &str = "
+    check | 4 - plain |
+    check a.jsonl | 4 - plain | a.jsonl
+    check --every 1 | 4 1 plain |
+    check --every=16777216 a | 4 16777216 plain | a
+    check a --every +007 | 4 7 plain | a
+    check -- --every | 4 - plain | --every
+    check --explain a | 4 - explained | a
+    check a --every=3 --explain | 4 3 explained | a
+    check --shards 1 | 1 - plain |
+    check --shards=16 | 16 - plain |";
 
 #[test]
 fn what_words_ask_for(rt: HostRuntime) -> Result<(), Fail> {
-    let alloc = rt.alloc();
-    asks(&rt, alloc, &["sicheck", "check"], None, false, &[])?;
-    asks(
-        &rt,
-        alloc,
-        &["sicheck", "check", "a.jsonl"],
-        None,
-        false,
-        &["a.jsonl"],
-    )?;
-    asks(
-        &rt,
-        alloc,
-        &["sicheck", "check", "--every", "1"],
-        Some(1),
-        false,
-        &[],
-    )?;
-    let most = ["sicheck", "check", "--every=16777216", "a"];
-    asks(&rt, alloc, most.as_slice(), Some(16_777_216), false, &["a"])?;
-    let after = ["sicheck", "check", "a", "--every", "+007"];
-    asks(&rt, alloc, after.as_slice(), Some(7), false, &["a"])?;
-    let dashed = ["sicheck", "check", "--", "--every"];
-    asks(&rt, alloc, dashed.as_slice(), None, false, &["--every"])?;
-    let explained = ["sicheck", "check", "--explain", "a"];
-    asks(&rt, alloc, explained.as_slice(), None, true, &["a"])?;
-    let all = ["sicheck", "check", "a", "--every=3", "--explain"];
-    asks(&rt, alloc, all.as_slice(), Some(3), true, &["a"])?;
-    asks_for_shards(&rt, alloc, &["sicheck", "check"], 4)?;
-    asks_for_shards(&rt, alloc, &["sicheck", "check", "--shards", "1"], 1)?;
-    asks_for_shards(&rt, alloc, &["sicheck", "check", "--shards=16"], 16)?;
-    let two = settings_of(alloc, ["sicheck", "check", "a", "b"].as_slice());
-    assert!(rt; matches!(two, Err(SettingsFault::TooManyFiles)));
+    for line in ASKED.trim().lines() {
+        asks_so(&rt, rt.alloc(), line)?;
+    }
     Ok(())
+}
+
+#[test]
+fn two_files_are_too_many(rt: HostRuntime) {
+    let two = settings_of(rt.alloc(), ["sicheck", "check", "a", "b"].as_slice());
+    assert!(rt; matches!(two, Err(SettingsFault::TooManyFiles)));
 }
 
 #[test]

@@ -1,6 +1,7 @@
 use si_model::{Edit, Key, Op, Ops, Outcome, Stamp, Status, Txn, TxnId, Value};
 use si_text::{Field, LineFault, read_edit};
 use std::alloc::{AllocError, Global};
+use std::process::Abort;
 use std::test::Fail;
 
 /// A transaction that reads x before any write of it and writes 5.
@@ -67,80 +68,48 @@ fn lines_that_are_edits(rt: HostRuntime) -> Result<(), Fail> {
     Ok(())
 }
 
-#[test]
-fn lines_that_are_faulty(rt: HostRuntime) {
-    let alloc = rt.alloc();
-    let rows = [
-        ("", LineFault::NotJson),
-        ("{\"do\":\"txn\",\"id\":1,", LineFault::NotJson),
-        ("{\"do\":\"withdraw\",\"id\":7} 7", LineFault::NotJson),
-        ("[]", LineFault::NotObject),
-        ("{\"do\":\"put\"}", LineFault::BadKind),
-        ("{\"id\":1}", LineFault::BadKind),
-        (
-            "{\"do\":\"withdraw\",\"id\":1.0}",
-            LineFault::BadField(Field::Id),
-        ),
-        (
-            "{\"do\":\"withdraw\",\"id\":-1}",
-            LineFault::BadField(Field::Id),
-        ),
-        (
-            "{\"do\":\"withdraw\",\"id\":1e2}",
-            LineFault::BadField(Field::Id),
-        ),
-        (
-            "{\"do\":\"withdraw\",\"id\":18446744073709551616}",
-            LineFault::BadField(Field::Id),
-        ),
-        (
-            "{\"do\":\"txn\",\"id\":1,\"status\":\"done\"}",
-            LineFault::BadField(Field::Start),
-        ),
-        (
-            "{\"do\":\"resolve\",\"id\":1,\"status\":5}",
-            LineFault::BadField(Field::Status),
-        ),
-        (
-            "{\"do\":\"txn\",\"id\":1,\"start\":2,\"status\":\"done\"}",
-            LineFault::BadField(Field::Ops),
-        ),
-        (
-            "{\"do\":\"txn\",\"id\":1,\"start\":2,\"status\":\"committed\",\"ops\":[]}",
-            LineFault::BadField(Field::Commit),
-        ),
-        (
-            "{\"do\":\"txn\",\"id\":1,\"start\":2,\"status\":\"done\",\"ops\":[]}",
-            LineFault::BadStatus,
-        ),
-        (
-            "{\"do\":\"resolve\",\"id\":1,\"status\":\"indoubt\"}",
-            LineFault::BadStatus,
-        ),
-        (
-            "{\"do\":\"setup\",\"value\":\"5\"}",
-            LineFault::BadField(Field::Key),
-        ),
-        (
-            "{\"do\":\"setup\",\"key\":\"\",\"value\":5}",
-            LineFault::BadField(Field::Key),
-        ),
-        (
-            "{\"do\":\"setup\",\"key\":7,\"value\":5}",
-            LineFault::BadField(Field::Key),
-        ),
-        (
-            "{\"do\":\"setup\",\"key\":\"x\"}",
-            LineFault::BadField(Field::Value),
-        ),
-        (
-            "{\"do\":\"setup\",\"key\":\"x\",\"value\":null}",
-            LineFault::BadField(Field::Value),
-        ),
-    ];
-    for (line, fault) in rows {
-        assert_eq!(rt; read_edit(alloc, line.as_bytes()), Err(fault), "{line}");
+/// Lines, and the fault of each as its variant stands in code.
+const FAULTY: &str = "
+    | NotJson
+    {\"do\":\"txn\",\"id\":1, | NotJson
+    {\"do\":\"withdraw\",\"id\":7} 7 | NotJson
+    [] | NotObject
+    {\"do\":\"put\"} | BadKind
+    {\"id\":1} | BadKind
+    {\"do\":\"withdraw\",\"id\":1.0} | BadField(Id)
+    {\"do\":\"withdraw\",\"id\":-1} | BadField(Id)
+    {\"do\":\"withdraw\",\"id\":1e2} | BadField(Id)
+    {\"do\":\"withdraw\",\"id\":18446744073709551616} | BadField(Id)
+    {\"do\":\"txn\",\"id\":1,\"status\":\"done\"} | BadField(Start)
+    {\"do\":\"resolve\",\"id\":1,\"status\":5} | BadField(Status)
+    {\"do\":\"txn\",\"id\":1,\"start\":2,\"status\":\"done\"} | BadField(Ops)
+    {\"do\":\"txn\",\"id\":1,\"start\":2,\"status\":\"committed\",\"ops\":[]} | BadField(Commit)
+    {\"do\":\"txn\",\"id\":1,\"start\":2,\"status\":\"done\",\"ops\":[]} | BadStatus
+    {\"do\":\"resolve\",\"id\":1,\"status\":\"indoubt\"} | BadStatus
+    {\"do\":\"setup\",\"value\":\"5\"} | BadField(Key)
+    {\"do\":\"setup\",\"key\":\"\",\"value\":5} | BadField(Key)
+    {\"do\":\"setup\",\"key\":7,\"value\":5} | BadField(Key)
+    {\"do\":\"setup\",\"key\":\"x\"} | BadField(Value)
+    {\"do\":\"setup\",\"key\":\"x\",\"value\":null} | BadField(Value)";
+
+fn is_faulty(rt: &impl Abort, alloc: Global, row: &str) -> Result<(), Fail> {
+    let (line, wanted) = row.split_once('|').ok_or("a fault is wanted")?;
+    match read_edit(alloc, line.trim().as_bytes()) {
+        Ok(_) => panic!(rt; "no fault: {row}"),
+        Err(fault) => {
+            let told = format!(in alloc; "{fault:?}")?;
+            assert_eq!(rt; told.as_str(), wanted.trim(), "at {row}");
+        }
     }
+    Ok(())
+}
+
+#[test]
+fn lines_that_are_faulty(rt: HostRuntime) -> Result<(), Fail> {
+    for row in FAULTY.trim().lines() {
+        is_faulty(&rt, rt.alloc(), row)?;
+    }
+    Ok(())
 }
 
 #[test]
