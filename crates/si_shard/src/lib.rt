@@ -7,6 +7,7 @@
 mod applied;
 mod changes;
 mod keyed;
+pub mod laws;
 mod shard_ids;
 pub mod shards;
 mod waiting;
