@@ -13,3 +13,4 @@ pub mod shards;
 mod waiting;
 
 pub use shards::{MOST_SHARDS, Shard};
+pub use si_judge::KeyFault;
