@@ -19,10 +19,10 @@ set_twice (z ∷ xs) (suc k) x y = ap (λ l. z ∷ l) (set_twice xs k x y)
 
 -- ---- so many applications
 
-abbrev at_position : ℕ → Progress
+abbrev pub at_position : ℕ → Progress
 at_position n = record { position = n; spoiled = false }
 
-many : (n : ℕ) (M : Machine) (k : ℕ) (p : Progress) → slice_get M.shards k ≡ Some p → p.spoiled ≡ false → p.position + n ≤ length M.journal
+pub many : (n : ℕ) (M : Machine) (k : ℕ) (p : Progress) → slice_get M.shards k ≡ Some p → p.spoiled ≡ false → p.position + n ≤ length M.journal
     → AreApplied n M k (with_progress M k (at_position (p.position + n)))
 many zero M k p at whole le =
     let none : p.position + 0 ≡ p.position = omega arith in

@@ -8,3 +8,4 @@ pub mod Settled
 pub mod Alike
 pub mod Soundness
 pub mod ManySteps
+pub mod Reaching

@@ -1,11 +1,11 @@
 -- The laws of the machine, each the contract of a public function of `laws` with an empty body. They are this project's.
-use Rattle.std.specs.Prelude.{◌≡◌, ◌⊎◌, ◌↔◌, ℕ, ◌≤◌, List, [], ◌∷◌, ◌++◌, length, replicate}
+use Rattle.std.specs.Prelude.{◌≡◌, ◌⊎◌, ◌↔◌, ℕ, ◌+◌, ◌≤◌, false, List, [], ◌∷◌, ◌++◌, Some, length, replicate, slice_get}
 use Rattle.std.specs.List.{Contains}
 use Rattle.si_core.specs.declared.steps.Step.{Step}
 use Rattle.si_core.specs.declared.steps.Reply.{Reply}
 use Rattle.si_core.specs.declared.steps.Step.TheVariants as step
 use Rattle.si_core.specs.declared.steps.Reply.TheVariants as reply
-use Rattle.si_core.specs.Machine.{AppliesMany, IsOther, IsRebuilt, IsRun, IsSound, IsStep, LeavesJournal, Machine, TellNoWant, opened}
+use Rattle.si_core.specs.Machine.{AppliesMany, IsOther, IsRebuilt, IsRun, IsSound, IsStep, LeavesJournal, Machine, Progress, TellNoWant, opened, with_progress}
 
 -- no application and no settling changes the limit or the journal, or how many shards there are
 abbrev pub JournalStays : Type 0
@@ -44,3 +44,12 @@ IsAnswerOf rs r = (IsOther r × (rs ≡ r ∷ []))
 abbrev pub ManyAreRun : Type 0
 ManyAreRun = (most : ℕ) (M : Machine) (k : ℕ) (r : Reply) (N : Machine) → 1 ≤ most → AppliesMany most M k r N
     → (rs : List Reply) × (1 ≤ length rs) × (length rs ≤ most) × IsRun M (replicate (length rs) (step.Apply k)) rs N × IsAnswerOf rs r
+
+-- every sound state is reached: some run leads to it from where a machine with that limit and as many shards was opened
+abbrev pub SoundIsReached : Type 0
+SoundIsReached = (M : Machine) → IsSound M → (steps : List Step) × (rs : List Reply) × IsRun (opened (length M.shards) M.limit) steps rs M
+
+-- where a shard isn't spoiled and n edits are left for it, n applications are a run in which no memory was refused, and its position is greater by n
+abbrev pub ApplicationsAreRun : Type 0
+ApplicationsAreRun = (n : ℕ) (M : Machine) (k : ℕ) (p : Progress) → slice_get M.shards k ≡ Some p → p.spoiled ≡ false → p.position + n ≤ length M.journal
+    → (rs : List Reply) × TellNoWant rs × IsRun M (replicate n (step.Apply k)) rs (with_progress M k (record { position = p.position + n; spoiled = false }))

@@ -1,6 +1,6 @@
 //! The laws of the machine. Each is the contract of a function with an empty body: to call one is to have its fact.
 
-ghost use Rattle.si_core.specs.Laws.{JournalStays, ManyAreRun, ReachedIsSound, RebuildKeepsSound, RunIsFunction, RunsJoin, RunsKeepSound};
+ghost use Rattle.si_core.specs.Laws.{ApplicationsAreRun, JournalStays, ManyAreRun, ReachedIsSound, RebuildKeepsSound, RunIsFunction, RunsJoin, RunsKeepSound, SoundIsReached};
 
 /// No application and no settling changes the limit or the journal, or how many shards there are.
 pub fn journal_stays()
@@ -37,4 +37,16 @@ pub fn rebuild_keeps_sound()
 /// reply that tells of an application, or the only reply where none does.
 pub fn many_are_run()
     ensures { ManyAreRun }
+{}
+
+/// Every state in which the journal is accepted and within the limit, no shard has applied more than there is, and a spoiled one
+/// has an edit left, is reached by a run from the beginning.
+pub fn sound_is_reached()
+    ensures { SoundIsReached }
+{}
+
+/// Of a shard that isn't spoiled, so many applications as edits are left for it, or fewer, are a run in which no memory was
+/// refused.
+pub fn applications_are_run()
+    ensures { ApplicationsAreRun }
 {}

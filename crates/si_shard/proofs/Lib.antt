@@ -7,3 +7,4 @@ pub mod Leading
 pub mod Applying
 pub mod ShardFindings
 pub mod Beginnings
+pub mod ShardsTogether

@@ -5,3 +5,4 @@ pub mod Changes
 pub mod Keyed
 pub mod Shards
 pub mod Waiting
+pub mod Laws

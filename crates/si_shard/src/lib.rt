@@ -7,8 +7,10 @@
 mod applied;
 mod changes;
 mod keyed;
+pub mod laws;
 mod shard_ids;
 pub mod shards;
 mod waiting;
 
 pub use shards::{MOST_SHARDS, Shard};
+pub use si_judge::KeyFault;

@@ -9,3 +9,4 @@ pub mod Telling
 pub mod Taken
 pub mod Joined
 pub mod Shared
+pub mod Edits

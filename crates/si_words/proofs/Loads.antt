@@ -10,7 +10,7 @@ use Rattle.si_words.specs.declared.views.BookView.{BookView}
 use Rattle.si_words.specs.declared.views.ShardView.{ShardView}
 use Rattle.si_words.specs.declared.views.PassView.{PassView}
 use Rattle.si_words.specs.Entries.{IsBeginning, longer}
-use Rattle.si_words.specs.Views.{shard_view, pass_view, book_and_pass, book_and_shard, shard_and_pass, with_due, with_seen, with_mark, with_learned, with_count, pass_closed, shard_closed}
+use Rattle.si_words.specs.Views.{shard_view, pass_view, book_and_pass, book_and_shard, shard_and_pass, with_due, with_seen, with_mark, with_learned, with_count, pass_closed, shard_closed, shard_counted}
 use Rattle.si_words.specs.Rule.{Part, Has, AreCounts, FitsBook, FitsShard, FitsPass, IsKept, watermark, ticket}
 use Rattle.si_words.specs.Steps.{Becomes, pulled, sighted, looked, learned, counted, asked_closed}
 use Rattle.si_words.proofs.Lists.{begins_whole, length-beginning, longer_is}
@@ -35,6 +35,7 @@ module _ (shards passes : ℕ) where
     due = begins_whole b.journal J f.whole;
     done = g.done;
     within = (let a = length-beginning s.due J g.due in let w = g.within in let e : length b.journal ≡ length J = ap length f.whole in omega arith);
+    count = g.count;
     closed = g.closed;
   }
 
@@ -143,7 +144,19 @@ module _ (shards passes : ℕ) where
 
   pub counts_at : (slots id : ℕ) (s : ShardView) (held : List (ℕ × Unit {0}))
       → Allows (IsKept shards passes) slots id (shard_view s, held) 0 (λ n. n) (λ n. Becomes (counted n (shard_view s)) (step slots 0 0 0 none) (shard_view s, held) n)
-  counts_at slots id s held = loads shards passes slots id 0 (shard_view s) held (λ n. counted n (shard_view s)) (λ J words c f. f) (λ n part h. h)
+  counts_at slots id s held = loads shards passes slots id 0 (shard_view s) held (λ n. counted n (shard_view s))
+      (λ J words c f. let g = f.shard in record {
+        opener = tt;
+        book = tt;
+        shard = record { number = g.number; due = g.due; done = g.done; within = g.within; count = omega arith; closed = g.closed };
+        pass = tt;
+      })
+      (λ n part. same n part)
+    where
+      same : (n : ℕ) (part : Part) → Has (shard_view (shard_counted n s)) part → Has (shard_view s) part
+      same n Part.the_book h = h
+      same n (Part.the_shard k) h = h
+      same n (Part.the_pass i) h = h
 
   pub asks : (slots id : ℕ) (p : PassView) (held : List (ℕ × Unit {0}))
       → Allows (IsKept shards passes) slots id (pass_view p, held) 1 (λ n. n) (λ n. Becomes (asked_closed n (pass_view p)) (step slots 1 0 0 none) (pass_view p, held) n)
@@ -171,7 +184,7 @@ module _ (shards passes : ℕ) where
       (λ J words c f. let g = f.shard in record {
         opener = tt;
         book = tt;
-        shard = record { number = g.number; due = g.due; done = g.done; within = g.within; closed = λ h. eqb-true (get_or words 1 0) 1 h };
+        shard = record { number = g.number; due = g.due; done = g.done; within = g.within; count = g.count; closed = λ h. eqb-true (get_or words 1 0) 1 h };
         pass = tt;
       })
       (λ n part. same n part)

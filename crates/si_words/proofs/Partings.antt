@@ -145,7 +145,7 @@ module _ (shards passes : ℕ) where
         record {
           opener = tt;
           book = tt;
-          shard = record { number = below; due = nothing_begins J; done = o.marks k (omega arith) below; within = omega arith; closed = λ h. absurd (cc) };
+          shard = record { number = below; due = nothing_begins J; done = o.marks k (omega arith) below; within = omega arith; count = omega arith; closed = λ h. absurd (cc) };
           pass = tt;
         },
       ))

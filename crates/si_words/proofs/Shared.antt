@@ -45,6 +45,7 @@ one_journal shards passes table r = let c = r.counts in (
     watermarks = c.watermarks;
     marks = λ seat p k known l. (pass_fits shards passes table r seat p known).marks k l;
     counts = λ seat p k. let f = pass_fits shards passes table r seat p k in let t = c.ticket in let h = f.count in (f.seen_within, omega arith);
+    shard_counts = λ seat s k. let t = c.ticket in let h = (shard_fits shards passes table r seat s k).count in omega arith;
   },
 )
 

@@ -46,7 +46,7 @@ module _ (shards passes : ℕ) where
         opener = if_some v.opener (FitsOpener shards passes J words) (FitsOpener shards passes J (set words 1 1)) (λ o _ g. record { of_shards = g.of_shards; marks = λ k l b. marks k ∙ g.marks k l b; issued = g.issued }) f.opener;
         book = if_some v.book (FitsBook shards passes J words) (FitsBook shards passes J (set words 1 1)) (λ b _ g. record { whole = g.whole; of_passes = g.of_passes; closed = λ _. one }) f.book;
         shard = if_some v.shard (FitsShard shards passes J words) (FitsShard shards passes J (set words 1 1))
-            (λ s _ g. record { number = g.number; due = g.due; done = marks s.number ∙ g.done; within = g.within; closed = λ _. one })
+            (λ s _ g. record { number = g.number; due = g.due; done = marks s.number ∙ g.done; within = g.within; count = (let h = g.count in omega arith); closed = λ _. one })
             f.shard;
         pass = if_some v.pass (FitsPass shards passes J words) (FitsPass shards passes J (set words 1 1))
             (λ p _ g. record {
@@ -113,6 +113,7 @@ module _ (shards passes : ℕ) where
               due = g.due;
               done = others s.number (λ e. apart (inl (subst (λ (z : Option ShardView). Rattle.std.specs.Prelude.IsSomeAnd z (λ x. x.number ≡ k)) (sym is) e))) ∙ g.done;
               within = g.within;
+              count = (let h = g.count in omega arith);
               closed = λ h. first ∙ g.closed h;
             })
             f.shard;
@@ -164,7 +165,7 @@ module _ (shards passes : ℕ) where
       let mine : Fits shards passes r.journal words (published position (shard_view v)) = record {
         opener = tt;
         book = tt;
-        shard = record { number = g.number; due = g.due; done = (let e : n ≡ position = omega arith in here ∙ e); within = within; closed = λ h. first ∙ g.closed h };
+        shard = record { number = g.number; due = g.due; done = (let e : n ≡ position = omega arith in here ∙ e); within = within; count = (let h = g.count in omega arith); closed = λ h. first ∙ g.closed h };
         pass = tt;
       } in (
         published position (shard_view v),
@@ -201,7 +202,7 @@ module _ (shards passes : ℕ) where
             f.opener;
         book = if_some v.book (FitsBook shards passes J words) (FitsBook shards passes (J ++ e ∷ []) (set words 0 n)) (λ b is _. absurd (no_book (ap Rattle.std.specs.Prelude.is_some is))) f.book;
         shard = if_some v.shard (FitsShard shards passes J words) (FitsShard shards passes (J ++ e ∷ []) (set words 0 n))
-            (λ s is g. record { number = g.number; due = begins_longer s.due J e g.due; done = marks s.number ∙ g.done; within = g.within; closed = λ h. first ∙ g.closed h })
+            (λ s is g. record { number = g.number; due = begins_longer s.due J e g.due; done = marks s.number ∙ g.done; within = g.within; count = (let h = g.count in omega arith); closed = λ h. first ∙ g.closed h })
             f.shard;
         pass = if_some v.pass (FitsPass shards passes J words) (FitsPass shards passes (J ++ e ∷ []) (set words 0 n))
             (λ p is g. record {

@@ -1,10 +1,17 @@
 -- Lists of entries: edits that were accepted, each with the pass that submitted it.
-use Rattle.std.specs.Prelude.{◌≡◌, ℕ, ◌==◌, Bool, if◌then◌else◌, nat_lt, List, ◌++◌, length, filter}
+use Rattle.std.specs.Prelude.{◌≡◌, ℕ, ◌==◌, Bool, if◌then◌else◌, nat_lt, List, ◌++◌, length, map, filter}
 use Rattle.si_model.specs.declared.edits.Edit.{Edit}
 use Rattle.si_words.specs.declared.views.Entry.{Entry}
 
 abbrev pub entry : ℕ → Edit → Entry
 entry by edit = record { by = by; edit = edit }
+
+abbrev pub edit_in : Entry → Edit
+edit_in e = e.edit
+
+-- what was accepted, whoever submitted it
+abbrev pub edits_of : List Entry → List Edit
+edits_of entries = map edit_in entries
 
 -- the second list goes on where the first one ends
 abbrev pub IsBeginning : List Entry → List Entry → Type 0

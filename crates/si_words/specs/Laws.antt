@@ -1,6 +1,6 @@
 -- What the rule gives that no call's contract can name, since each knows one seat or two. Each is the contract of a public
 -- function of `laws` with an empty body.
-use Rattle.std.specs.Prelude.{◌≡◌, ℕ, zero, suc, ◌+◌, ◌<◌, ◌≤◌, ◌⊎◌, List, ◌++◌, length, slice_index, All, Some}
+use Rattle.std.specs.Prelude.{◌≡◌, ℕ, zero, suc, ◌+◌, ◌<◌, ◌≤◌, ◌⊎◌, List, ◌++◌, length, slice_index, take, All, Some}
 use mathlib.Core.Option.{some}
 use lib.ListN.{get_elem?}
 use Rattle.atomic_table.specs.Table.{State}
@@ -10,7 +10,7 @@ use Rattle.si_words.specs.declared.views.BookView.{BookView}
 use Rattle.si_words.specs.declared.views.ShardView.{ShardView}
 use Rattle.si_words.specs.declared.views.PassView.{PassView}
 use Rattle.si_words.specs.declared.views.View.{View}
-use Rattle.si_words.specs.Entries.{IsBeginning, made_by}
+use Rattle.si_words.specs.Entries.{IsBeginning, edits_of, made_by}
 use Rattle.si_words.specs.Rule.{IsKept, ticket, watermark}
 
 -- a seat of the table, by its place, knows this of the book, of a shard or of a pass
@@ -41,6 +41,7 @@ pub record IsJournalOf (shards passes : ℕ) (table : State (Unit {0}) View) (jo
   pub watermarks : (k : ℕ) → k < shards → watermark table.words k ≤ length journal
   pub marks : (seat : ℕ) (p : PassView) (k : ℕ) → KnowsPass table seat p → k < shards → slice_index p.marks k ≤ watermark table.words k
   pub counts : (seat : ℕ) (p : PassView) → KnowsPass table seat p → (length p.seen ≤ p.count) × (p.count ≤ length journal)
+  pub shard_counts : (seat : ℕ) (s : ShardView) → KnowsShard table seat s → s.count ≤ length journal
 
 -- between any two steps there is one journal for all seats
 abbrev pub OneJournalForAll : Type 0
@@ -77,3 +78,17 @@ pub record AreKnownOnce (table : State (Unit {0}) View) : Type 0 where
 
 abbrev pub NoPartIsShared : Type 0
 NoPartIsShared = (shards passes : ℕ) (table : State (Unit {0}) View) → IsKept shards passes table → AreKnownOnce table
+
+-- ---- the edits of entries
+
+-- there is one for each entry
+abbrev pub EditsKeepLength : Type 0
+EditsKeepLength = (entries : List Entry) → length (edits_of entries) ≡ length entries
+
+-- those of a list and what follows it are those of the one and then those of the other
+abbrev pub EditsAppend : Type 0
+EditsAppend = (xs ys : List Entry) → edits_of (xs ++ ys) ≡ edits_of xs ++ edits_of ys
+
+-- where a list begins another, the first edits of the one are those of the other
+abbrev pub EditsBegin : Type 0
+EditsBegin = (part whole : List Entry) (n : ℕ) → IsBeginning part whole → n ≤ length part → take n (edits_of part) ≡ take n (edits_of whole)

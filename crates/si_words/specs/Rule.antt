@@ -50,6 +50,8 @@ module _ (shards passes : ℕ) (journal : List Entry) (words : List ℕ) where
     pub due : IsBeginning s.due journal
     pub done : watermark words s.number ≡ s.done
     pub within : s.done ≤ length s.due
+    -- it counts no more than the words do
+    pub count : s.count ≤ ticket words
     pub closed : s.closed ≡ true → closed_word words ≡ 1
 
   -- what a pass has seen is a beginning of the journal, what it has issued are the entries that bear it, in order, and it

@@ -9,7 +9,7 @@ use Rattle.si_words.specs.declared.views.Opener.{Opener}
 use Rattle.si_words.specs.declared.views.View.{View}
 use Rattle.si_words.specs.Entries.{entry}
 use Rattle.si_words.specs.Views.{new_shard, new_pass, shard_view, pass_view, spent, opener_from}
-use Rattle.si_words.specs.Views.{with_entry, with_mine, with_due, with_done, with_seen, with_mark, with_learned, with_count}
+use Rattle.si_words.specs.Views.{with_entry, with_mine, with_due, with_done, with_seen, with_mark, with_learned, with_count, shard_counted}
 use Rattle.si_words.specs.Views.{pass_closed, shard_closed, book_closed}
 use Rattle.si_words.specs.Rule.{AreCounts, Fits}
 
@@ -49,7 +49,7 @@ abbrev pub learned : ℕ → View → View
 learned found v = record v { pass = option_map (with_learned (shard_of v) found) v.pass }
 
 abbrev pub counted : ℕ → View → View
-counted found v = record v { pass = option_map (with_count found) v.pass }
+counted found v = record v { shard = option_map (shard_counted found) v.shard; pass = option_map (with_count found) v.pass }
 
 abbrev pub asked_closed : ℕ → View → View
 asked_closed found v = record v { shard = option_map (shard_closed (found == 1)) v.shard; pass = option_map (pass_closed (found == 1)) v.pass }

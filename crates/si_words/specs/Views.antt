@@ -14,7 +14,7 @@ abbrev pub new_book : ℕ → BookView
 new_book passes = record { passes = passes; journal = []; closed = false }
 
 abbrev pub new_shard : ℕ → ShardView
-new_shard k = record { number = k; due = []; done = 0; closed = false }
+new_shard k = record { number = k; due = []; done = 0; count = 0; closed = false }
 
 abbrev pub new_pass : ℕ → ℕ → PassView
 new_pass shards i = record { number = i; seen = []; mine = []; count = 0; marks = replicate shards 0; closed = false }
@@ -87,6 +87,9 @@ with_learned s n p = let list = longer p.seen s.due in record p { seen = list; c
 
 abbrev pub with_count : ℕ → PassView → PassView
 with_count n p = record p { count = n }
+
+abbrev pub shard_counted : ℕ → ShardView → ShardView
+shard_counted n s = record s { count = n }
 
 abbrev pub pass_closed : Bool → PassView → PassView
 pass_closed closed p = record p { closed = closed }

@@ -1,5 +1,5 @@
 //! The laws of the rule. Each is the contract of a function that does nothing: to call one is to have its fact.
-ghost use Rattle.si_words.specs.Laws.{OneJournalForAll, BeginningsAgree, EntriesStayInOrder, EachEntryIsOfOnePass, LonePassIssuesAll, NoPartIsShared};
+ghost use Rattle.si_words.specs.Laws.{OneJournalForAll, BeginningsAgree, EntriesStayInOrder, EachEntryIsOfOnePass, LonePassIssuesAll, NoPartIsShared, EditsKeepLength, EditsAppend, EditsBegin};
 
 /// Between any two steps there is one journal for all seats: each seat's list is a beginning of it, the entries that bear a
 /// pass are that pass's own, every entry bears a pass, and no mark goes beyond it.
@@ -30,4 +30,19 @@ pub fn lone_pass_issues_all()
 /// No two seats know of the book, of one shard or of one pass.
 pub fn no_part_is_shared()
     ensures { NoPartIsShared }
+{}
+
+/// There are as many edits as entries.
+pub fn edits_keep_length()
+    ensures { EditsKeepLength }
+{}
+
+/// The edits of a list and of what follows it are those of the one and then those of the other.
+pub fn edits_append()
+    ensures { EditsAppend }
+{}
+
+/// Where a list of entries begins another, the first edits of the one are those of the other.
+pub fn edits_begin()
+    ensures { EditsBegin }
 {}

@@ -1,6 +1,8 @@
 //! The seats that threads step with. Each has no bytes but its number, and to a contract it is the table that it is of and
 //! what it knows.
 
+ghost use Rattle.std.specs.Prelude.{◌≡◌};
+
 use crate::rule::Place;
 use crate::views::{BookView, PassView, ShardView, View};
 use atomic_table::Badge;
@@ -41,6 +43,15 @@ impl Model for ShardSeat {
     ghost view = { λ s. seated s.badge.table_id (first_shard s.badge.views) };
 
     ghost invariant = { λ s. IsShardBadge s.badge.views s.number s.badge.table_id.words };
+}
+
+impl ShardSeat {
+    /// Which shard it is of.
+    pub fn number(&self) -> usize
+        ensures { result ≡ self.now.view.number }
+    {
+        self.number
+    }
 }
 
 /// What one caller of the words knows, and steps with.

@@ -1,7 +1,7 @@
 //! What is done with a shard's seat, under the shard's lock.
 ghost use Rattle.std.specs.Prelude.{◌≡◌, ◌≤◌, true, length};
 ghost use Rattle.si_words.specs.Entries.{IsBeginning};
-ghost use Rattle.si_words.specs.Views.{with_done, shard_closed};
+ghost use Rattle.si_words.specs.Views.{with_done, shard_closed, shard_counted};
 
 use crate::badges::take_seat;
 use crate::rule::{CLOSED, MARKS, TICKET};
@@ -25,10 +25,11 @@ impl Words {
         shard.badge = place.into_badge();
     }
 
-    /// How many edits were issued. It is at least what the shard is due.
+    /// How many edits were issued. It is at least what the shard is due, and does not go back.
     pub fn issued_at(&self, shard: &mut ShardSeat) -> u64
         requires own { shard.old.table ≡ self.now.table }
-        ensures view { shard.new ≡ shard.old }
+        ensures view { shard.new ≡ record shard.old { view = shard_counted result shard.old.view } }
+        ensures rises { shard.old.view.count ≤ result }
         ensures due { length shard.old.view.due ≤ result }
         ensures within { result ≤ MOST_EDITS }
     {

@@ -26,6 +26,8 @@ pub struct ShardView {
     pub due: LinkedList<Entry>,
     /// How many of these entries the shard has applied.
     pub done: u64,
+    /// The journal is at least as long.
+    pub count: u64,
     /// It has found the words closed.
     pub closed: bool,
 }

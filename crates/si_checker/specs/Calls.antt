@@ -1,0 +1,20 @@
+-- What calls with a pass promise. All of it is this project's choice.
+use Rattle.std.specs.Prelude.{◌≡◌, ℕ, ◌≤◌, List, [], ◌∷◌, ◌++◌, None, length}
+use Rattle.si_model.specs.declared.edits.Edit.{Edit}
+use Rattle.si_model.specs.Journals.{refusal_after}
+use Rattle.si_words.specs.declared.views.Entry.{Entry}
+use Rattle.si_words.specs.declared.views.PassView.{PassView}
+use Rattle.si_words.specs.Entries.{IsBeginning, edits_of, entry}
+
+-- the pass has seen the edit as its own, the last of a journal that began with all it had seen and was no shorter than it had counted, and
+-- after which nothing is against the edit
+pub record IsSubmitted (limit : ℕ) (e : Edit) (old new : PassView) : Type 0 where
+  pub before : List Entry
+  pub last : new.seen ≡ before ++ entry old.number e ∷ []
+  pub begins : IsBeginning old.seen before
+  pub counted : old.count ≤ length before
+  pub free : refusal_after limit (edits_of before) e ≡ None
+
+-- the pass as it was, but for what it has seen, how much it counts and its marks, which are the first's
+abbrev pub learning : PassView → PassView → PassView
+learning new old = record old { seen = new.seen; count = new.count; marks = new.marks }

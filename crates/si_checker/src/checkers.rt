@@ -1,0 +1,294 @@
+//! The checker: what callers with a pass do.
+ghost use Rattle.std.specs.Prelude.{◌≡◌, ◌↔◌, ℕ, ◌<◌, ◌≤◌, true, All, [], ◌++◌, length, take, slice_index, IfOk, OnOk, IfErr, OnErr, IfSome};
+ghost use Rattle.std.specs.Sync.Mutex.{mutex_guard_value};
+ghost use Rattle.si_model.specs.Findings.{findings};
+ghost use Rattle.si_model.specs.Form.{IsWellFormed};
+ghost use Rattle.si_model.specs.Journals.{IsAccepted, present, refusal_after};
+ghost use Rattle.si_graph.specs.Phenomena.{IsPlSi};
+ghost use Rattle.si_accept.specs.Faults.{IsFaultOf};
+ghost use Rattle.si_shard.specs.Laws.{shard_id};
+ghost use Rattle.si_shard.specs.Shards.{findings_in};
+ghost use Rattle.si_words.specs.Entries.{IsBeginning, edits_of, entry, made_by};
+ghost use Rattle.si_words.specs.Seats.{new_shards};
+ghost use Rattle.si_shard.specs.declared.shards.TheConstants.{MOST_SHARDS};
+ghost use Rattle.si_words.specs.Views.{pass_closed, with_count, with_mark, with_marks, with_mine, with_seen};
+ghost use Rattle.si_checker.specs.Calls.{IsSubmitted, learning};
+
+use crate::bays::Bay;
+use crate::desks::Desk;
+use crate::openings::Parts;
+use crate::reports::{Report, ReportFault, ShardReport};
+use crate::{AcceptFault, Name};
+use si_accept::Book;
+use si_graph::laws::emptiness_is_exact;
+use si_model::laws::{order_is_strict, present_is_history};
+use si_model::sorting::put_in_order;
+use si_model::{Edit, Finding, Number, OutOfMemory};
+use si_shard::laws::findings_are_of_shards;
+use si_words::{Pass, ShardSeat, Words};
+use std::alloc::{AllocError, Global};
+use std::hash::RandomState;
+use std::sync::{Mutex, MutexGuard, Wait};
+
+/// A checker that any threads share by reference.
+///
+/// Its locks are taken in one order: the book's, then one shard's. No call holds two shards.
+#[derive(Drop)]
+pub struct Checker<N: Name> {
+    pub(crate) alloc: Global,
+    pub(crate) words: Words,
+    pub(crate) desk: Mutex<Desk<N>>,
+    // The shard of each number. The type behind a lock does not know its place, so the number is looked at each time.
+    bays: Vec<Mutex<Bay<N>>>,
+    ghost words_are: { words ≡ N.board },
+    ghost bays_are: { length bays.items ≡ N.board.shards },
+    ghost some: { 1 ≤ N.board.shards },
+}
+
+impl<N: Name> Checker<N> {
+    /// The checker of these parts, which the name is of.
+    pub fn new(alloc: Global, parts: Parts) -> Result<Self, OutOfMemory>
+        requires board { parts.board ≡ N.board }
+        requires limit { parts.limit ≡ N.limit }
+    {
+        let Parts {
+            hash,
+            words,
+            book,
+            seats,
+            limit,
+        } = parts;
+        let desk = Desk::new(Book::new(alloc, hash, limit), book);
+        let bays = bays_of(alloc, hash, seats)?;
+        Ok(Checker {
+            alloc,
+            words,
+            desk: Mutex::new(desk),
+            bays,
+        })
+    }
+
+    /// How many shards there are.
+    pub fn shards(&self) -> usize
+        ensures { result ≡ N.board.shards }
+    {
+        self.bays.len()
+    }
+
+    /// Accepts the edit, which bears the pass, or tells the first reason against it. The answer is its number in the journal.
+    ///
+    /// Afterwards the pass has seen the journal on which the edit was decided, and nothing else of it changes but, where the edit
+    /// was accepted, its own edits by that one.
+    pub fn submit<R: Wait>(
+        &self,
+        rt: &R,
+        pass: &mut Pass,
+        edit: Edit,
+    ) -> Result<Number, AcceptFault>
+        requires { pass.old.table ≡ N.board.table }
+        ensures submitted { OnOk result (IsSubmitted N.limit edit pass.old.view pass.new.view) }
+        ensures number { IfOk result (λ number. number.0 ≡ length pass.new.view.seen) }
+        ensures ok { OnOk result (pass.new ≡ record pass.old { view = with_seen pass.new.view.seen (with_mine (entry pass.old.view.number edit) pass.old.view) }) }
+        ensures fault { IfErr result (IsFaultOf (refusal_after N.limit (edits_of pass.new.view.seen) edit)) }
+        ensures err { OnErr result (pass.new ≡ record pass.old { view = with_seen pass.new.view.seen pass.old.view }) }
+        ensures begins { IsBeginning pass.old.view.seen pass.new.view.seen }
+        ensures counted { pass.old.view.count ≤ length pass.new.view.seen }
+        ensures accepted { IsAccepted (edits_of pass.new.view.seen) }
+        ensures made { pass.new.view.mine ≡ made_by pass.new.view.number pass.new.view.seen }
+        ensures bearers { All (λ e. e.by < N.board.passes) pass.new.view.seen }
+    {
+        self.desk.lock(rt).submit(&self.words, pass, edit)
+    }
+
+    /// The findings of the whole journal, which the pass sees, and what is present after it.
+    ///
+    /// What shards have left to apply is applied here. After a fault what was applied stands, and the pass has seen the journal.
+    pub fn settled_report<R: Wait>(&self, rt: &R, pass: &mut Pass) -> Result<Report, ReportFault>
+        requires { pass.old.table ≡ N.board.table }
+        ensures number { IfOk result (λ r. r.number ≡ length pass.new.view.seen) }
+        ensures present { IfOk result (λ r. r.present.items ≡ (present (edits_of pass.new.view.seen)).txns) }
+        ensures initial { IfOk result (λ r. r.initial.items ≡ (present (edits_of pass.new.view.seen)).initial) }
+        ensures found { IfOk result (λ r. r.findings.items ≡ findings (present (edits_of pass.new.view.seen))) }
+        ensures empty { IfOk result (λ r. (r.findings.items ≡ []) ↔ (IsWellFormed (present (edits_of pass.new.view.seen)) × IsPlSi (present (edits_of pass.new.view.seen)))) }
+        ensures sees { pass.new ≡ record pass.old { view = with_seen pass.new.view.seen pass.old.view } }
+        ensures begins { IsBeginning pass.old.view.seen pass.new.view.seen }
+        ensures counted { pass.old.view.count ≤ length pass.new.view.seen }
+        ensures marks { (k : ℕ) → k < N.board.shards → slice_index pass.old.view.marks k ≤ length pass.new.view.seen }
+        ensures accepted { IsAccepted (edits_of pass.new.view.seen) }
+        ensures made { pass.new.view.mine ≡ made_by pass.new.view.number pass.new.view.seen }
+        ensures bearers { All (λ e. e.by < N.board.passes) pass.new.view.seen }
+    {
+        let mut guard = self.desk.lock(rt);
+        let desk = &mut *guard;
+        desk.show(&self.words, pass);
+        let findings = self.settle(rt, desk)?;
+        emptiness_is_exact();
+        present_is_history();
+        Ok(Report {
+            number: desk.len(),
+            present: desk.present()?,
+            initial: desk.initial()?,
+            findings,
+        })
+    }
+
+    /// Each shard applies what it has left of the journal: the findings of all, in order.
+    fn settle<R: Wait>(&self, rt: &R, desk: &mut Desk<N>) -> Result<Vec<Finding>, ReportFault>
+        ensures desk { desk.new ≡ desk.old }
+        ensures found { IfOk result (λ found. found.items ≡ findings (present (edits_of desk.old.journal))) }
+    {
+        let mut found = Vec::new(self.alloc);
+        for k in 0..self.bays.len() {
+            self.settle_shard(rt, desk, k, &mut found)?;
+        }
+        order_is_strict();
+        put_in_order(&mut found);
+        findings_are_of_shards();
+        present_is_history();
+        let _accepted = desk.journal();
+        Ok(found)
+    }
+
+    /// The shard applies what it has left of the journal, and its findings are added.
+    fn settle_shard<R: Wait>(
+        &self,
+        rt: &R,
+        desk: &mut Desk<N>,
+        k: usize,
+        found: &mut Vec<Finding>,
+    ) -> Result<(), ReportFault>
+        requires { k < N.board.shards }
+        ensures desk { desk.new ≡ desk.old }
+        ensures found { OnOk result (found.new.items ≡ found.old.items ++ findings_in (shard_id k N.board.shards) (present (edits_of desk.old.journal))) }
+    {
+        let Some(mut guard) = self.bay(rt, k) else {
+            return Err(ReportFault::Spoiled(k));
+        };
+        let bay = &mut *guard;
+        bay.settle(&self.words, desk)?;
+        bay.add_findings(found)
+    }
+
+    /// The findings on the shard's keys after the edits that it has applied, which the pass then knows it has, and sees.
+    ///
+    /// After a fault the pass is as before.
+    pub fn shard_report<R: Wait>(
+        &self,
+        rt: &R,
+        pass: &mut Pass,
+        k: usize,
+    ) -> Result<ShardReport, ReportFault>
+        requires own { pass.old.table ≡ N.board.table }
+        requires shard { k < N.board.shards }
+        ensures position { IfOk result (λ r. slice_index pass.new.view.marks k ≡ r.position) }
+        ensures rises { IfOk result (λ r. slice_index pass.old.view.marks k ≤ r.position) }
+        ensures within { IfOk result (λ r. r.position ≤ length pass.new.view.seen) }
+        ensures accepted { IfOk result (λ r. IsAccepted (take r.position (edits_of pass.new.view.seen))) }
+        ensures found { IfOk result (λ r. r.findings.items ≡ findings_in (shard_id k N.board.shards) (present (take r.position (edits_of pass.new.view.seen)))) }
+        ensures begins { OnOk result (IsBeginning pass.old.view.seen pass.new.view.seen) }
+        ensures learned { OnOk result (pass.new ≡ record pass.old { view = learning pass.new.view pass.old.view }) }
+        ensures err { OnErr result (pass.new ≡ pass.old) }
+    {
+        let Some(mut guard) = self.bay(rt, k) else {
+            return Err(ReportFault::Spoiled(k));
+        };
+        let bay = &mut *guard;
+        bay.report(&self.words, pass)
+    }
+
+    /// Makes all that the shard knows anew from the edits that it has applied, and so ends a spoiled state.
+    ///
+    /// For want of memory everything stays as it was.
+    pub fn rebuild<R: Wait>(&self, rt: &R, k: usize) -> Result<(), OutOfMemory>
+        requires { k < N.board.shards }
+    {
+        let Some(mut guard) = self.bay(rt, k) else {
+            return Err(AllocError);
+        };
+        let bay = &mut *guard;
+        bay.rebuild(k)
+    }
+
+    /// Tells workers that they may end once nothing is left. Edits that are submitted later are still accepted, and a settled
+    /// report applies them. The pass stays as it is.
+    pub fn close<R: Wait>(&self, rt: &R, pass: &mut Pass)
+        requires { pass.old.table ≡ N.board.table }
+        ensures { pass.new ≡ pass.old }
+    {
+        let _caller = pass;
+        self.desk.lock(rt).close(&self.words);
+    }
+
+    /// The shard of this number, locked.
+    pub(crate) fn bay<R: Wait>(&self, rt: &R, k: usize) -> Option<MutexGuard<'_, Bay<N>>>
+        requires { k < N.board.shards }
+        ensures { IfSome result (λ g. (mutex_guard_value g).seat.number ≡ k) }
+    {
+        let guard = self.bays[k].lock(rt);
+        if guard.number() == k {
+            Some(guard)
+        } else {
+            None
+        }
+    }
+
+    /// How many edits were issued. It takes no lock and waits for nobody.
+    pub fn issued(&self, pass: &mut Pass) -> u64
+        requires { pass.old.table ≡ N.board.table }
+        ensures view { pass.new ≡ record pass.old { view = with_count result pass.old.view } }
+        ensures rises { pass.old.view.count ≤ result }
+        ensures seen { length pass.old.view.seen ≤ pass.old.view.count }
+    {
+        self.words.issued(pass)
+    }
+
+    /// How many edits the shard has applied. It takes no lock and waits for nobody.
+    pub fn shard_mark(&self, pass: &mut Pass, k: usize) -> u64
+        requires own { pass.old.table ≡ N.board.table }
+        requires shard { k < N.board.shards }
+        ensures view { pass.new ≡ record pass.old { view = with_mark k result pass.old.view } }
+        ensures mark { slice_index pass.new.view.marks k ≡ result }
+        ensures rises { slice_index pass.old.view.marks k ≤ result }
+    {
+        self.words.shard_mark(pass, k)
+    }
+
+    /// The least mark, after a look at each shard: every shard has applied at least so many edits. It takes no lock and waits for
+    /// nobody.
+    pub fn watermark(&self, pass: &mut Pass) -> u64
+        requires { pass.old.table ≡ N.board.table }
+        ensures view { pass.new ≡ record pass.old { view = with_marks pass.new.view.marks pass.old.view } }
+        ensures rises { (k : ℕ) → k < N.board.shards → slice_index pass.old.view.marks k ≤ slice_index pass.new.view.marks k }
+        ensures least { (k : ℕ) → k < N.board.shards → result ≤ slice_index pass.new.view.marks k }
+        ensures mark { (k : ℕ) × (k < N.board.shards) × (slice_index pass.new.view.marks k ≡ result) }
+    {
+        self.words.watermark(pass)
+    }
+
+    /// Whether the checker is closed. Once a pass has found it closed it finds it so. It takes no lock and waits for nobody.
+    pub fn is_closed(&self, pass: &mut Pass) -> bool
+        requires { pass.old.table ≡ N.board.table }
+        ensures view { pass.new ≡ record pass.old { view = pass_closed result pass.old.view } }
+        ensures stays { pass.old.view.closed ≡ true → result ≡ true }
+    {
+        self.words.is_closed(pass)
+    }
+}
+
+/// A shard under a lock for each seat, in the order of the seats.
+fn bays_of<N: Name>(
+    alloc: Global,
+    hash: RandomState,
+    seats: Vec<ShardSeat>,
+) -> Result<Vec<Mutex<Bay<N>>>, OutOfMemory>
+    requires seats { seats.items ≡ new_shards N.board.table N.board.shards }
+    requires most { N.board.shards ≤ MOST_SHARDS }
+    ensures { IfOk result (λ bays. length bays.items ≡ N.board.shards) }
+{
+    let shards = seats.len();
+    let mut bays = Vec::new(alloc);
+    for seat in seats {
+        bays.push(Mutex::new(Bay::new(alloc, hash, shards, seat)))?;
+    }
+    Ok(bays)
+}

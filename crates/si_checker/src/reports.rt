@@ -1,0 +1,49 @@
+//! What is reported, and why it isn't.
+
+use si_model::{Finding, Key, Txn, Value};
+use std::alloc::AllocError;
+use thiserror::Error;
+
+/// The settled state of a journal.
+#[derive(Drop)]
+pub struct Report {
+    /// How many edits the journal has.
+    pub number: u64,
+    /// The present transactions, in the order of arrival.
+    pub present: Vec<Txn>,
+    /// The keys that were set up with their values, in the order of arrival.
+    pub initial: Vec<(Key, Value)>,
+    /// The findings, in order.
+    pub findings: Vec<Finding>,
+}
+
+/// The state of one shard.
+#[derive(Drop)]
+pub struct ShardReport {
+    /// How many edits it has applied.
+    pub position: u64,
+    /// The findings on its keys of what is present after these edits, in order.
+    pub findings: Vec<Finding>,
+}
+
+/// Why a report wasn't had.
+#[derive(Clone, Copy, Debug, PartialEq, Eq, Error)]
+pub enum ReportFault {
+    /// An application by the shard of this number wanted memory, and no rebuild came since.
+    #[error("shard {0} is spoiled")]
+    Spoiled(usize),
+    /// The growth of some memory was refused.
+    #[error("out of memory")]
+    OutOfMemory,
+}
+
+impl From<AllocError> for ReportFault {
+    ghost use Rattle.std.specs.Prelude.{◌≡◌};
+    ghost use Rattle.si_checker.specs.declared.reports.ReportFault.TheVariants.{OutOfMemory};
+
+    ghost from_gives = { λ _ fault. fault ≡ OutOfMemory };
+
+    fn from(_error: AllocError) -> Self {
+        ReportFault::OutOfMemory
+    }
+}

@@ -1,0 +1,109 @@
+//! What workers do: each shard's edits are applied in batches, with the book's lock held for no more than their copies.
+ghost use Rattle.std.specs.Prelude.{◌<◌};
+
+use crate::checkers::Checker;
+use crate::gates::{Gate, Place};
+use crate::names::Name;
+use si_model::Number;
+use std::sync::Wait;
+use std::thread;
+
+/// What became of one turn of a worker.
+#[derive(Clone, Copy, Debug, PartialEq, Eq)]
+pub enum Worked {
+    /// Edits were applied, and the shard has applied so many. Where one of them wanted memory the next turn says so.
+    Applied(u64),
+    /// Nothing is left for the shard, and the checker isn't closed.
+    Idle,
+    /// Nothing is left for the shard, and the checker is closed.
+    Closed,
+    /// The copy of an edit was refused, and nothing changed.
+    NoMemory,
+    /// The shard is spoiled, by this turn or before.
+    Spoiled,
+}
+
+impl<N: Name> Checker<N> {
+    /// The shard applies the next edits of those that are left for it, as many as are copied at once.
+    ///
+    /// They are copied under the book's lock, and applied and published after it was let go.
+    pub fn work_one<R: Wait, G: Gate>(&self, rt: &R, k: usize, gate: &G) -> Worked
+        requires { k < N.board.shards }
+    {
+        let mut book = self.desk.lock(rt);
+        let desk = &mut *book;
+        let Some(mut guard) = self.bay(rt, k) else {
+            return Worked::Spoiled;
+        };
+        let bay = &mut *guard;
+        bay.pull(&self.words, desk);
+        let before = bay.position();
+        if before >= desk.len() {
+            drop(book);
+            return if bay.is_closed(&self.words) {
+                Worked::Closed
+            } else {
+                Worked::Idle
+            };
+        }
+        if bay.is_spoiled() {
+            return Worked::Spoiled;
+        }
+        let edits = desk.copy(self.alloc, before);
+        drop(book);
+        if edits.is_empty() {
+            return Worked::NoMemory;
+        }
+        gate.at(Place::Apply {
+            shard: k,
+            number: Number(before + 1),
+        });
+        bay.apply(&self.words, edits);
+        let position = bay.position();
+        if position == before {
+            return Worked::Spoiled;
+        }
+        gate.at(Place::Published {
+            shard: k,
+            number: Number(position),
+        });
+        Worked::Applied(position)
+    }
+
+    /// The shard applies what is left for it, until the checker is closed and nothing is left, or something stands in the way.
+    pub fn work<R: Wait, G: Gate>(&self, rt: &R, k: usize, gate: &G) -> Worked
+        requires { k < N.board.shards }
+    {
+        for _ in rt.forever() {
+            match self.work_one(rt, k, gate) {
+                Worked::Applied(_) => {}
+                Worked::Idle => self.wait_for_work(rt, k),
+                ended => return ended,
+            }
+        }
+        unreachable!()
+    }
+
+    /// Returns once more was issued than the shard has applied, or the checker was closed. It takes no lock of the book.
+    fn wait_for_work<R: Wait>(&self, rt: &R, k: usize)
+        requires { k < N.board.shards }
+    {
+        for _ in rt.forever() {
+            if self.has_work(rt, k) {
+                return;
+            }
+            thread::yield_now();
+        }
+    }
+
+    /// Whether more was issued than the shard has applied, or the checker was closed.
+    fn has_work<R: Wait>(&self, rt: &R, k: usize) -> bool
+        requires { k < N.board.shards }
+    {
+        let Some(mut guard) = self.bay(rt, k) else {
+            return true;
+        };
+        let bay = &mut *guard;
+        bay.is_behind(&self.words) || bay.is_closed(&self.words)
+    }
+}
