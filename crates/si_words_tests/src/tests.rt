@@ -10,6 +10,31 @@ use std::snapshot::Snapshot;
 use std::test::Fail;
 use std::thread::join;
 
+#[test]
+fn a_row_on_one_thread(rt: HostRuntime) -> Result<(), Fail> {
+    let (words, mut book, mut shards, mut passes) = Words::open(rt.alloc(), 2, 1)?;
+    let edit = Edit::Withdraw(TxnId(7));
+    let mut second = shards.pop().ok_or("two shards")?;
+    let mut first = shards.pop().ok_or("two shards")?;
+    let mut pass = passes.pop().ok_or("one pass")?;
+    words.issue(&mut book, &mut pass, Snapshot::of(&edit));
+    words.issue(&mut book, &mut pass, Snapshot::of(&edit));
+    words.issue(&mut book, &mut pass, Snapshot::of(&edit));
+    words.pull(&mut second, &mut book);
+    words.publish(&mut second, 3);
+    assert_eq!(rt; words.issued(&mut pass), 3);
+    assert_eq!(rt; words.shard_mark(&mut pass, 1), 3);
+    assert_eq!(rt; words.shard_mark(&mut pass, 0), 0);
+    assert_eq!(rt; words.watermark(&mut pass), 0);
+    assert!(rt; !words.is_closed(&mut pass));
+    words.pull(&mut first, &mut book);
+    words.publish(&mut first, 2);
+    assert_eq!(rt; words.watermark(&mut pass), 2);
+    words.close(&mut book);
+    assert!(rt; words.is_closed(&mut pass));
+    Ok(())
+}
+
 const ROUNDS: u64 = 1000;
 
 /// Issues, pulls and publishes, round by round.
@@ -141,140 +166,6 @@ impl Worker {
             self.done = issued - lag;
         }
     }
-}
-
-/// All seats of words of two shards and one pass.
-#[derive(Drop)]
-struct Seats {
-    book: BookSeat,
-    // How many edits are issued.
-    issued: u64,
-    // The last shard first.
-    workers: Vec<Worker>,
-    pass: Pass,
-    ghost counted: { length book.view.journal ≡ issued },
-}
-
-impl Seats {
-    fn issue(&mut self, rt: &impl Abort, words: &Words)
-        requires book { self.old.book.table ≡ words.now.table }
-        requires pass { self.old.pass.table ≡ words.now.table }
-        ensures book { self.new.book.table ≡ words.now.table }
-        ensures pass { self.new.pass.table ≡ words.now.table }
-        ensures workers { self.new.workers ≡ self.old.workers }
-    {
-        let edit = Edit::Withdraw(TxnId(7));
-        assert!(rt; self.issued < 1000);
-        words.issue(&mut self.book, &mut self.pass, Snapshot::of(&edit));
-        self.issued += 1;
-    }
-
-    /// The shard pulls, and publishes all but the last few of what is issued.
-    fn advance(&mut self, rt: &impl Abort, words: &Words, place: usize, lag: u64)
-        requires book { self.old.book.table ≡ words.now.table }
-        requires workers { All (λ w. w.seat.table ≡ words.now.table) self.old.workers.items }
-        ensures book { self.new.book.table ≡ words.now.table }
-        ensures pass { self.new.pass ≡ self.old.pass }
-        ensures workers { All (λ w. w.seat.table ≡ words.now.table) self.new.workers.items }
-    {
-        assert!(rt; place < self.workers.len());
-        let worker = &mut self.workers[place];
-        worker.advance(words, &mut self.book, self.issued, lag);
-    }
-
-    /// What the pass finds: `issued`, `mark 1`, `watermark` or `closed`.
-    fn look(&mut self, rt: &impl Abort, words: &Words, line: &str) -> Result<u64, Fail>
-        requires shards { words.now.shards ≡ 2 }
-        requires pass { self.old.pass.table ≡ words.now.table }
-        ensures book { self.new.book ≡ self.old.book }
-        ensures pass { self.new.pass.table ≡ words.now.table }
-        ensures workers { self.new.workers ≡ self.old.workers }
-    {
-        let pass = &mut self.pass;
-        Ok(match line {
-            "issued" => words.issued(pass),
-            "mark 0" => words.shard_mark(pass, 0),
-            "mark 1" => words.shard_mark(pass, 1),
-            "watermark" => words.watermark(pass),
-            "closed" => u64::from(words.is_closed(pass)),
-            _ => panic!(rt; "no look: {line}"),
-        })
-    }
-
-    /// A step, as `issue`, `advance 1 0` or `close`, or a look, with what it finds behind the bar.
-    fn step(&mut self, rt: &impl Abort, words: &Words, line: &str) -> Result<(), Fail>
-        requires shards { words.now.shards ≡ 2 }
-        requires book { self.old.book.table ≡ words.now.table }
-        requires pass { self.old.pass.table ≡ words.now.table }
-        requires workers { All (λ w. w.seat.table ≡ words.now.table) self.old.workers.items }
-        ensures book { self.new.book.table ≡ words.now.table }
-        ensures pass { self.new.pass.table ≡ words.now.table }
-        ensures workers { All (λ w. w.seat.table ≡ words.now.table) self.new.workers.items }
-    {
-        match line {
-            "issue" => self.issue(rt, words),
-            "close" => words.close(&mut self.book),
-            _ => match line.split_once(" | ") {
-                Some((look, wanted)) => {
-                    let found = self.look(rt, words, look)?;
-                    assert_eq!(rt; found, wanted.parse::<u64>()?, "at {line}");
-                }
-                None => {
-                    let (place, lag) = advance_of(line)?;
-                    self.advance(rt, words, place, lag);
-                }
-            },
-        }
-        Ok(())
-    }
-
-    fn play(&mut self, rt: &impl Abort, words: &Words, script: &str) -> Result<(), Fail>
-        requires shards { words.now.shards ≡ 2 }
-        requires book { self.old.book.table ≡ words.now.table }
-        requires pass { self.old.pass.table ≡ words.now.table }
-        requires workers { All (λ w. w.seat.table ≡ words.now.table) self.old.workers.items }
-    {
-        for line in script.trim().lines() {
-            self.step(rt, words, line.trim())?;
-        }
-        Ok(())
-    }
-}
-
-/// `advance 1 0`: a worker by its place, and how many edits it leaves.
-fn advance_of(line: &str) -> Result<(usize, u64), Fail> {
-    let words = line.strip_prefix("advance ").ok_or("a step is wanted")?;
-    let (place, lag) = words.split_once(' ').ok_or("a number is wanted")?;
-    Ok((place.parse::<usize>()?, lag.parse::<u64>()?))
-}
-
-/// The first worker is of shard 1, as the last one stands first.
-const ROW: &str = "
-    issue
-    issue
-    issue
-    advance 0 0
-    issued | 3
-    mark 1 | 3
-    mark 0 | 0
-    watermark | 0
-    closed | 0
-    advance 1 1
-    watermark | 2
-    close
-    closed | 1";
-
-#[test]
-fn a_row_on_one_thread(rt: HostRuntime) -> Result<(), Fail> {
-    let (words, book, shards, mut passes) = Words::open(rt.alloc(), 2, 1)?;
-    let pass = passes.pop().ok_or("one pass")?;
-    let mut seats = Seats {
-        book,
-        issued: 0,
-        workers: workers_of(rt.alloc(), &words, shards)?,
-        pass,
-    };
-    seats.play(&rt, &words, ROW)
 }
 
 /// What a pass found at its last looks: how many edits are issued, each shard's mark and the least mark.
