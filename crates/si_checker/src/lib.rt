@@ -23,3 +23,6 @@ pub use reports::{Report, ReportFault, ShardReport};
 pub use si_accept::AcceptFault;
 pub use si_words::Pass;
 pub use workers::Worked;
+
+#[cfg(test)]
+mod tests;
