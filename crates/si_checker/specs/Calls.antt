@@ -1,5 +1,5 @@
 -- What calls with a pass promise. All of it is this project's choice.
-use Rattle.std.specs.Prelude.{◌≡◌, ℕ, ◌≤◌, List, [], ◌∷◌, ◌++◌, None, length}
+use Rattle.std.specs.Prelude.{◌≡◌, ℕ, ◌≤◌, List, [], ◌∷◌, ◌++◌, None, length, max, slice_set}
 use Rattle.si_model.specs.declared.edits.Edit.{Edit}
 use Rattle.si_model.specs.Journals.{refusal_after}
 use Rattle.si_words.specs.declared.views.Entry.{Entry}
@@ -15,6 +15,6 @@ pub record IsSubmitted (limit : ℕ) (e : Edit) (old new : PassView) : Type 0 wh
   pub counted : old.count ≤ length before
   pub free : refusal_after limit (edits_of before) e ≡ None
 
--- the pass as it was, but for what it has seen, how much it counts and its marks, which are the first's
-abbrev pub learning : PassView → PassView → PassView
-learning new old = record old { seen = new.seen; count = new.count; marks = new.marks }
+-- the pass as it was, but that it has seen this list, counts no less than that has, and knows that the shard k has applied so many
+abbrev pub learning : List Entry → ℕ → ℕ → PassView → PassView
+learning seen k position old = record old { seen = seen; count = max old.count (length seen); marks = slice_set old.marks k position }

@@ -186,7 +186,7 @@ impl<N: Name> Checker<N> {
         ensures accepted { IfOk result (λ r. IsAccepted (take r.position (edits_of pass.new.view.seen))) }
         ensures found { IfOk result (λ r. r.findings.items ≡ findings_in (shard_id k N.board.shards) (present (take r.position (edits_of pass.new.view.seen)))) }
         ensures begins { OnOk result (IsBeginning pass.old.view.seen pass.new.view.seen) }
-        ensures learned { OnOk result (pass.new ≡ record pass.old { view = learning pass.new.view pass.old.view }) }
+        ensures learned { IfOk result (λ r. pass.new ≡ record pass.old { view = learning pass.new.view.seen k r.position pass.old.view }) }
         ensures err { OnErr result (pass.new ≡ pass.old) }
     {
         let Some(mut guard) = self.bay(rt, k) else {
