@@ -17,7 +17,7 @@ ghost use Rattle.si_checker.specs.Calls.{IsSubmitted, learning};
 use crate::bays::Bay;
 use crate::desks::Desk;
 use crate::openings::Parts;
-use crate::reports::{Report, ReportFault, ShardReport};
+use crate::reports::{Report, ReportFault, SettledFindings, ShardReport};
 use crate::{AcceptFault, Name};
 use si_accept::Book;
 use si_graph::laws::emptiness_is_exact;
@@ -28,6 +28,7 @@ use si_shard::laws::findings_are_of_shards;
 use si_words::{Pass, ShardSeat, Words};
 use std::alloc::{AllocError, Global};
 use std::hash::RandomState;
+use std::sync::atomic::{AtomicU64, Ordering};
 use std::sync::{Mutex, MutexGuard, Wait};
 
 /// A checker that any threads share by reference.
@@ -40,6 +41,8 @@ pub struct Checker<N: Name> {
     pub(crate) desk: Mutex<Desk<N>>,
     // The shard of each number. The type behind a lock does not know its place, so the number is looked at each time.
     bays: Vec<Mutex<Bay<N>>>,
+    // Idle workers sleep on it while it is 0, and it is 1 once the checker was closed.
+    pub(crate) idle: AtomicU64,
     ghost words_are: { words ≡ N.board },
     ghost bays_are: { length bays.items ≡ N.board.shards },
     ghost some: { 1 ≤ N.board.shards },
@@ -65,6 +68,7 @@ impl<N: Name> Checker<N> {
             words,
             desk: Mutex::new(desk),
             bays,
+            idle: AtomicU64::new(0),
         })
     }
 
@@ -122,8 +126,6 @@ impl<N: Name> Checker<N> {
         let desk = &mut *guard;
         desk.show(&self.words, pass);
         let findings = self.settle(rt, desk)?;
-        emptiness_is_exact();
-        present_is_history();
         Ok(Report {
             number: desk.len(),
             present: desk.present()?,
@@ -132,10 +134,46 @@ impl<N: Name> Checker<N> {
         })
     }
 
+    /// The findings of the whole journal, which the pass sees, and how many transactions are present after it: what a settled
+    /// report tells, without the copy of what is present.
+    ///
+    /// What shards have left to apply is applied here. After a fault what was applied stands, and the pass has seen the journal.
+    pub fn settled_findings<R: Wait>(
+        &self,
+        rt: &R,
+        pass: &mut Pass,
+    ) -> Result<SettledFindings, ReportFault>
+        requires { pass.old.table ≡ N.board.table }
+        ensures number { IfOk result (λ r. r.number ≡ length pass.new.view.seen) }
+        ensures count { IfOk result (λ r. r.transactions ≡ length (present (edits_of pass.new.view.seen)).txns) }
+        ensures found { IfOk result (λ r. r.findings.items ≡ findings (present (edits_of pass.new.view.seen))) }
+        ensures empty { IfOk result (λ r. (r.findings.items ≡ []) ↔ (IsWellFormed (present (edits_of pass.new.view.seen)) × IsPlSi (present (edits_of pass.new.view.seen)))) }
+        ensures sees { pass.new ≡ record pass.old { view = with_seen pass.new.view.seen pass.old.view } }
+        ensures begins { IsBeginning pass.old.view.seen pass.new.view.seen }
+        ensures counted { pass.old.view.count ≤ length pass.new.view.seen }
+        ensures marks { (k : ℕ) → k < N.board.shards → slice_index pass.old.view.marks k ≤ length pass.new.view.seen }
+        ensures accepted { IsAccepted (edits_of pass.new.view.seen) }
+        ensures made { pass.new.view.mine ≡ made_by pass.new.view.number pass.new.view.seen }
+        ensures bearers { All (λ e. e.by < N.board.passes) pass.new.view.seen }
+    {
+        let mut guard = self.desk.lock(rt);
+        let desk = &mut *guard;
+        let words = &self.words;
+        desk.show(words, pass);
+        let findings = self.settle(rt, desk)?;
+        let number = desk.len();
+        Ok(SettledFindings {
+            number,
+            transactions: desk.transactions(),
+            findings,
+        })
+    }
+
     /// Each shard applies what it has left of the journal: the findings of all, in order.
     fn settle<R: Wait>(&self, rt: &R, desk: &mut Desk<N>) -> Result<Vec<Finding>, ReportFault>
         ensures desk { desk.new ≡ desk.old }
         ensures found { IfOk result (λ found. found.items ≡ findings (present (edits_of desk.old.journal))) }
+        ensures empty { IfOk result (λ found. (found.items ≡ []) ↔ (IsWellFormed (present (edits_of desk.old.journal)) × IsPlSi (present (edits_of desk.old.journal)))) }
     {
         let mut found = Vec::new(self.alloc);
         for k in 0..self.bays.len() {
@@ -145,6 +183,7 @@ impl<N: Name> Checker<N> {
         put_in_order(&mut found);
         findings_are_of_shards();
         present_is_history();
+        emptiness_is_exact();
         let _accepted = desk.journal();
         Ok(found)
     }
@@ -217,6 +256,8 @@ impl<N: Name> Checker<N> {
     {
         let _caller = pass;
         self.desk.lock(rt).close(&self.words);
+        self.idle.store(1, Ordering::SeqCst);
+        self.idle.wake_all();
     }
 
     /// The shard of this number, locked.

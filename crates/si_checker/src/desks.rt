@@ -149,6 +149,13 @@ impl<N: Name> Desk<N> {
         self.book.journal().len() as u64
     }
 
+    /// How many transactions are present.
+    pub fn transactions(&self) -> usize
+        ensures { result ≡ length (present (edits_of self.now.journal)).txns }
+    {
+        self.book.len()
+    }
+
     /// Copies of the present transactions, in the order of arrival, which share the operations.
     pub fn present(&self) -> Result<Vec<Txn>, OutOfMemory>
         ensures { IfOk result (λ txns. txns.items ≡ (present (edits_of self.now.journal)).txns) }

@@ -17,6 +17,17 @@ pub struct Report {
     pub findings: Vec<Finding>,
 }
 
+/// The findings of a journal, settled, and how much is present.
+#[derive(Drop)]
+pub struct SettledFindings {
+    /// How many edits the journal has.
+    pub number: u64,
+    /// How many transactions are present.
+    pub transactions: usize,
+    /// The findings, in order.
+    pub findings: Vec<Finding>,
+}
+
 /// The state of one shard.
 #[derive(Drop)]
 pub struct ShardReport {

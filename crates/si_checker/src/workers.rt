@@ -7,6 +7,13 @@ use crate::names::Name;
 use si_model::Number;
 use std::sync::Wait;
 use std::thread;
+use std::time::Duration;
+
+/// How often an idle worker looks for work before it sleeps between two looks.
+const LOOKS_AWAKE: u64 = 16;
+
+/// How long an idle worker sleeps between two looks, in microseconds.
+const SLEEP_MICROS: u64 = 500;
 
 /// What became of one turn of a worker.
 #[derive(Clone, Copy, Debug, PartialEq, Eq)]
@@ -85,14 +92,24 @@ impl<N: Name> Checker<N> {
     }
 
     /// Returns once more was issued than the shard has applied, or the checker was closed. It takes no lock of the book.
+    ///
+    /// It yields between the first looks, since more often comes at once, and sleeps between the others: a submission then wakes
+    /// nobody and costs nothing for it, and what came meanwhile is applied together.
     fn wait_for_work<R: Wait>(&self, rt: &R, k: usize)
         requires { k < N.board.shards }
     {
-        for _ in rt.forever() {
+        for _ in 0..LOOKS_AWAKE {
             if self.has_work(rt, k) {
                 return;
             }
             thread::yield_now();
+        }
+        for _ in rt.forever() {
+            if self.has_work(rt, k) {
+                return;
+            }
+            self.idle
+                .park_timeout(rt, 0, Duration::from_micros(SLEEP_MICROS));
         }
     }
 

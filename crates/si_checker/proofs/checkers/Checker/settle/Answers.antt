@@ -14,3 +14,11 @@ returns-clause-found g c =
     let accepted : IsAccepted J = subst (λ (b : BookView). IsAccepted (edits_of b.journal)) c.loop-k.invariant.0 c.journal-accepted.ensures.accepted in
     c.put_in_order.ensures ∙ ap (in_order finding_cmp) (c.loop-k.invariant.1 ∙ ap (λ (n : ℕ). findings_below n shards (present J)) all)
     ∙ c.findings_are_of_shards.ensures shards (present J) c.args.self.now.some (c.present_is_history.ensures J accepted)
+
+pub returns-clause-empty : goal.returns-clause-empty
+returns-clause-empty g c =
+    let J = edits_of c.args.desk.now.journal in
+    let accepted : IsAccepted J = subst (λ (b : BookView). IsAccepted (edits_of b.journal)) c.loop-k.invariant.0 c.journal-accepted.ensures.accepted in
+    let exact = c.emptiness_is_exact.ensures (present J) (c.present_is_history.ensures J accepted) in
+    let found = returns-clause-found g c in
+    ((λ e. exact.0 (sym found ∙ e)), (λ w. found ∙ exact.1 w))
