@@ -1,5 +1,2 @@
-pub mod Runnings
 pub mod GivenValues
-pub mod Beginnings
-pub mod Endings
-pub mod PlainOutputs
+pub mod Opened

@@ -11,8 +11,8 @@ use Rattle.clap.specs.Words.{all_of, fault_of, first_of, new_app, new_rule, one_
 use Rattle.si_model.specs.declared.edits.TheConstants.{MOST_EDITS}
 use Rattle.si_shard.specs.declared.shards.TheConstants.{MOST_SHARDS}
 use Rattle.si_cli.specs.declared.command_lines.TheConstants.{MOST_EVERY}
-use Rattle.si_cli.specs.declared.options.Options.{Options}
-use Rattle.si_cli.specs.declared.options.TheConstants.{USUAL_SHARDS}
+use Rattle.si_run.specs.declared.options.Options.{Options}
+use Rattle.si_run.specs.declared.options.TheConstants.{USUAL_SHARDS}
 use Rattle.si_cli.specs.declared.settings.TheConstants.{MOST_FILES}
 use Rattle.si_cli.specs.declared.settings.Settings.{Settings}
 use Rattle.si_cli.specs.declared.settings.SettingsFault.{SettingsFault}

@@ -1,7 +1,3 @@
-pub mod Outputs
-pub mod Runs
-pub mod Faults
-pub mod Engines
+pub mod Openings
 pub mod Programs
 pub mod CommandLines
-pub mod Laws

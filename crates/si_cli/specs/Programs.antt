@@ -1,28 +1,20 @@
 -- How the program ends, and what it writes to which device.
-use Rattle.std.specs.Prelude.{◌≡◌, ◌≢◌, ◌<◌, ◌≤◌, ◌⊎◌, ◌++◌, ℕ, Bool, true, false, List, [], ◌∷◌, Option, length, codes, decimal}
+use Rattle.std.specs.Prelude.{◌≡◌, ◌≢◌, ◌<◌, ◌≤◌, ◌⊎◌, ◌++◌, ℕ, Bool, true, false, List, [], ◌∷◌, All, Option, length, map, slice_index_or, codes, decimal}
 use Rattle.std.specs.Io.KnownBytes.{Appends}
 use Rattle.clap.specs.declared.error.Error.{Error}
 use Rattle.clap.specs.declared.error.kind.ErrorKind.TheVariants.{DisplayHelp, DisplayVersion, OutOfMemory}
 use Rattle.clap.specs.Words.{HasKind, Text, fault_of, kind_of}
 use Rattle.si_model.specs.declared.edits.TheConstants.{MOST_EDITS}
 use Rattle.si_cli.specs.declared.settings.TheConstants.{MOST_FILES}
-use Rattle.si_cli.specs.declared.statuses.ExitStatus.{ExitStatus}
-use Rattle.si_cli.specs.declared.faults.RunFault.{RunFault}
-use Rattle.si_cli.specs.declared.faults.RunFault.TheVariants as fault
+use Rattle.si_run.specs.declared.statuses.ExitStatus.{ExitStatus}
+use Rattle.si_run.specs.declared.faults.RunFault.{RunFault}
+use Rattle.si_run.specs.declared.faults.RunFault.TheVariants as fault
 use Rattle.si_cli.specs.CommandLines.{every_given, explain_given, files_given, rows_given, sicheck_app}
-use Rattle.si_cli.specs.Outputs.{Terms, exit_code}
-use Rattle.si_cli.specs.Runs.{AppendsBeginning, IsTrueFault, WritesBeginning, WritesOutput}
+use Rattle.si_run.specs.Outputs.{Terms, exit_code}
+use Rattle.si_run.specs.Runs.{AppendsBeginning, BeginsText, IsTrueDeviceFault, WritesText}
+use Rattle.si_run.specs.Takings.{Device}
 
 -- ---- what is written
-
--- a device for text: what was written to it before and is now, where that is known, and whether it has failed
-pub record Device : Type 0 where
-  pub before : Option (List ℕ)
-  pub after : Option (List ℕ)
-  pub failed : Bool
-
-abbrev pub device : Option (List ℕ) → Option (List ℕ) → Bool → Device
-device old new has_failed = record { before = old; after = new; failed = has_failed }
 
 -- nothing was written
 abbrev pub IsUntouched : Device → Type 0
@@ -52,6 +44,7 @@ open_line source = source_line (codes "sicheck: cannot open source ") source
 
 abbrev pub fault_line : RunFault → List ℕ
 fault_line (fault.Input source) = source_line (codes "sicheck: cannot read source ") source
+fault_line (fault.Open opening) = codes "sicheck: options out of range\n"
 fault_line fault.Output = output_line
 fault_line fault.Memory = memory_line
 
@@ -61,20 +54,22 @@ fault_line fault.Memory = memory_line
 abbrev pub Fails : Device → List ℕ → ℕ → Type 0
 Fails err line result = (result ≡ 2) × Tells err line
 
--- the status is that of a run, of which the text was written and neither device has failed; or a fault is told, which is true, and a beginning of
--- that text was written
-abbrev pub EndsCheck : Terms → Option (List ℕ) → Bool → Device → Device → ℕ → Type 0
-EndsCheck terms left source_failed out err result =
-    ((status : ExitStatus) × (result ≡ exit_code status) × WritesOutput terms left out.before out.after status
-    × (source_failed ≡ false) × (out.failed ≡ false) × IsUntouched err)
-    ⊎ ((fault : RunFault) × IsTrueFault left source_failed out.failed fault × WritesBeginning terms left out.before out.after
+-- the status is that of a run over these inputs, of which the text was written and no device has failed; or a fault of a device or of memory is told,
+-- which is true, and a beginning of that text was written
+abbrev pub EndsCheck : Terms → List (Option (List ℕ)) → List Bool → Device → Device → ℕ → Type 0
+EndsCheck terms inputs failed out err result =
+    ((status : ExitStatus) × (result ≡ exit_code status) × WritesText terms inputs out.before out.after status
+    × All (λ has_failed. has_failed ≡ false) failed × (out.failed ≡ false) × IsUntouched err)
+    ⊎ ((fault : RunFault) × IsTrueDeviceFault inputs failed out.failed fault × BeginsText terms inputs out.before out.after
     × Fails err (fault_line fault) result)
 
--- the first source couldn't be opened, which may be, and nothing was written; or its check ends so, with a source that may have failed
-abbrev pub EndsFile : Terms → Option (List ℕ) → Bool → (Bool → Type 0) → Device → Device → ℕ → Type 0
-EndsFile terms bytes may_lack May_be out err result =
-    ((may_lack ≡ true) × IsUntouched out × Fails err (open_line 0) result)
-    ⊎ ((source_failed : Bool) × May_be source_failed × EndsCheck terms bytes source_failed out err result)
+-- a file couldn't be opened, which may be, or memory was refused before all were, and nothing was written; or the check of all files ends so, each with a
+-- source that may have failed
+abbrev pub EndsFiles : Terms → (Text → Option (List ℕ)) → (Text → Bool) → (Bool → Type 0) → List Text → Device → Device → ℕ → Type 0
+EndsFiles terms bytes may_lack May_be names out err result =
+    ((place : ℕ) × (place < length names) × (may_lack (slice_index_or names place []) ≡ true) × IsUntouched out × Fails err (open_line place) result)
+    ⊎ (IsUntouched out × Fails err memory_line result)
+    ⊎ ((failed : List Bool) × (length failed ≡ length names) × All May_be failed × EndsCheck terms (map bytes names) failed out err result)
 
 -- ---- how the program ends
 
@@ -97,17 +92,17 @@ EndsLine error out err result =
 abbrev pub terms_given : List Text → Terms
 terms_given words = record { limit = MOST_EDITS; every = every_given (rows_given words); explain = explain_given (rows_given words) }
 
--- the check is that of the input where no file is named, and else that of the first file
-abbrev pub EndsFirst : List Text → Type 0 → (Text → Type 0) → Type 0
-EndsFirst [] Input File = Input
-EndsFirst (name ∷ others) Input File = File name
+-- the check is that of the input where no file is named, and else that of the files
+abbrev pub EndsNamed : List Text → Type 0 → (List Text → Type 0) → Type 0
+EndsNamed [] Input Files = Input
+EndsNamed (name ∷ others) Input Files = Files (name ∷ others)
 
 -- clap tells something of the words, or want of memory; or it has no fault to tell, and they name too many files, or the check ends as that of the
--- input or of the file, by the terms of the words
-abbrev pub EndsProgram : List Text → (Terms → Type 0) → (Terms → Text → Type 0) → Device → Device → ℕ → Type 0
-EndsProgram words Input File out err result =
+-- input or of the files, by the terms of the words
+abbrev pub EndsProgram : List Text → (Terms → Type 0) → (Terms → List Text → Type 0) → Device → Device → ℕ → Type 0
+EndsProgram words Input Files out err result =
     ((error : Error) × HasKind (fault_of sicheck_app words) error × EndsLine error out err result)
     ⊎ ((fault_of sicheck_app words ≡ [])
     × (((MOST_FILES < length (files_given (rows_given words))) × IsUntouched out × Fails err files_line result)
     ⊎ ((length (files_given (rows_given words)) ≤ MOST_FILES)
-    × EndsFirst (files_given (rows_given words)) (Input (terms_given words)) (File (terms_given words)))))
+    × EndsNamed (files_given (rows_given words)) (Input (terms_given words)) (Files (terms_given words)))))

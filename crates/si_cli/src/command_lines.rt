@@ -28,10 +28,11 @@ const VERSION: &str = "0.1.0";
 
 const ABOUT: &str = "Checks a history of transactions against snapshot isolation.";
 
-const USAGE: &str = "sicheck check [--shards K] [--every N] [--explain] [FILE]";
+const USAGE: &str = "sicheck check [--shards K] [--every N] [--explain] [FILE]...";
 
 const INPUT: &str = "\
-The input has one JSON value a line; lines may come late and out of order:
+The input has one JSON value a line; lines may come late and out of order.
+With several FILEs, one a client, the lines of each are taken in their order:
   {\"do\":\"txn\",\"id\":1,\"start\":2,\"status\":\"committed\",\"commit\":5,\"ops\":[OP,..]}
       a transaction: the stamp of its snapshot, what became of it (committed,
       aborted or indoubt; a commit stamp where it committed), and what it did
@@ -85,7 +86,7 @@ fn command<'a>(alloc: Global) -> Result<Command<'a>, AllocError>
     ensures { IfOk result (λ command. app_of command ≡ sicheck_app) }
 {
     let check = Command::new(alloc, "check")
-        .about("Checks the history in FILE, or on standard input where none is named")
+        .about("Checks the history in FILEs, or on standard input where none is named")
         .override_usage(USAGE)
         .after_help(manual())
         .arg(shards(alloc))?
@@ -143,7 +144,7 @@ fn explain<'a>(alloc: Global) -> Arg<'a>
         .help("Follows each violation with its evidence")
 }
 
-/// The files that are read in place of standard input. Help would show several; the usage line shows the one that is taken.
+/// The files that are read in place of standard input. The usage line of help shows them.
 fn file<'a>(alloc: Global) -> Arg<'a>
     ensures rule { rule_of result ≡ file_rule }
     ensures local { result.global ≡ false }

@@ -14,7 +14,7 @@ pub struct CannotOpen;
 /// Files by their names. Several may be open at once.
 pub trait NamedFiles {
     /// What a file is read by.
-    type Source: ByteSource + Drop;
+    type Source: ByteSource + Send + Drop;
 
     /// The bytes of the file of that name, where they are known. `None` claims nothing.
     ghost bytes: { Self → List ℕ → Option (List ℕ) };
@@ -40,7 +40,10 @@ impl<'a, R: Files> StdFiles<'a, R> {
     }
 }
 
-impl<'a, R: Files> NamedFiles for StdFiles<'a, R> {
+impl<'a, R: Files> NamedFiles for StdFiles<'a, R>
+where
+    R::File: Send,
+{
     type Source = StdSource<R::File>;
 
     ghost bytes = { λ _ _. None };

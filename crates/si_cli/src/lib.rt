@@ -1,25 +1,15 @@
-//! The checker's engine and its command line.
+//! The command line, and the whole program over its devices.
 //!
-//! It carries the promise that what a run writes is the text that the definitions give for the items of its input. It
-//! stands on `si_text` for lines, texts and devices, and on `si_core` for the book and the findings.
+//! It carries the promise that the program does what the words of its command line say by `clap`'s definition of the command, and ends
+//! with the status and the line that are said for each case. It stands on `si_run` for what a run writes.
 #![tactic(auto)]
 
 mod command_lines;
-mod engines;
-pub mod faults;
 pub mod files;
-pub mod laws;
-pub mod options;
 pub mod programs;
-pub mod runs;
 pub mod settings;
-pub mod statuses;
-mod writing;
 
-pub use faults::RunFault;
 pub use files::{CannotOpen, NamedFiles, StdFiles};
-pub use options::Options;
 pub use programs::main_with;
-pub use runs::run;
 pub use settings::{Settings, SettingsFault, settings_of};
-pub use statuses::ExitStatus;
+pub use si_run::{ExitStatus, Gate, Options, Place, RunFault, run, run_gated};

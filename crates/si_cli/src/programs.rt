@@ -1,26 +1,41 @@
-ghost use Rattle.std.specs.Prelude.{◌≡◌, ◌++◌, false, true, map, codes, decimal, is_err, OnOk, OnErr};
+ghost use Rattle.std.specs.Prelude.{◌≡◌, ◌≤◌, ◌<◌, ◌++◌, ◌∷◌, [], false, true, All, length, map, codes, decimal, is_err, IfOk, IfErr, OnOk, OnErr};
 ghost use Rattle.std.specs.Io.KnownBytes.{Appends};
-ghost use Rattle.si_cli.specs.Programs.{EndsCheck, EndsFile, EndsLine, EndsProgram, Fails, device, fault_line, source_line};
-ghost use Rattle.si_cli.specs.Runs.{IsRunnable, terms_by};
+ghost use Rattle.std.specs.Mem.{FitsInMemory};
+ghost use Rattle.si_cli.specs.declared.settings.TheConstants.{MOST_FILES};
+ghost use Rattle.si_cli.specs.Openings.{AreKept, IsNotOpened};
+ghost use Rattle.si_cli.specs.Programs.{EndsCheck, EndsFiles, EndsLine, EndsNamed, EndsProgram, Fails, fault_line, source_line};
+ghost use Rattle.si_run.specs.Runs.{IsRunnable, terms_by};
+ghost use Rattle.si_run.specs.Takings.{device};
 
-use crate::files::{CannotOpen, NamedFiles};
+use crate::files::NamedFiles;
 use crate::settings::{SettingsFault, settings_of};
-use crate::writing::write_all;
 use crate::{Options, RunFault, run};
 use clap::error::ErrorKind;
 use itoa::Buffer;
+use si_run::writing::write_all;
 use si_text::{ByteSink, ByteSource, DeviceFailed};
 use std::alloc::Global;
 use std::convert::AsStr;
 use std::hash::RandomState;
+use std::slice;
+use std::sync::Wait;
+use std::thread::Threads;
 
 /// The exit status of a run that couldn't be made.
 const FAULTY: u8 = 2;
 
-/// The whole program: it reads a command line, of which the first word is the program's name, checks the file that it names
-/// or else the input, and answers the exit status. Help goes to `out`, and what went wrong to `err`, whose own failure changes
-/// nothing. A file is opened before anything is read. The hash maps have this secret key, which nothing that is written tells.
-pub fn main_with<F: NamedFiles, S: AsStr, I: ByteSource, O: ByteSink, E: ByteSink>(
+/// The whole program: it reads a command line, of which the first word is the program's name, checks the files that it
+/// names or else the input, and answers the exit status. Help goes to `out`, and what went wrong to `err`, whose own failure changes
+/// nothing. All files are opened before anything is read. The hash maps have this secret key, which nothing that is written tells.
+pub fn main_with<
+    R: Threads + Wait + Sync,
+    F: NamedFiles,
+    S: AsStr,
+    I: ByteSource + Send,
+    O: ByteSink,
+    E: ByteSink,
+>(
+    rt: &R,
     files: &F,
     alloc: Global,
     hash: RandomState,
@@ -29,72 +44,152 @@ pub fn main_with<F: NamedFiles, S: AsStr, I: ByteSource, O: ByteSink, E: ByteSin
     out: &mut O,
     err: &mut E,
 ) -> u8
+    requires size { FitsInMemory I.row }
     requires input { I.failed input.old ≡ false }
     requires out { O.failed out.old ≡ false }
     ensures { EndsProgram (map S.text words.now)
-        (λ terms. EndsCheck terms (I.left input.old) (I.failed input.new)
+        (λ terms. EndsCheck terms (I.left input.old ∷ []) (I.failed input.new ∷ [])
         (device (O.written out.old) (O.written out.new) (O.failed out.new))
         (device (E.written err.old) (E.written err.new) (E.failed err.new)) result)
-        (λ terms name. EndsFile terms (F.bytes files.now name) (F.may_lack files.now name)
-        (λ has_failed. (source : F.Source) × (F.Source.failed source ≡ has_failed))
+        (λ terms names. EndsFiles terms (F.bytes files.now) (F.may_lack files.now)
+        (λ has_failed. (source : F.Source) × (F.Source.failed source ≡ has_failed)) names
         (device (O.written out.old) (O.written out.new) (O.failed out.new))
         (device (E.written err.old) (E.written err.new) (E.failed err.new)) result)
         (device (O.written out.old) (O.written out.new) (O.failed out.new))
         (device (E.written err.old) (E.written err.new) (E.failed err.new)) result }
 {
     match settings_of(alloc, words) {
-        Ok(settings) => match settings.files.first() {
-            None => check(alloc, hash, input, out, err, settings.options),
-            Some(name) => check_file(files, alloc, hash, *name, out, err, settings.options),
-        },
+        Ok(settings) => check_by(
+            rt,
+            files,
+            alloc,
+            hash,
+            &settings.files,
+            input,
+            out,
+            err,
+            settings.options,
+        ),
         Err(SettingsFault::Line(error)) => tell_line(alloc, out, err, &error),
         Err(SettingsFault::TooManyFiles) => tell(err, b"sicheck: too many files\n"),
     }
 }
 
-/// Checks the file of that name, and answers the exit status.
-fn check_file<F: NamedFiles, O: ByteSink, E: ByteSink>(
+/// Checks the files of these names, or else the input.
+fn check_by<
+    R: Threads + Wait + Sync,
+    F: NamedFiles,
+    I: ByteSource + Send,
+    O: ByteSink,
+    E: ByteSink,
+>(
+    rt: &R,
     files: &F,
     alloc: Global,
     hash: RandomState,
-    name: &str,
+    names: &[&str],
+    input: &mut I,
     out: &mut O,
     err: &mut E,
     options: Options,
 ) -> u8
+    requires size { FitsInMemory I.row }
     requires options { IsRunnable options }
+    requires few { length names.now ≤ MOST_FILES }
+    requires input { I.failed input.old ≡ false }
     requires out { O.failed out.old ≡ false }
-    ensures { EndsFile (terms_by options) (F.bytes files.now name.now) (F.may_lack files.now name.now)
-        (λ has_failed. (source : F.Source) × (F.Source.failed source ≡ has_failed))
+    ensures { EndsNamed (map (λ name. name.now) names.now)
+        (EndsCheck (terms_by options) (I.left input.old ∷ []) (I.failed input.new ∷ [])
         (device (O.written out.old) (O.written out.new) (O.failed out.new))
-        (device (E.written err.old) (E.written err.new) (E.failed err.new)) result }
+        (device (E.written err.old) (E.written err.new) (E.failed err.new)) result)
+        (λ given. EndsFiles (terms_by options) (F.bytes files.now) (F.may_lack files.now)
+        (λ has_failed. (source : F.Source) × (F.Source.failed source ≡ has_failed)) given
+        (device (O.written out.old) (O.written out.new) (O.failed out.new))
+        (device (E.written err.old) (E.written err.new) (E.failed err.new)) result) }
 {
-    match files.open(name) {
-        Ok(source) => {
-            let mut source = source;
-            check(alloc, hash, &mut source, out, err, options)
-        }
-        Err(CannotOpen) => tell_of_source(err, b"sicheck: cannot open source ", 0),
+    if names.is_empty() {
+        check(rt, alloc, hash, slice::from_mut(input), out, err, options)
+    } else {
+        check_files(rt, files, alloc, hash, names, out, err, options)
     }
 }
 
-/// Checks what the source gives, and answers the exit status.
-fn check<I: ByteSource, O: ByteSink, E: ByteSink>(
+/// Why not all files were opened.
+#[derive(Debug, PartialEq, Eq, Clone, Copy)]
+pub enum NotOpened {
+    /// The file of this place couldn't be, and those before it were.
+    File(usize),
+    /// The growth of some memory was refused.
+    Memory,
+}
+
+/// Opens the files of these names, and checks what they give together.
+fn check_files<R: Threads + Wait + Sync, F: NamedFiles, O: ByteSink, E: ByteSink>(
+    rt: &R,
+    files: &F,
     alloc: Global,
     hash: RandomState,
-    source: &mut I,
+    names: &[&str],
     out: &mut O,
     err: &mut E,
     options: Options,
 ) -> u8
     requires options { IsRunnable options }
-    requires source { I.failed source.old ≡ false }
+    requires some { (1 ≤ length names.now) × (length names.now ≤ MOST_FILES) }
     requires out { O.failed out.old ≡ false }
-    ensures { EndsCheck (terms_by options) (I.left source.old) (I.failed source.new)
+    ensures { EndsFiles (terms_by options) (F.bytes files.now) (F.may_lack files.now)
+        (λ has_failed. (source : F.Source) × (F.Source.failed source ≡ has_failed)) (map (λ name. name.now) names.now)
         (device (O.written out.old) (O.written out.new) (O.failed out.new))
         (device (E.written err.old) (E.written err.new) (E.failed err.new)) result }
 {
-    match run(alloc, hash, source, out, options) {
+    match open_all(files, alloc, names) {
+        Ok(mut sources) => check(rt, alloc, hash, sources.as_mut_slice(), out, err, options),
+        Err(NotOpened::File(place)) => tell_of_source(err, b"sicheck: cannot open source ", place),
+        Err(NotOpened::Memory) => tell(err, b"sicheck: out of memory\n"),
+    }
+}
+
+/// Opens the files of these names, each from its beginning.
+fn open_all<F: NamedFiles>(
+    files: &F,
+    alloc: Global,
+    names: &[&str],
+) -> Result<Vec<F::Source>, NotOpened>
+    ensures kept { IfOk result (λ sources. AreKept (map (F.bytes files.now) (map (λ name. name.now) names.now)) (map F.Source.left sources.items)) }
+    ensures works { IfOk result (λ sources. All (λ s. F.Source.failed s ≡ false) sources.items) }
+    ensures err { IfErr result (IsNotOpened (F.may_lack files.now) (map (λ name. name.now) names.now)) }
+{
+    let mut sources = Vec::new(alloc);
+    'names: for place in 0..names.len() {
+        let Ok(source) = files.open(names[place]) else {
+            return Err(NotOpened::File(place));
+        };
+        if sources.push(source).is_err() {
+            return Err(NotOpened::Memory);
+        }
+    }
+    Ok(sources)
+}
+
+/// Checks what the sources give, and answers the exit status.
+fn check<R: Threads + Wait + Sync, I: ByteSource + Send, O: ByteSink, E: ByteSink>(
+    rt: &R,
+    alloc: Global,
+    hash: RandomState,
+    sources: &mut [I],
+    out: &mut O,
+    err: &mut E,
+    options: Options,
+) -> u8
+    requires options { IsRunnable options }
+    requires some { (1 ≤ length sources.old) × (length sources.old ≤ MOST_FILES) }
+    requires sources { All (λ s. I.failed s ≡ false) sources.old }
+    requires out { O.failed out.old ≡ false }
+    ensures { EndsCheck (terms_by options) (map I.left sources.old) (map I.failed sources.new)
+        (device (O.written out.old) (O.written out.new) (O.failed out.new))
+        (device (E.written err.old) (E.written err.new) (E.failed err.new)) result }
+{
+    match run(rt, alloc, hash, sources, out, options) {
         Ok(status) => status.code(),
         Err(fault) => tell_fault(err, fault),
     }
@@ -106,6 +201,7 @@ fn tell_fault<E: ByteSink>(err: &mut E, fault: RunFault) -> u8
 {
     match fault {
         RunFault::Input(source) => tell_of_source(err, b"sicheck: cannot read source ", source),
+        RunFault::Open(_) => tell(err, b"sicheck: options out of range\n"),
         RunFault::Output => tell(err, b"sicheck: cannot write\n"),
         RunFault::Memory => tell(err, b"sicheck: out of memory\n"),
     }

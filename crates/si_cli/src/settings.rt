@@ -4,16 +4,16 @@ ghost use Rattle.si_cli.specs.CommandLines.{IsToldBy, IsReadOf, NumberFits, Numb
 
 use crate::Options;
 use crate::command_lines::{EVERY, EXPLAIN, FILE, SHARDS, parse};
-use crate::options::USUAL_SHARDS;
 use clap::ArgMatches;
 use si_model::MOST_EDITS;
+use si_run::options::USUAL_SHARDS;
 use si_shard::MOST_SHARDS;
 use std::alloc::{AllocError, Global};
 use std::convert::AsStr;
 use std::fmt;
 
 /// The most files that are read.
-pub const MOST_FILES: usize = 1;
+pub const MOST_FILES: usize = 8;
 
 /// What a command line asks for.
 #[derive(Debug, Drop)]
@@ -45,7 +45,7 @@ impl std::error::Error for SettingsFault {}
 
 /// What the words of a command line ask for, of which the first is the program's name.
 ///
-/// They are `sicheck check [--shards K] [--every N] [--explain] [FILE]`, with K from 1 to `MOST_SHARDS`, `USUAL_SHARDS` where it isn't
+/// They are `sicheck check [--shards K] [--every N] [--explain] [FILE]...`, with K from 1 to `MOST_SHARDS`, `USUAL_SHARDS` where it isn't
 /// given, and N from 1 to `MOST_EVERY`. A fault is one that `clap`'s definition of the command tells of the words, or want of
 /// memory, or that they name too many files.
 pub fn settings_of<'a, S: AsStr>(

@@ -21,7 +21,10 @@ use std::alloc::Global;
 use std::hash::RandomState;
 use std::process::Abort;
 use std::random::RandomSource;
+use std::slice;
+use std::sync::Wait;
 use std::test::Fail;
+use std::thread::Threads;
 
 /// What the tests run with, where they say nothing else.
 const PLAIN: Options = Options {
@@ -33,7 +36,7 @@ const PLAIN: Options = Options {
 
 /// A run over the input, which gives and takes so many bytes at once, writes the output and has that status.
 fn check_text(
-    rt: &(impl Abort + RandomSource),
+    rt: &(impl Abort + RandomSource + Threads + Wait + Sync),
     alloc: Global,
     piece: usize,
     options: Options,
@@ -47,9 +50,10 @@ fn check_text(
     assert!(rt; 1 <= options.shards && options.shards <= 16);
     assert!(rt; 1 <= options.limit && options.limit <= 16_777_216);
     let ended = run(
+        rt,
         alloc,
         RandomState::new(rt)?,
-        &mut source,
+        slice::from_mut(&mut source),
         &mut sink,
         options,
     )
@@ -61,7 +65,7 @@ fn check_text(
 
 /// The same, by bytes one at a time, and all at once with any number of shards.
 fn check_with(
-    rt: &(impl Abort + RandomSource),
+    rt: &(impl Abort + RandomSource + Threads + Wait + Sync),
     alloc: Global,
     options: Options,
     input: &str,
@@ -78,7 +82,7 @@ fn check_with(
 
 /// The same, with reports after each so many lines.
 fn check(
-    rt: &(impl Abort + RandomSource),
+    rt: &(impl Abort + RandomSource + Threads + Wait + Sync),
     alloc: Global,
     every: Option<u64>,
     input: &str,

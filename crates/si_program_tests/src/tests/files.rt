@@ -7,23 +7,29 @@ use std::hash::RandomState;
 use std::process::Abort;
 use std::random::RandomSource;
 use std::rt::Files;
+use std::sync::Wait;
 use std::test::Fail;
+use std::thread::Threads;
 use std::{env, fs, process};
 
 /// The program on these words, with nothing on standard input, writes this to both devices and ends with the status.
-fn writes(
-    rt: &(impl Abort + Files + RandomSource),
+fn writes<R: Abort + Files + RandomSource + Threads + Wait + Sync>(
+    rt: &R,
     alloc: Global,
     words: &[&str],
     output: &str,
     complaint: &str,
     status: u8,
-) -> Result<(), Fail> {
+) -> Result<(), Fail>
+where
+    R::File: Send,
+{
     let mut input = MemorySource::new(Vec::new(alloc), 1);
     let mut out = MemorySink::new(alloc, 4096);
     let mut err = MemorySink::new(alloc, 4096);
     assert_eq!(rt;
         main_with(
+            rt,
             &StdFiles::new(rt),
             alloc,
             RandomState::new(rt)?,
@@ -93,11 +99,23 @@ fn files_that_cannot_be_read(rt: HostRuntime) -> Result<(), Fail> {
         "sicheck: cannot read source 0\n",
         2,
     )?;
-    let two = ["sicheck", "check", "no/such/file.jsonl", "."];
+    let nine = [
+        "sicheck",
+        "check",
+        ".",
+        ".",
+        ".",
+        ".",
+        ".",
+        ".",
+        ".",
+        ".",
+        "no/such/file.jsonl",
+    ];
     writes(
         &rt,
         alloc,
-        two.as_slice(),
+        nine.as_slice(),
         "",
         "sicheck: too many files\n",
         2,

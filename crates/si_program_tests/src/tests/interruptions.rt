@@ -4,9 +4,9 @@ use super::PLAIN;
 use si_cli::{ExitStatus, run};
 use si_text::{StdSink, StdSource};
 use std::hash::RandomState;
-use std::io;
 use std::io::{ErrorKind, Read, Write};
 use std::test::Fail;
+use std::{io, slice};
 
 /// A reader whose reads are interrupted twice before each that gives bytes.
 #[derive(Drop)]
@@ -61,7 +61,15 @@ fn interrupted_calls_are_tried_again(rt: HostRuntime) -> Result<(), Fail> {
         halts: false,
     };
     let mut sink = StdSink::new(&mut writer);
-    let ended = run(alloc, RandomState::new(&rt)?, &mut source, &mut sink, PLAIN).ok();
+    let ended = run(
+        &rt,
+        alloc,
+        RandomState::new(&rt)?,
+        slice::from_mut(&mut source),
+        &mut sink,
+        PLAIN,
+    )
+    .ok();
     assert_eq!(rt; ended, Some(ExitStatus::Open));
     let expected =
         "refused source=0 line=1 code=3 reason=not-object\ntransactions=0 findings=0 refused=1 verdict=clean\n";

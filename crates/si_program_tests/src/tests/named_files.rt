@@ -10,7 +10,9 @@ use std::alloc::Global;
 use std::hash::RandomState;
 use std::process::Abort;
 use std::random::RandomSource;
+use std::sync::Wait;
 use std::test::Fail;
+use std::thread::Threads;
 
 /// One file, whose first `reads` reads don't fail.
 #[derive(Clone, Copy)]
@@ -39,7 +41,7 @@ impl<'a> NamedFiles for OneFile<'a> {
 /// The file `a` of these bytes with so many good reads, checked by these words, gives this on both devices, and the status.
 /// Standard input has a line that is refused.
 fn writes(
-    rt: &(impl Abort + RandomSource),
+    rt: &(impl Abort + RandomSource + Threads + Wait + Sync),
     alloc: Global,
     reads: u64,
     words: &[&str],
@@ -57,6 +59,7 @@ fn writes(
     let mut err = MemorySink::new(alloc, 4096);
     assert_eq!(rt;
         main_with(
+            rt,
             &files,
             alloc,
             RandomState::new(rt)?,
@@ -154,3 +157,50 @@ fn a_file_is_missing_or_fails(rt: HostRuntime) -> Result<(), Fail> {
         2,
     )
 }
+
+/// The file `a` twice is two sources, and all files are opened before one is read.
+#[test]
+fn several_files_are_checked_together(rt: HostRuntime) -> Result<(), Fail> {
+    let alloc = rt.alloc();
+    let missing = ["sicheck", "check", "a", "b", "a", "c"];
+    writes(
+        &rt,
+        alloc,
+        100,
+        missing.as_slice(),
+        "",
+        "sicheck: cannot open source 1\n",
+        2,
+    )?;
+    let files = OneFile {
+        name: "a",
+        bytes: WRITES,
+        reads: 100,
+    };
+    let words = ["sicheck", "check", "a", "a"];
+    let mut input = MemorySource::new(Vec::new(alloc), 1);
+    let mut out = MemorySink::new(alloc, 4096);
+    let mut err = MemorySink::new(alloc, 4096);
+    let hash = RandomState::new(&rt)?;
+    let status = main_with(
+        &rt,
+        &files,
+        alloc,
+        hash,
+        words.as_slice(),
+        &mut input,
+        &mut out,
+        &mut err,
+    );
+    assert_eq!(rt; status, 10);
+    let first =
+        "refused source=0 line=1 code=12 reason=id-present\ntransactions=1 findings=0 refused=1 verdict=clean\n";
+    let second =
+        "refused source=1 line=1 code=12 reason=id-present\ntransactions=1 findings=0 refused=1 verdict=clean\n";
+    assert!(rt; out.as_slice() == first.as_bytes() || out.as_slice() == second.as_bytes());
+    assert!(rt; err.as_slice().is_empty());
+    Ok(())
+}
+
+const WRITES: &[u8] =
+    b"{\"do\":\"txn\",\"id\":1,\"start\":1,\"status\":\"committed\",\"commit\":2,\"ops\":[[\"w\",\"x\",1]]}\n";

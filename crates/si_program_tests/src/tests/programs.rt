@@ -8,7 +8,10 @@ use std::hash::RandomState;
 use std::process::Abort;
 use std::random::RandomSource;
 use std::rt::Files;
+use std::slice;
+use std::sync::Wait;
 use std::test::Fail;
+use std::thread::Threads;
 
 const LOST_UPDATE: &str =
     "{\"do\":\"txn\",\"id\":1,\"start\":1,\"status\":\"committed\",\"commit\":5,\"ops\":[[\"r\",\"x\",null],[\"w\",\"x\",1]]}\n{\"do\":\"txn\",\"id\":2,\"start\":2,\"status\":\"committed\",\"commit\":6,\"ops\":[[\"r\",\"x\",null],[\"w\",\"x\",2]]}";
@@ -18,19 +21,23 @@ fn source(alloc: Global) -> Result<MemorySource, Fail> {
 }
 
 /// The program on these words ends with the status, and writes to both devices only where that is said.
-fn ends(
-    rt: &(impl Abort + Files + RandomSource),
+fn ends<R: Abort + Files + RandomSource + Threads + Wait + Sync>(
+    rt: &R,
     alloc: Global,
     words: &[&str],
     status: u8,
     writes: bool,
     complains: bool,
-) -> Result<(), Fail> {
+) -> Result<(), Fail>
+where
+    R::File: Send,
+{
     let mut input = source(alloc)?;
     let mut out = MemorySink::new(alloc, 4096);
     let mut err = MemorySink::new(alloc, 4096);
     assert_eq!(rt;
         main_with(
+            rt,
             &StdFiles::new(rt),
             alloc,
             RandomState::new(rt)?,
@@ -56,6 +63,7 @@ fn versions(rt: HostRuntime) -> Result<(), Fail> {
         let words = ["sicheck", option];
         assert_eq!(&rt;
             main_with(
+                &rt,
                 &StdFiles::new(&rt),
                 alloc,
                 RandomState::new(&rt)?,
@@ -83,11 +91,14 @@ fn words_of(alloc: Global, line: &str) -> Result<Vec<&str>, Fail> {
 }
 
 /// On the words before the bar the program ends with the status behind it, and `writes` its output or `complains`.
-fn ends_so(
-    rt: &(impl Abort + Files + RandomSource),
+fn ends_so<R: Abort + Files + RandomSource + Threads + Wait + Sync>(
+    rt: &R,
     alloc: Global,
     line: &str,
-) -> Result<(), Fail> {
+) -> Result<(), Fail>
+where
+    R::File: Send,
+{
     let (words, wanted) = line.split_once('|').ok_or("an end is wanted")?;
     let (status, device) = wanted.trim().split_once(' ').ok_or("a device is wanted")?;
     let words = words_of(alloc, words)?;
@@ -187,6 +198,8 @@ const ASKED: &str = "
     check -- --every | 4 - plain | --every
     check --explain a | 4 - explained | a
     check a --every=3 --explain | 4 3 explained | a
+    check b --explain a b | 4 - explained | b a b
+    check a b c d e f g h | 4 - plain | a b c d e f g h
     check --shards 1 | 1 - plain |
     check --shards=16 | 16 - plain |";
 
@@ -199,9 +212,12 @@ fn what_words_ask_for(rt: HostRuntime) -> Result<(), Fail> {
 }
 
 #[test]
-fn two_files_are_too_many(rt: HostRuntime) {
-    let two = settings_of(rt.alloc(), ["sicheck", "check", "a", "b"].as_slice());
-    assert!(rt; matches!(two, Err(SettingsFault::TooManyFiles)));
+fn nine_files_are_too_many(rt: HostRuntime) {
+    let words = [
+        "sicheck", "check", "a", "b", "c", "d", "e", "f", "g", "h", "a",
+    ];
+    let nine = settings_of(rt.alloc(), words.as_slice());
+    assert!(rt; matches!(nine, Err(SettingsFault::TooManyFiles)));
 }
 
 #[test]
@@ -225,14 +241,30 @@ fn failing_devices(rt: HostRuntime) -> Result<(), Fail> {
     let mut input = FailingSource::new(source(alloc)?, 0);
     let mut out = MemorySink::new(alloc, 4096);
     assert_eq!(rt;
-        run(alloc, RandomState::new(&rt)?, &mut input, &mut out, PLAIN).err(),
+        run(
+            &rt,
+            alloc,
+            RandomState::new(&rt)?,
+            slice::from_mut(&mut input),
+            &mut out,
+            PLAIN
+        )
+        .err(),
         Some(RunFault::Input(0))
     );
     assert!(rt; out.as_slice().is_empty());
     let mut input = source(alloc)?;
     let mut out = FailingSink::new(MemorySink::new(alloc, 4096), 0);
     assert_eq!(rt;
-        run(alloc, RandomState::new(&rt)?, &mut input, &mut out, PLAIN).err(),
+        run(
+            &rt,
+            alloc,
+            RandomState::new(&rt)?,
+            slice::from_mut(&mut input),
+            &mut out,
+            PLAIN
+        )
+        .err(),
         Some(RunFault::Output)
     );
     Ok(())
@@ -247,6 +279,7 @@ fn faults_in_words(rt: HostRuntime) -> Result<(), Fail> {
     let words = ["sicheck", "check"];
     assert_eq!(rt;
         main_with(
+            &rt,
             &StdFiles::new(&rt),
             alloc,
             RandomState::new(&rt)?,
@@ -266,6 +299,7 @@ fn faults_in_words(rt: HostRuntime) -> Result<(), Fail> {
     let mut err = MemorySink::new(alloc, 4096);
     assert_eq!(rt;
         main_with(
+            &rt,
             &StdFiles::new(&rt),
             alloc,
             RandomState::new(&rt)?,

@@ -1,0 +1,152 @@
+-- What is said of sources holds of the files that they were opened from, as far as these are known.
+use Rattle.std.proofs.Common.{◌≡◌, ◌⊎◌, inl, inr, ℕ, zero, suc, ◌+◌, ◌<◌, ◌≤◌, Bool, true, false, List, [], ◌∷◌, ◌++◌, map, length, take, Option, Some, None, All, refl, sym, ap, subst, ◌∙◌, arith}
+use Rattle.std.specs.Prelude.{slice_index_or}
+use Rattle.std.specs.Option.{option_map}
+use Rattle.std.specs.Io.KnownBytes.{Keeps}
+use Rattle.std.specs.Borrow.{Bor}
+use Rattle.std.specs.List.{slice_get}
+use Rattle.std.proofs.Math.Seq.{take-suc}
+use Rattle.std.proofs.lemmas.List.{length-map, map-append}
+use Rattle.std.proofs.lemmas.Option.{none-some, same_Some, slice_get-get_or, slice_get-map, slice_get_within}
+use Rattle.clap.specs.Words.{Text}
+use Rattle.si_lists.proofs.Tests.{mapped_some}
+use Rattle.si_run.specs.declared.statuses.ExitStatus.{ExitStatus}
+use Rattle.si_run.specs.declared.faults.RunFault.{RunFault}
+use Rattle.si_run.specs.declared.faults.RunFault.TheVariants as fault
+use Rattle.si_run.specs.Outputs.{Terms}
+use Rattle.si_run.specs.Runs.{BeginsSome, BeginsText, IsTrueDeviceFault, MayBeTooLong, WritesBeginning, WritesOutput, WritesSome, WritesText, all_known}
+use Rattle.si_run.specs.Takings.{Device}
+use Rattle.si_cli.specs.Openings.{AreKept}
+use Rattle.si_cli.specs.Programs.{EndsCheck, EndsNamed}
+
+pub as_many : (files lefts : List (Option (List ℕ))) → AreKept files lefts → length lefts ≡ length files
+as_many [] [] k = refl
+as_many [] (l ∷ lefts) k = absurd k
+as_many (f ∷ files) [] k = absurd k
+as_many (f ∷ files) (l ∷ lefts) k = ap suc (as_many files lefts k.1)
+
+-- one more
+pub kept_push : (files lefts : List (Option (List ℕ))) (f l : Option (List ℕ)) → AreKept files lefts → Keeps f l → AreKept (files ++ f ∷ []) (lefts ++ l ∷ [])
+kept_push [] [] f l k one = (one, tt)
+kept_push [] (m ∷ lefts) f l k one = absurd k
+kept_push (g ∷ files) [] f l k one = absurd k
+kept_push (g ∷ files) (m ∷ lefts) f l k one = (k.0, kept_push files lefts f l k.1 one)
+
+-- a statement of what a source gives holds of its file
+of_one : (P : Option (List ℕ) → Type 0) → P None → (f l : Option (List ℕ)) → Keeps f l → P l → P f
+of_one P none None l k p = none
+of_one P none (Some xs) None k p = absurd k
+of_one P none (Some xs) (Some ys) k p = subst (λ b. P (Some b)) k p
+
+known_kept : (files lefts : List (Option (List ℕ))) (all : List (List ℕ)) → AreKept files lefts → all_known files ≡ Some all → all_known lefts ≡ Some all
+known_kept [] [] all k e = e
+known_kept [] (l ∷ lefts) all k e = absurd k
+known_kept (f ∷ files) [] all k e = absurd k
+known_kept (None ∷ files) (l ∷ lefts) all k e = absurd (none-some all e)
+known_kept (Some xs ∷ files) (None ∷ lefts) all k e = absurd k.0
+known_kept (Some xs ∷ files) (Some ys ∷ lefts) all k e =
+    let m = mapped_some (λ (l : List (List ℕ)). xs ∷ l) (all_known files) all e in
+    ap (option_map (λ (l : List (List ℕ)). ys ∷ l)) (known_kept files lefts m.0 k.1 m.1) ∙ ap (λ (l : List (List ℕ)). Some l) (ap (λ (y : List ℕ). y ∷ m.0) k.0 ∙ m.2)
+
+of_all : (P : Option (List (List ℕ)) → Type 0) → P None → (files lefts : List (Option (List ℕ))) → AreKept files lefts → P (all_known lefts) → P (all_known files)
+of_all P none files lefts k p = by (all_known files) refl
+  where
+    by : (known : Option (List (List ℕ))) → all_known files ≡ known → P known
+    by None e = none
+    by (Some all) e = subst P (known_kept files lefts all k e) p
+
+pub kept_text : (terms : Terms) (files lefts : List (Option (List ℕ))) (old new : Option (List ℕ)) (status : ExitStatus) → AreKept files lefts → WritesText terms lefts old new status → WritesText terms files old new status
+kept_text terms [] [] old new status k w = w
+kept_text terms [] (l ∷ lefts) old new status k w = absurd k
+kept_text terms (f ∷ files) [] old new status k w = absurd k
+kept_text terms (f ∷ []) (l ∷ []) old new status k w = of_one (λ i. WritesOutput terms i old new status) tt f l k.0 w
+kept_text terms (f ∷ []) (l ∷ m ∷ lefts) old new status k w = absurd k.1
+kept_text terms (f ∷ g ∷ files) (l ∷ []) old new status k w = absurd k.1
+kept_text terms (f ∷ g ∷ files) (l ∷ m ∷ lefts) old new status k w = of_all (λ known. WritesSome terms known old new status) tt (f ∷ g ∷ files) (l ∷ m ∷ lefts) k w
+
+pub kept_beginning : (terms : Terms) (files lefts : List (Option (List ℕ))) (old new : Option (List ℕ)) → AreKept files lefts → BeginsText terms lefts old new → BeginsText terms files old new
+kept_beginning terms [] [] old new k w = w
+kept_beginning terms [] (l ∷ lefts) old new k w = absurd k
+kept_beginning terms (f ∷ files) [] old new k w = absurd k
+kept_beginning terms (f ∷ []) (l ∷ []) old new k w = of_one (λ i. WritesBeginning terms i old new) tt f l k.0 w
+kept_beginning terms (f ∷ []) (l ∷ m ∷ lefts) old new k w = absurd k.1
+kept_beginning terms (f ∷ g ∷ files) (l ∷ []) old new k w = absurd k.1
+kept_beginning terms (f ∷ g ∷ files) (l ∷ m ∷ lefts) old new k w = of_all (λ known. BeginsSome terms known old new) tt (f ∷ g ∷ files) (l ∷ m ∷ lefts) k w
+
+kept_long : (files lefts : List (Option (List ℕ))) (i : ℕ) → AreKept files lefts → MayBeTooLong (slice_index_or lefts i None) → MayBeTooLong (slice_index_or files i None)
+kept_long [] [] i k long = long
+kept_long [] (l ∷ lefts) i k long = absurd k
+kept_long (f ∷ files) [] i k long = absurd k
+kept_long (f ∷ files) (l ∷ lefts) zero k long = of_one MayBeTooLong tt f l k.0 long
+kept_long (f ∷ files) (l ∷ lefts) (suc i) k long = kept_long files lefts i k.1 long
+
+pub kept_fault : (files lefts : List (Option (List ℕ))) (failed : List Bool) (writer_failed : Bool) (f : RunFault) → AreKept files lefts → IsTrueDeviceFault lefts failed writer_failed f → IsTrueDeviceFault files failed writer_failed f
+kept_fault files lefts failed w (fault.Input source) k t =
+    let many = as_many files lefts k in let below = t.0 in (
+      omega arith,
+      t.1,
+      elim t.2 [
+        | inl has_failed ↦ inl has_failed
+        | inr long ↦ inr (kept_long files lefts source k long)
+      ],
+    )
+kept_fault files lefts failed w (fault.Open opening) k t = t
+kept_fault files lefts failed w fault.Output k t = t
+kept_fault files lefts failed w fault.Memory k t = t
+
+pub kept_check : (terms : Terms) (files lefts : List (Option (List ℕ))) (failed : List Bool) (out err : Device) (result : ℕ) → AreKept files lefts → EndsCheck terms lefts failed out err result → EndsCheck terms files failed out err result
+kept_check terms files lefts failed out err result k ends = elim ends [
+  | inl done ↦ inl (done.0, done.1, kept_text terms files lefts out.before out.after done.0 k done.2, done.3, done.4, done.5)
+  | inr f ↦ inr (f.0, kept_fault files lefts failed out.failed f.0 k f.1, kept_beginning terms files lefts out.before out.after k f.2, f.3)
+]
+
+-- what holds of the images of all elements holds of all images
+pub all_images : {X : Type 0} (f : X → Bool) (P : Bool → Type 0) (xs : List X) → ((x : X) → P (f x)) → All P (map f xs)
+all_images f P [] each k d below = absurd (omega arith)
+all_images f P (x ∷ xs) each zero d below = each x
+all_images f P (x ∷ xs) each (suc k) d below = all_images f P xs each k d (omega arith)
+
+pub all_mapped : {X : Type 0} (f : X → Bool) (P : Bool → Type 0) (xs : List X) → All (λ x. P (f x)) xs → All P (map f xs)
+all_mapped f P [] each k d below = absurd (omega arith)
+all_mapped f P (x ∷ xs) each zero d below = each zero x (omega arith)
+all_mapped f P (x ∷ xs) each (suc k) d below = all_mapped f P xs (λ i e within. each (suc i) e (omega arith)) k d (omega arith)
+
+-- ---- while files are opened
+
+-- one more file was opened
+pub kept_next : (bytes : List ℕ → Option (List ℕ)) (names : List (List ℕ)) (place : ℕ) (lefts : List (Option (List ℕ))) (left : Option (List ℕ))
+    → place < length names → AreKept (map bytes (take place names)) lefts → Keeps (bytes (slice_index_or names place [])) left
+    → AreKept (map bytes (take (place + 1) names)) (lefts ++ left ∷ [])
+kept_next bytes names place lefts left below k one =
+    let next : place + 1 ≡ suc place = omega arith in
+    subst (λ (l : List (Option (List ℕ))). AreKept l (lefts ++ left ∷ []))
+    (sym (ap (λ n. map bytes (take n names)) next ∙ ap (map bytes) (take-suc names place [] below) ∙ map-append bytes (take place names) (slice_index_or names place [] ∷ [])))
+    (kept_push (map bytes (take place names)) lefts (bytes (slice_index_or names place [])) left k one)
+
+-- a name at its place
+pub name_at : (files : List (Bor (List ℕ))) (place : ℕ) (file : Bor (List ℕ)) → slice_get files place ≡ Some file → slice_index_or (map (λ (f : Bor (List ℕ)). f.now) files) place [] ≡ file.now
+name_at files place file at =
+    let names = map (λ (f : Bor (List ℕ)). f.now) files in
+    let below = slice_get_within files place file at in
+    let many : length names ≡ length files = length-map files (λ (f : Bor (List ℕ)). f.now) in
+    same_Some (slice_index_or names place []) file.now
+    (sym (slice_get-get_or names place [] (omega arith)) ∙ slice_get-map (λ (f : Bor (List ℕ)). f.now) files place ∙ ap (option_map (λ (f : Bor (List ℕ)). f.now)) at)
+
+-- ---- the program's end
+
+-- where files are named, the end is that of their check
+pub files_named : (files : List (Bor (List ℕ))) (names : List Text) (Input : Type 0) (Files : List Text → Type 0)
+    → map (λ (f : Bor (List ℕ)). f.now) files ≡ names → 1 ≤ length files → Files (map (λ (f : Bor (List ℕ)). f.now) files) → EndsNamed names Input Files
+files_named [] names Input Files is some ends = absurd (omega arith)
+files_named (f ∷ files) names Input Files is some ends = subst (λ n. EndsNamed n Input Files) is ends
+
+pub none_named : (files : List (Bor (List ℕ))) (names : List Text) (Input : Type 0) (Files : List Text → Type 0)
+    → map (λ (f : Bor (List ℕ)). f.now) files ≡ names → length files ≡ 0 → Input → EndsNamed names Input Files
+none_named [] names Input Files is none ends = subst (λ n. EndsNamed n Input Files) is ends
+none_named (f ∷ files) names Input Files is none ends = absurd (omega arith)
+
+-- a list of one element
+pub one_image : {X Y : Type 0} (f : X → Y) (xs : List X) (d : X) → length xs ≡ 1 → map f xs ≡ f (slice_index_or xs 0 d) ∷ []
+one_image f [] d many = absurd (omega arith)
+one_image f (x ∷ []) d many = refl
+one_image f (x ∷ y ∷ xs) d many = absurd (omega arith)

@@ -1,0 +1,25 @@
+use Rattle.std.proofs.Common.{rules, ◌≡◌, ◌≤◌, [], ◌∷◌, List, map, length, refl, ap, subst, ◌∙◌, arith}
+use Rattle.si_run.specs.Runs.{terms_by}
+use Rattle.si_run.specs.Takings.{device}
+use Rattle.si_cli.specs.Programs.{EndsCheck}
+use Rattle.si_cli.proofs.Opened.{files_named, none_named, one_image}
+use Rattle.si_cli.proofs.programs.check_by.Goals as goal
+
+pub returns-then-is_empty : goal.returns-then-is_empty
+returns-then-is_empty g c =
+    let left = g.I.ByteSource.left in
+    let failed = g.I.ByteSource.failed in
+    let slice = c.from_mut.result.now in
+    let news = c.check.new.sources in
+    let out = device (g.O.ByteSink.written c.args.out.now) (g.O.ByteSink.written c.check.new.out) (g.O.ByteSink.failed c.check.new.out) in
+    let err = device (g.E.ByteSink.written c.args.err.now) (g.E.ByteSink.written c.check.new.err) (g.E.ByteSink.failed c.check.new.err) in
+    let same : length news ≡ length slice = search rules in
+    let none : length c.args.names.now ≡ 0 = search rules in
+    let ends = subst (λ l. EndsCheck (terms_by c.args.options) l (map failed news) out err c.check.result) (ap (map left) c.from_mut.ensures.value) c.check.ensures in
+    none_named c.args.names.now (map (λ name. name.now) c.args.names.now) _ _ refl none
+    (subst (λ l. EndsCheck (terms_by c.args.options) (left c.args.input.now ∷ []) l out err c.check.result) (one_image failed news c.args.input.now (same ∙ c.from_mut.ensures.len)) ends)
+
+pub returns-else-is_empty : goal.returns-else-is_empty
+returns-else-is_empty g c =
+    let some : 1 ≤ length c.args.names.now = search rules in
+    files_named c.args.names.now (map (λ name. name.now) c.args.names.now) _ _ refl some c.check_files.ensures

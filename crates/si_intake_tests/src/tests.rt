@@ -1,0 +1,300 @@
+//! The intake on items that were written out by hand, and on real threads.
+ghost use Rattle.std.specs.Prelude.{◌≡◌, ◌<◌, ◌≤◌, false, length, All};
+ghost use Rattle.si_intake.specs.Ends.{AllEnded, AreAllEndsOf, Accepting};
+ghost use Rattle.si_intake.specs.Items.{has_last, is_last};
+
+use si_intake::laws::{lasts_append, lone_source_is_whole, new_ends_are_all, sources_append};
+use si_intake::{Accepter, Item, MOST_SOURCES, SourceEnd, What, gather, open};
+use si_model::{Edit, TxnId};
+use si_text::LineFault;
+use std::alloc::Global;
+use std::process::Abort;
+use std::sync::Wait;
+use std::sync::atomic::{AtomicU64, Ordering};
+use std::test::Fail;
+use std::thread;
+use std::thread::{Threads, join};
+use std::time::{Clock, Duration};
+
+/// How often a thread looks before it gives up.
+const MOST_TURNS: u64 = 1_000_000;
+
+fn line(number: u64, read: Result<Edit, LineFault>) -> Item
+    ensures source { result.source ≡ 0 }
+    ensures last { is_last result ≡ false }
+{
+    Item {
+        source: 0,
+        what: What::Line(number, read),
+    }
+}
+
+#[test]
+fn the_last_items_are_told(rt: HostRuntime) {
+    let faulty = What::Line(3, Err(LineFault::NotJson));
+    let whats = [
+        (faulty, false),
+        (What::ReadFault, true),
+        (What::NoMemory, true),
+        (What::End, true),
+    ];
+    for (what, is_last) in whats {
+        assert_eq!(rt; Item { source: 5, what }.is_last(), is_last);
+    }
+}
+
+#[test]
+fn room_that_no_memory_has_is_refused(rt: HostRuntime) {
+    assert!(rt; open(rt.alloc(), 1, usize::MAX).is_err());
+}
+
+#[test]
+fn one_source_by_turns(rt: HostRuntime) -> Result<(), Fail> {
+    let (mut ends, mut accepter) = open(rt.alloc(), 1, 2)?;
+    sources_append();
+    lasts_append();
+    lone_source_is_whole();
+    let mut end = ends.pop().ok_or("an end")?;
+    assert_eq!(rt; end.source(), 0);
+    assert_eq!(rt; accepter.sources(), 1);
+    let edit = Edit::Withdraw(TxnId(5));
+    end.put(&rt, line(7, Ok(edit)));
+    end.put(&rt, line(9, Err(LineFault::NotJson)));
+    let first = accepter.take(&rt);
+    assert_eq!(rt; first, Some(line(7, Ok(Edit::Withdraw(TxnId(5))))));
+    let last = Item {
+        source: 0,
+        what: What::End,
+    };
+    end.put(&rt, last);
+    let second = accepter.take(&rt);
+    assert_eq!(rt; second, Some(line(9, Err(LineFault::NotJson))));
+    let third = accepter.take(&rt).ok_or("a third item")?;
+    assert_eq!(rt; third.what, What::End);
+    assert_eq!(rt; accepter.take(&rt), None);
+    ends.push(end)?;
+    Ok(())
+}
+
+/// What a source has to tell at this place: so many lines, and then its last item.
+fn item_at(source: usize, place: u64, lines: u64) -> Item
+    ensures source { result.source ≡ source }
+    ensures line { place < lines → is_last result ≡ false }
+{
+    let what = if place < lines {
+        What::Line(place + 1, Ok(Edit::Withdraw(TxnId(place))))
+    } else {
+        last_of(source)
+    };
+    Item { source, what }
+}
+
+/// Each kind of last item is some source's.
+fn last_of(source: usize) -> What {
+    match source {
+        0 => What::ReadFault,
+        1 => What::NoMemory,
+        _ => What::End,
+    }
+}
+
+#[test]
+fn each_source_comes_whole_and_in_its_order(rt: HostRuntime) -> Result<(), Fail> {
+    for (sources, room) in [(2, 1), (2, 16), (4, 1), (4, 5)] {
+        pass_through(&rt, rt.alloc(), sources, room, 300, Duration::ZERO)?;
+    }
+    Ok(())
+}
+
+#[test]
+fn slow_sources_are_waited_for(rt: HostRuntime) -> Result<(), Fail> {
+    pass_through(&rt, rt.alloc(), 2, 4, 5, Duration::from_millis(3))
+}
+
+/// The sources put so many lines each, after a pause before each, and the accepter takes all.
+fn pass_through<R: Threads + Wait + Abort + Clock + Sync>(
+    rt: &R,
+    alloc: Global,
+    sources: usize,
+    room: usize,
+    lines: u64,
+    pause: Duration,
+) -> Result<(), Fail> {
+    assert!(rt; 1 <= sources && sources <= MOST_SOURCES && 1 <= room);
+    let (ends, accepter) = open(alloc, sources, room)?;
+    new_ends_are_all();
+    let (ends, accepter) = put_and_take(rt, alloc, ends, accepter, lines, pause);
+    gather(ends, accepter);
+    Ok(())
+}
+
+/// The accepter takes on this thread while the sources put.
+fn put_and_take<R: Threads + Wait + Abort + Clock + Sync>(
+    rt: &R,
+    alloc: Global,
+    ends: Vec<SourceEnd>,
+    accepter: Accepter,
+    lines: u64,
+    pause: Duration,
+) -> (Vec<SourceEnd>, Accepter)
+    requires unended { All (λ end. has_last end.put ≡ false) ends.items }
+    requires all { AreAllEndsOf accepter ends.items }
+    ensures all { AreAllEndsOf result.1 result.0.items }
+    ensures ended { AllEnded result.1 }
+{
+    join(
+        rt,
+        move || -> Vec<SourceEnd>
+            requires { All (λ end. has_last end.put ≡ false) ends.items }
+            ensures { (a : Accepting) → AreAllEndsOf a ends.items → AreAllEndsOf a result.items }
+        { put_each(rt, ends, lines, pause) },
+        move || -> Accepter
+            ensures { AllEnded result × (result.intake ≡ accepter.intake) × (result.sources ≡ accepter.sources) }
+        { take_all(rt, alloc, accepter, lines) },
+    )
+}
+
+/// Each source puts its items from a thread of its own.
+fn put_each<R: Threads + Wait + Clock + Sync>(
+    rt: &R,
+    mut ends: Vec<SourceEnd>,
+    lines: u64,
+    pause: Duration,
+) -> Vec<SourceEnd>
+    requires { All (λ end. has_last end.put ≡ false) ends.items }
+    ensures { (a : Accepting) → AreAllEndsOf a ends.items → AreAllEndsOf a result.items }
+{
+    let threads = ends.len();
+    if threads > 0 {
+        thread::for_each_mut(
+            rt,
+            &mut ends,
+            threads,
+            &|_, end: &mut SourceEnd| put_all(rt, end, lines, pause),
+        );
+    }
+    ends
+}
+
+fn put_all<R: Wait + Clock>(rt: &R, end: &mut SourceEnd, lines: u64, pause: Duration)
+    requires { has_last end.old.put ≡ false }
+    ensures intake { end.new.intake ≡ end.old.intake }
+    ensures source { end.new.source ≡ end.old.source }
+{
+    lasts_append();
+    let source = end.source();
+    for place in 0..lines {
+        if !pause.is_zero() {
+            thread::sleep(rt, pause);
+        }
+        end.put(rt, item_at(source, place, lines));
+    }
+    end.put(rt, item_at(source, lines, lines));
+}
+
+/// Takes until there is no more. Of each source come its lines and its last item, in order, and nothing behind.
+fn take_all<R: Wait + Abort>(rt: &R, alloc: Global, mut accepter: Accepter, lines: u64) -> Accepter
+    ensures ended { AllEnded result }
+    ensures intake { result.intake ≡ accepter.intake }
+    ensures sources { result.sources ≡ accepter.sources }
+{
+    let mut places = Vec::from_elem(alloc, 0u64, accepter.sources()).expect(rt, "memory");
+    for _ in rt.forever() {
+        let Some(item) = accepter.take(rt) else {
+            break;
+        };
+        let source = item.source;
+        assert!(rt; source < places.len());
+        assert_eq!(rt; item, item_at(source, places[source], lines));
+        places[source] = places[source].wrapping_add(1);
+    }
+    for place in &places {
+        assert_eq!(rt; *place, lines.wrapping_add(1));
+    }
+    accepter
+}
+
+#[test]
+fn a_full_queue_holds_a_source_back(rt: HostRuntime) -> Result<(), Fail> {
+    for room in [1, 4] {
+        hold_back(&rt, rt.alloc(), room)?;
+    }
+    Ok(())
+}
+
+/// How many lines the source puts that is held back.
+const HELD_LINES: u64 = 20;
+
+fn hold_back<R: Threads + Wait + Abort + Clock + Sync>(
+    rt: &R,
+    alloc: Global,
+    room: usize,
+) -> Result<(), Fail>
+    requires { 1 ≤ room }
+{
+    let (mut ends, accepter) = open(alloc, 1, room)?;
+    let end = ends.pop().ok_or("an end")?;
+    put_while_held(rt, end, accepter, room as u64);
+    Ok(())
+}
+
+fn put_while_held<R: Threads + Wait + Abort + Clock + Sync>(
+    rt: &R,
+    end: SourceEnd,
+    accepter: Accepter,
+    room: u64,
+)
+    requires source { end.source ≡ 0 }
+    requires unended { has_last end.put ≡ false }
+{
+    let counter = AtomicU64::new(0);
+    let put = &counter;
+    join(
+        rt,
+        move || -> ()
+            requires { (end.source ≡ 0) × (has_last end.put ≡ false) }
+        { put_counted(rt, end, put) },
+        move || take_counted(rt, accepter, put, room),
+    );
+}
+
+/// Counts what was put.
+fn put_counted<R: Wait>(rt: &R, mut end: SourceEnd, put: &AtomicU64)
+    requires source { end.source ≡ 0 }
+    requires unended { has_last end.put ≡ false }
+{
+    lasts_append();
+    for place in 0..HELD_LINES {
+        end.put(rt, item_at(0, place, HELD_LINES));
+        put.store(place + 1, Ordering::SeqCst);
+    }
+    end.put(rt, item_at(0, HELD_LINES, HELD_LINES));
+}
+
+/// Takes no item before the queue is full and the source could have put more. No more are put than there is room for.
+fn take_counted<R: Wait + Abort + Clock>(
+    rt: &R,
+    mut accepter: Accepter,
+    put: &AtomicU64,
+    room: u64,
+) {
+    assert!(rt; comes_to(put, room));
+    thread::sleep(rt, Duration::from_millis(5));
+    for taken in 0..HELD_LINES {
+        assert!(rt; put.load(Ordering::SeqCst) <= taken.saturating_add(room));
+        assert_eq!(rt; accepter.take(rt), Some(item_at(0, taken, HELD_LINES)));
+    }
+    assert_eq!(rt; accepter.take(rt), Some(item_at(0, HELD_LINES, HELD_LINES)));
+    assert_eq!(rt; accepter.take(rt), None);
+}
+
+/// Whether this comes to the number, within so many turns.
+fn comes_to(word: &AtomicU64, number: u64) -> bool {
+    for _ in 0..MOST_TURNS {
+        if word.load(Ordering::SeqCst) >= number {
+            return true;
+        }
+        thread::yield_now();
+    }
+    false
+}

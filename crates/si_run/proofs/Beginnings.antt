@@ -1,0 +1,245 @@
+-- What was written for items is a beginning of the text of those and all that follow.
+use Rattle.std.proofs.Common.{◌≡◌, ℕ, ◌+◌, Bool, true, false, ◌||◌, List, [], ◌∷◌, ◌++◌, length, Option, Some, None, refl, sym, ap, subst, ◌∙◌, inl, inr, append_assoc, append-nil}
+use Rattle.std.specs.Io.KnownBytes.{Appends}
+use Rattle.std.proofs.KnownBytes.{Appends-trans, Appends-nil}
+use Rattle.std.proofs.lemmas.List.Elements.{filter_map-append, Contains-append_left, Contains-append_right}
+use Rattle.std.proofs.lemmas.List.Folds.{list_any-append}
+use Rattle.std.specs.List.{Contains}
+use Rattle.si_lists.proofs.Members.{here}
+use Rattle.si_intake.specs.Ends.{Accepting, AllEnded}
+use Rattle.si_intake.specs.declared.items.Item.{Item as Told}
+use Rattle.si_intake.specs.declared.items.What.TheVariants.{Line, ReadFault, NoMemory, End}
+use Rattle.std.specs.Prelude.{Result, Ok, Err, IfOk, OnOk, IfErr, OnErr}
+use Rattle.si_model.specs.declared.edits.Edit.{Edit}
+use Rattle.si_text.specs.declared.faults.LineFault.{LineFault}
+use Rattle.si_run.specs.declared.statuses.ExitStatus.{ExitStatus}
+use Rattle.si_run.specs.declared.faults.RunFault.{RunFault}
+use Rattle.si_run.specs.declared.faults.RunFault.TheVariants as fault
+use Rattle.si_run.specs.Outputs.{SourcedItem, sourced, Terms, Progress, start, progress_after, progress_through, report_at, item_text, items_text, output_of, status_at, status_of}
+use Rattle.si_run.specs.Readings.{told}
+use Rattle.si_run.specs.Runs.{AppendsBeginning, IsFaultOfWriting}
+use Rattle.si_run.specs.Takings.{IsAccepted, IsBegun, IsDecided, device, IsFinished, IsMet, IsStopped, has_fault, is_fault, line_of, lines_among}
+
+-- ---- the texts of items, one more at the end
+
+progress_through-push : (terms : Terms) (p : Progress) (items : List SourcedItem) (item : SourcedItem) → progress_through terms p (items ++ item ∷ []) ≡ progress_after terms (progress_through terms p items) item
+progress_through-push terms p [] item = refl
+progress_through-push terms p (first ∷ items) item = progress_through-push terms (progress_after terms p first) items item
+
+items_text-push : (terms : Terms) (p : Progress) (items : List SourcedItem) (item : SourcedItem) → items_text terms p (items ++ item ∷ []) ≡ items_text terms p items ++ item_text terms (progress_through terms p items) item
+items_text-push terms p [] item = append-nil (item_text terms p item)
+items_text-push terms p (first ∷ items) item =
+    ap (λ text. item_text terms p first ++ text) (items_text-push terms (progress_after terms p first) items item)
+    ∙ sym (append_assoc (item_text terms p first) (items_text terms (progress_after terms p first) items) (item_text terms (progress_through terms (progress_after terms p first) items) item))
+
+pub nothing : (old : Option (List ℕ)) (text : List ℕ) → AppendsBeginning old old text
+nothing old text = ([], text, refl, Appends-nil old)
+
+pub whole : (old new : Option (List ℕ)) (text : List ℕ) → Appends old new text → AppendsBeginning old new text
+whole old new text adds = (text, [], sym (append-nil text), adds)
+
+-- a beginning of what comes behind a text is, behind that text, a beginning of both
+pub behind : (old mid new : Option (List ℕ)) (before text tail : List ℕ) → Appends old mid before → AppendsBeginning mid new text → AppendsBeginning old new (before ++ (text ++ tail))
+behind old mid new before text tail wrote part =
+    let one : before ++ (text ++ tail) ≡ (before ++ part.0) ++ (part.1 ++ tail) =
+    ap (λ t. before ++ (t ++ tail)) part.2 ∙ ap (λ t. before ++ t) (append_assoc part.0 part.1 tail) ∙ sym (append_assoc before part.0 (part.1 ++ tail)) in
+    (before ++ part.0, part.1 ++ tail, one, Appends-trans old mid new before part.0 wrote part.3)
+
+-- ---- what is left to write
+
+progress_through-append : (terms : Terms) (p : Progress) (xs ys : List SourcedItem) → progress_through terms p (xs ++ ys) ≡ progress_through terms (progress_through terms p xs) ys
+progress_through-append terms p [] ys = refl
+progress_through-append terms p (x ∷ xs) ys = progress_through-append terms (progress_after terms p x) xs ys
+
+items_text-append : (terms : Terms) (p : Progress) (xs ys : List SourcedItem) → items_text terms p (xs ++ ys) ≡ items_text terms p xs ++ items_text terms (progress_through terms p xs) ys
+items_text-append terms p [] ys = refl
+items_text-append terms p (x ∷ xs) ys =
+    ap (λ text. item_text terms p x ++ text) (items_text-append terms (progress_after terms p x) xs ys)
+    ∙ sym (append_assoc (item_text terms p x) (items_text terms (progress_after terms p x) xs) (items_text terms (progress_through terms (progress_after terms p x) xs) ys))
+
+-- what is written for items and at the end
+abbrev rest_of : Terms → Progress → List SourcedItem → List ℕ
+rest_of terms p items = items_text terms p items ++ report_at terms (progress_through terms p items)
+
+output-append : (terms : Terms) (xs ys : List SourcedItem) → output_of terms (xs ++ ys) ≡ items_text terms start xs ++ rest_of terms (progress_through terms start xs) ys
+unfolding output_of
+output-append terms xs ys =
+    ap (λ text. text ++ report_at terms (progress_through terms start (xs ++ ys))) (items_text-append terms start xs ys)
+    ∙ append_assoc (items_text terms start xs) (items_text terms (progress_through terms start xs) ys) (report_at terms (progress_through terms start (xs ++ ys)))
+    ∙ ap (λ q. items_text terms start xs ++ (items_text terms (progress_through terms start xs) ys ++ report_at terms q)) (progress_through-append terms start xs ys)
+
+pub decided_one : (terms : Terms) (p : Progress) (item : SourcedItem) → (progress_after terms p item).decided ≡ p.decided + 1
+unfolding progress_after
+decided_one terms p item = refl
+
+-- ---- one item more
+
+or_both : (a b : Bool) → a ≡ false → b ≡ false → (a || b) ≡ false
+or_both a b e f = ap (λ (x : Bool). x || b) e ∙ f
+
+no_more_faults : (taken : List Told) (t : Told) → has_fault taken ≡ false → is_fault t.what ≡ false → has_fault (taken ++ t ∷ []) ≡ false
+no_more_faults taken t e f = list_any-append (λ (i : Told). is_fault i.what) taken (t ∷ []) ∙ or_both (has_fault taken) (is_fault t.what || false) e (or_both (is_fault t.what) false f refl)
+
+-- nothing was taken, and nothing decided
+pub none_decided : (terms : Terms) (old : Option (List ℕ)) (p : Progress) → p ≡ start → IsDecided terms [] old old p
+none_decided terms old p e = record { faultless = refl; wrote = Appends-nil old; progress = e }
+
+-- a line was taken, decided and its text written
+pub line_decided : (terms : Terms) (taken : List Told) (old mid new : Option (List ℕ)) (p q : Progress) (source number : ℕ) (answer : Result Edit LineFault) (text : List ℕ)
+    → IsDecided terms taken old mid p → Appends mid new text → text ≡ item_text terms p (sourced source (number, answer)) → q ≡ progress_after terms p (sourced source (number, answer))
+    → IsDecided terms (taken ++ told source (Line number answer) ∷ []) old new q
+line_decided terms taken old mid new p q source number answer text way adds text_is q_is =
+    let line : SourcedItem = sourced source (number, answer) in
+    let lines : lines_among (taken ++ told source (Line number answer) ∷ []) ≡ lines_among taken ++ line ∷ [] = filter_map-append line_of taken (told source (Line number answer) ∷ []) in
+    let texts : items_text terms start (lines_among (taken ++ told source (Line number answer) ∷ [])) ≡ items_text terms start (lines_among taken) ++ text =
+    ap (items_text terms start) lines ∙ items_text-push terms start (lines_among taken) line
+    ∙ ap (λ t. items_text terms start (lines_among taken) ++ t) (ap (λ r. item_text terms r line) (sym way.progress) ∙ sym text_is) in
+    record {
+      faultless = no_more_faults taken (told source (Line number answer)) way.faultless refl;
+      wrote = subst (Appends old new) (sym texts) (Appends-trans old mid new (items_text terms start (lines_among taken)) text way.wrote adds);
+      progress = q_is ∙ ap (λ r. progress_after terms r line) way.progress ∙ sym (progress_through-push terms start (lines_among taken) line) ∙ ap (progress_through terms start) (sym lines);
+    }
+
+-- an end was taken
+pub end_decided : (terms : Terms) (taken : List Told) (old new : Option (List ℕ)) (p : Progress) (source : ℕ) → IsDecided terms taken old new p → IsDecided terms (taken ++ told source End ∷ []) old new p
+end_decided terms taken old new p source way =
+    let lines : lines_among (taken ++ told source End ∷ []) ≡ lines_among taken = filter_map-append line_of taken (told source End ∷ []) ∙ append-nil (lines_among taken) in
+    record {
+      faultless = no_more_faults taken (told source End) way.faultless refl;
+      wrote = subst (λ (l : List SourcedItem). Appends old new (items_text terms start l)) (sym lines) way.wrote;
+      progress = way.progress ∙ ap (progress_through terms start) (sym lines);
+    }
+
+-- ---- at a fault
+
+-- behind the lines that were decided a beginning of what comes next was written
+begun : (terms : Terms) (old mid new : Option (List ℕ)) (lines more : List SourcedItem) (p : Progress) (text tail : List ℕ)
+    → Appends old mid (items_text terms start lines) → p ≡ progress_through terms start lines
+    → AppendsBeginning mid new text → rest_of terms p more ≡ text ++ tail
+    → AppendsBeginning old new (output_of terms (lines ++ more))
+begun terms old mid new lines more p text tail wrote progress part next =
+    let before = items_text terms start lines in
+    let all : output_of terms (lines ++ more) ≡ before ++ (text ++ tail) =
+    output-append terms lines more ∙ ap (λ q. before ++ rest_of terms q more) (sym progress) ∙ ap (λ t. before ++ t) next in
+    subst (AppendsBeginning old new) (sym all) (behind old mid new before text tail wrote part)
+
+-- nothing more was written
+pub stops : (terms : Terms) (taken : List Told) (old new : Option (List ℕ)) (p : Progress) → IsDecided terms taken old new p → IsBegun terms (lines_among taken) old new
+stops terms taken old new p way = λ more. begun terms old new new (lines_among taken) more p [] (rest_of terms p more) way.wrote way.progress (nothing new []) refl
+
+-- what was begun stays so with more lines
+more_begun : (terms : Terms) (lines all next : List SourcedItem) (old new : Option (List ℕ)) → all ≡ lines ++ next → IsBegun terms lines old new → IsBegun terms all old new
+more_begun terms lines all next old new is begun = λ more.
+    subst (λ (l : List SourcedItem). AppendsBeginning old new (output_of terms l)) (sym (ap (λ (l : List SourcedItem). l ++ more) is ∙ append_assoc lines next more)) (begun (next ++ more))
+
+-- nor behind one more that was taken, which is decided no more
+pub stops_behind : (terms : Terms) (taken : List Told) (t : Told) (old new : Option (List ℕ)) (p : Progress) → IsDecided terms taken old new p → IsBegun terms (lines_among (taken ++ t ∷ [])) old new
+stops_behind terms taken t old new p way = more_begun terms (lines_among taken) (lines_among (taken ++ t ∷ [])) (lines_among (t ∷ [])) old new (filter_map-append line_of taken (t ∷ [])) (stops terms taken old new p way)
+
+pub taken_on : (terms : Terms) (taken more : List Told) (old new : Option (List ℕ)) → IsBegun terms (lines_among taken) old new → IsBegun terms (lines_among (taken ++ more)) old new
+taken_on terms taken more old new begun = more_begun terms (lines_among taken) (lines_among (taken ++ more)) (lines_among more) old new (filter_map-append line_of taken more) begun
+
+-- a part of the text of one more line was written
+pub stops_in_line : (terms : Terms) (taken : List Told) (old mid new : Option (List ℕ)) (p : Progress) (source number : ℕ) (answer : Result Edit LineFault) (text : List ℕ)
+    → IsDecided terms taken old mid p → AppendsBeginning mid new text → text ≡ item_text terms p (sourced source (number, answer))
+    → IsBegun terms (lines_among (taken ++ told source (Line number answer) ∷ [])) old new
+stops_in_line terms taken old mid new p source number answer text way part text_is = λ more.
+    let line : SourcedItem = sourced source (number, answer) in
+    let q = progress_after terms p line in
+    let next : rest_of terms p (line ∷ more) ≡ text ++ rest_of terms q more =
+    append_assoc (item_text terms p line) (items_text terms q more) (report_at terms (progress_through terms q more))
+    ∙ ap (λ t. t ++ rest_of terms q more) (sym text_is) in
+    let lines : lines_among (taken ++ told source (Line number answer) ∷ []) ++ more ≡ lines_among taken ++ line ∷ more =
+    ap (λ (l : List SourcedItem). l ++ more) (filter_map-append line_of taken (told source (Line number answer) ∷ [])) ∙ append_assoc (lines_among taken) (line ∷ []) more in
+    subst (λ (l : List SourcedItem). AppendsBeginning old new (output_of terms l)) (sym lines)
+    (begun terms old mid new (lines_among taken) (line ∷ more) p text (rest_of terms q more) way.wrote way.progress part next)
+
+-- ---- at the end
+
+pub finishes : (terms : Terms) (taken : List Told) (old mid new : Option (List ℕ)) (p : Progress) (status : ExitStatus)
+    → IsDecided terms taken old mid p → Appends mid new (report_at terms p) → status ≡ status_at p → IsFinished terms taken old new status
+unfolding output_of status_of
+finishes terms taken old mid new p status way adds status_is =
+    let before = items_text terms start (lines_among taken) in
+    record {
+      faultless = way.faultless;
+      wrote = subst (λ t. Appends old new (before ++ t)) (ap (report_at terms) way.progress) (Appends-trans old mid new before (report_at terms p) way.wrote adds);
+      ends = status_is ∙ ap status_at way.progress;
+    }
+
+pub stops_in_report : (terms : Terms) (taken : List Told) (old mid new : Option (List ℕ)) (p : Progress)
+    → IsDecided terms taken old mid p → AppendsBeginning mid new (report_at terms p) → IsStopped terms taken old new
+stops_in_report terms taken old mid new p way part =
+    inr (
+      way.faultless,
+      subst (λ (l : List SourcedItem). AppendsBeginning old new (output_of terms l)) (append-nil (lines_among taken))
+          (begun terms old mid new (lines_among taken) [] p (report_at terms p) [] way.wrote way.progress part (sym (append-nil (report_at terms p)))),
+    )
+
+-- ---- which fault was met
+
+pub met_on : (taken more : List Told) (writer_failed : Bool) (f : RunFault) → IsMet taken writer_failed f → IsMet (taken ++ more) writer_failed f
+met_on taken more w (fault.Input source) m = (m.0, Contains-append_left taken more (told source ReadFault) m.1)
+met_on taken more w (fault.Open opening) m = m
+met_on taken more w fault.Output m = m
+met_on taken more w fault.Memory m = m
+
+pub met_now : (taken : List Told) (source : ℕ) → Contains (taken ++ told source ReadFault ∷ []) (told source ReadFault)
+met_now taken source = Contains-append_right taken (told source ReadFault ∷ []) (told source ReadFault) (here (told source ReadFault) [])
+
+pub met_in_writing : (taken : List Told) (writer_failed : Bool) (f : RunFault) → IsFaultOfWriting writer_failed f → IsMet taken writer_failed f
+met_in_writing taken w (fault.Input source) m = absurd m
+met_in_writing taken w (fault.Open opening) m = m
+met_in_writing taken w fault.Output m = m
+met_in_writing taken w fault.Memory m = m
+
+-- ---- all was taken
+
+-- everything was decided, and then the last report written or begun
+pub reported : (terms at : Terms) (old new : Accepting) (before mid after : Option (List ℕ)) (failed : Bool) (p : Progress) (result : Result ExitStatus RunFault)
+    → at ≡ terms → new ≡ record old { taken = new.taken } → AllEnded new → IsDecided terms new.taken before mid p
+    → OnOk result (Appends mid after (report_at at p)) → IfOk result (λ status. status ≡ status_at p) → OnOk result (failed ≡ false)
+    → OnErr result (AppendsBeginning mid after (report_at at p)) → IfErr result (IsFaultOfWriting failed)
+    → IsAccepted terms old new (device before after failed) result
+reported terms at old new before mid after failed p (Ok status) is same ended way adds status_is works part fault = record {
+  same = same;
+  ended = ended;
+  ok = finishes terms new.taken before mid after p status way (subst (λ (t : Terms). Appends mid after (report_at t p)) is adds) status_is;
+  works = works;
+  err = tt;
+  fault = tt;
+}
+reported terms at old new before mid after failed p (Err f) is same ended way adds status_is works part fault = record {
+  same = same;
+  ended = ended;
+  ok = tt;
+  works = tt;
+  err = stops_in_report terms new.taken before mid after p way (subst (λ (t : Terms). AppendsBeginning mid after (report_at t p)) is part);
+  fault = met_in_writing new.taken failed f fault;
+}
+
+-- a fault was met, and what was left was taken and dropped
+pub dropped : (terms : Terms) (old mid new : Accepting) (more : List Told) (before after : Option (List ℕ)) (failed : Bool) (f : RunFault)
+    → mid ≡ record old { taken = mid.taken } → new ≡ record mid { taken = mid.taken ++ more } → AllEnded new
+    → IsBegun terms (lines_among mid.taken) before after → IsMet mid.taken failed f
+    → IsAccepted terms old new (device before after failed) (Err f)
+dropped terms old mid new more before after failed f same goes_on ended begun met =
+    let taken : new.taken ≡ mid.taken ++ more = ap (λ (a : Accepting). a.taken) goes_on in
+    record {
+      same = goes_on ∙ ap (λ (a : Accepting). record a { taken = mid.taken ++ more }) same ∙ ap (λ (l : List Told). record old { taken = l }) (sym taken);
+      ended = ended;
+      ok = tt;
+      works = tt;
+      err = inl (subst (λ (l : List Told). IsBegun terms (lines_among l) before after) (sym taken) (taken_on terms mid.taken more before after begun));
+      fault = subst (λ (l : List Told). IsMet l failed f) (sym taken) (met_on mid.taken more failed f met);
+    }
+
+-- nothing was accepted, and what was put was dropped
+pub given_up : (terms : Terms) (old new : Accepting) (more : List Told) (before after : Option (List ℕ)) (failed : Bool)
+    → old.taken ≡ [] → after ≡ before → failed ≡ false → new ≡ record old { taken = old.taken ++ more } → AllEnded new
+    → IsAccepted terms old new (device before after failed) (Err fault.Memory)
+given_up terms old new more before after failed none same works goes_on ended =
+    dropped terms old old new more before after failed fault.Memory refl goes_on ended
+    (subst (λ (l : List Told). IsBegun terms (lines_among l) before after) (sym none)
+    (subst (λ (a : Option (List ℕ)). IsBegun terms [] before a) (sym same) (stops terms [] before before start (none_decided terms before start refl))))
+    works

@@ -1,0 +1,90 @@
+-- The ends of a run: those that were opened, and what is known once all is taken.
+use Rattle.std.proofs.Common.{◌≡◌, ℕ, zero, suc, ◌<◌, ◌≤◌, Bool, false, List, [], ◌∷◌, ◌++◌, map, length, take, drop, Option, Some, None, All, refl, sym, ap, ◌∙◌, subst, arith, append-nil}
+use Rattle.std.specs.Prelude.{Result, Ok, Err, IfOk, OnOk, IfErr, OnErr}
+use Rattle.std.proofs.Math.ListN.{get_or-map}
+use Rattle.std.proofs.lemmas.List.{drop_all, length-map, take_all}
+use Rattle.std.proofs.lemmas.List.Elements.{All-append}
+use Rattle.std.specs.Prelude.{slice_get, slice_index_or}
+use Rattle.std.proofs.lemmas.Option.{same_Some, slice_get-get_or, slice_get_within}
+use Rattle.si_intake.specs.declared.items.Item.{Item as Told}
+use Rattle.si_intake.specs.Ends.{Accepting, AreAllEndsOf, Putting, all_put, new_end, new_ends}
+use Rattle.si_intake.specs.Interleavings.{IsInterleaving as IsIntakeOf}
+use Rattle.si_run.specs.declared.statuses.ExitStatus.{ExitStatus}
+use Rattle.si_run.specs.declared.faults.RunFault.{RunFault}
+use Rattle.si_run.specs.Outputs.{Terms}
+use Rattle.si_run.specs.Readings.{AreRead}
+use Rattle.si_run.specs.Runs.{BeginsText, IsTrueDeviceFault, WritesText}
+use Rattle.si_run.specs.Takings.{Device, IsAccepted}
+use Rattle.si_run.proofs.Interleaved.{AreTaken, all_worked, finished, met, stopped}
+
+-- the ends keep their places and numbers while their inputs are read, and so does the accepter
+pub still_all : (old new : Accepting) (lefts : List (Option (List ℕ))) (failed : List Bool) (olds news : List Putting)
+    → AreAllEndsOf old olds → new ≡ record old { taken = new.taken } → AreRead lefts failed olds news → AreAllEndsOf new news
+still_all old new lefts failed olds news all same read = (
+  read.many ∙ all.0 ∙ sym (ap (λ (a : Accepting). a.sources) same),
+  λ k d below.
+      let below_old : k < length olds = (let m = read.many in omega arith) in
+      let before = all.1 k d below_old in
+      let one = read.each k (slice_index_or olds k d) (slice_index_or news k d) (slice_get-get_or olds k d below_old) (slice_get-get_or news k d below) in (
+        ap (λ (e : Putting). e.intake) one.puts ∙ before.0 ∙ sym (ap (λ (a : Accepting). a.intake) same),
+        ap (λ (e : Putting). e.source) one.puts ∙ before.1,
+      ),
+)
+
+-- the end at a place has its number
+numbered : (accepter : Accepting) (ends : List Putting) (i : ℕ) (e : Putting) → AreAllEndsOf accepter ends → slice_get ends i ≡ Some e → e.source ≡ i
+numbered accepter ends i e all at =
+    let below = slice_get_within ends i e at in
+    let is : slice_index_or ends i e ≡ e = same_Some (slice_index_or ends i e) e (sym (slice_get-get_or ends i e below) ∙ at) in
+    sym (ap (λ (p : Putting). p.source) is) ∙ (all.1 i e below).1
+
+pub are_taken : (old new : Accepting) (lefts : List (Option (List ℕ))) (failed : List Bool) (olds news : List Putting)
+    → AreAllEndsOf old olds → length olds ≡ length lefts → AreRead lefts failed olds news → IsIntakeOf new.taken (all_put news) → AreTaken lefts failed olds news new.taken
+are_taken old new lefts failed olds news all many read interleaved = record {
+  read = read;
+  many = many;
+  numbered = λ i e at. numbered old olds i e all at;
+  interleaved = interleaved;
+  some = new_end old.intake 0;
+}
+
+-- ---- the ends of an opening
+
+one_fresh : (accepter : Accepting) (n : ℕ) → All (λ (e : Putting). e.put ≡ []) (new_end accepter.intake n ∷ [])
+one_fresh accepter n zero d below = refl
+one_fresh accepter n (suc k) d below = absurd (omega arith)
+
+-- they have put nothing
+pub all_fresh : (accepter : Accepting) (n : ℕ) → All (λ (e : Putting). e.put ≡ []) (new_ends accepter.intake n)
+all_fresh accepter zero = λ k d below. absurd (omega arith)
+all_fresh accepter (suc n) = All-append (λ (e : Putting). e.put ≡ []) (new_ends accepter.intake n) (new_end accepter.intake n ∷ []) (all_fresh accepter n) (one_fresh accepter n)
+
+-- a list whose elements were all written over is the new elements
+pub written_over : {X : Type 0} (n : ℕ) (news olds : List X) → n ≡ length news → length olds ≡ length news → take n (news ++ drop (length news) olds) ≡ news
+written_over n news olds many same =
+    ap (λ l. take n (news ++ l)) (drop_all (length news) olds (omega (arith, same))) ∙ ap (take n) (append-nil news) ∙ take_all n news (omega (arith, many))
+
+-- ---- what the threads did together
+
+pub ran_ok : (terms : Terms) (old new : Accepting) (out : Device) (result : Result ExitStatus RunFault) (lefts : List (Option (List ℕ))) (failed : List Bool) (olds news : List Putting)
+    → AreTaken lefts failed olds news new.taken → IsAccepted terms old new out result → IfOk result (WritesText terms lefts out.before out.after)
+ran_ok terms old new out (Ok status) lefts failed olds news t a = finished terms lefts failed olds news new.taken out.before out.after status t a.ok
+ran_ok terms old new out (Err f) lefts failed olds news t a = tt
+
+pub ran_works : {S : Type 0} (has_failed : S → Bool) (inputs : List S) (terms : Terms) (old new : Accepting) (out : Device) (result : Result ExitStatus RunFault) (lefts : List (Option (List ℕ))) (olds news : List Putting)
+    → AreTaken lefts (map has_failed inputs) olds news new.taken → IsAccepted terms old new out result → length (map has_failed inputs) ≡ length lefts
+    → OnOk result (All (λ (s : S). has_failed s ≡ false) inputs × (out.failed ≡ false))
+ran_works has_failed inputs terms old new out (Ok status) lefts olds news t a many =
+    let each = all_worked lefts (map has_failed inputs) olds news new.taken t a.ok.faultless many in
+    (λ k d below. sym (get_or-map has_failed inputs k d) ∙ each k (has_failed d) (omega (arith, length-map inputs has_failed)), a.works)
+ran_works has_failed inputs terms old new out (Err f) lefts olds news t a many = tt
+
+pub ran_err : (terms : Terms) (old new : Accepting) (out : Device) (result : Result ExitStatus RunFault) (lefts : List (Option (List ℕ))) (failed : List Bool) (olds news : List Putting)
+    → AreTaken lefts failed olds news new.taken → IsAccepted terms old new out result → OnErr result (BeginsText terms lefts out.before out.after)
+ran_err terms old new out (Ok status) lefts failed olds news t a = tt
+ran_err terms old new out (Err f) lefts failed olds news t a = stopped terms lefts failed olds news new.taken out.before out.after t a.err
+
+pub ran_fault : (terms : Terms) (old new : Accepting) (out : Device) (result : Result ExitStatus RunFault) (lefts : List (Option (List ℕ))) (failed : List Bool) (olds news : List Putting)
+    → AreTaken lefts failed olds news new.taken → IsAccepted terms old new out result → IfErr result (IsTrueDeviceFault lefts failed out.failed)
+ran_fault terms old new out (Ok status) lefts failed olds news t a = tt
+ran_fault terms old new out (Err f) lefts failed olds news t a = met lefts failed olds news new.taken out.failed f t a.fault

@@ -1,0 +1,10 @@
+pub mod Runnings
+pub mod Beginnings
+pub mod Told
+pub mod TakenLines
+pub mod Interleaved
+pub mod PlainOutputs
+pub mod Lone
+pub mod Texts
+pub mod Gathered
+pub mod Openings

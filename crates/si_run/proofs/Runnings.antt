@@ -1,0 +1,145 @@
+-- How far the reading of an input is, and what each of its steps adds.
+use Rattle.std.proofs.Common.{◌≡◌, ◌⊎◌, inl, inr, ℕ, ◌+◌, ◌-◌, ◌^◌, ◌≤◌, Bool, true, false, ◌||◌, cond, List, [], ◌∷◌, ◌++◌, map, length, Option, Some, None, refl, sym, ap, subst, ◌∙◌, arith, append_assoc, append-nil, length-append}
+use Rattle.std.specs.Io.KnownBytes.{IsAtEnd}
+use Rattle.std.proofs.lemmas.List.{map_push}
+use Rattle.si_text.specs.Inputs.{Item, with_first, lines_of, is_line_feed, is_blank, item_of, numbered, items_after, items_of, Yields}
+use Rattle.si_text.specs.Lines.{edit_of}
+use Rattle.si_text.specs.LineBuffers.{bytes_held, bytes_to_come, IsFresh, IsSpent, CountsBytes}
+use Rattle.si_text.specs.declared.line_buffers.LineBuffer.{LineBuffer}
+use Rattle.si_intake.specs.declared.items.Item.{Item as Told}
+use Rattle.si_intake.specs.Ends.{Putting}
+use Rattle.si_intake.specs.Items.{has_last}
+use Rattle.si_run.specs.Readings.{AreAll, AreFirst, HasPut, told_item}
+use Rattle.si_run.specs.Runs.{MayBeTooLong}
+
+-- ---- steps
+
+pub Yields-then : (n m k : ℕ) (a b c : Option (List ℕ)) (items more : List Item) → Yields n a m b items → Yields m b k c more → Yields n a k c (items ++ more)
+Yields-then n m k None b c items more p q = tt
+Yields-then n m k (Some xs) None c items more p q = absurd p
+Yields-then n m k (Some xs) (Some ys) None items more p q = absurd q
+Yields-then n m k (Some xs) (Some ys) (Some zs) items more p q = p ∙ ap (λ l. items ++ l) q ∙ sym (append_assoc items more (items_after k zs))
+
+pub CountsBytes-then : (a b c : LineBuffer) (x y z : Option (List ℕ)) → CountsBytes a x b y → CountsBytes b y c z → CountsBytes a x c z
+CountsBytes-then a b c None y z p q = tt
+CountsBytes-then a b c (Some xs) None z p q = absurd p
+CountsBytes-then a b c (Some xs) (Some ys) None p q = absurd q
+CountsBytes-then a b c (Some xs) (Some ys) (Some zs) p q = (omega (arith, p.0, q.0), omega (arith, p.1, q.1))
+
+pub CountsBytes-none : (a : LineBuffer) (x : Option (List ℕ)) → CountsBytes a x a x
+CountsBytes-none a None = tt
+CountsBytes-none a (Some xs) = (omega arith, omega arith)
+
+-- these items were read, and put behind what had been put
+pub record IsReading (left : Option (List ℕ)) (ended : ℕ) (to_come : Option (List ℕ)) (old new : Putting) (count : ℕ) : Type 0 where
+  pub items : List Item
+  pub read : Yields 0 left ended to_come items
+  pub puts : HasPut old new items
+  pub many : length items ≡ count
+
+pub begins : (buffer : LineBuffer) (left : Option (List ℕ)) (end : Putting) → IsFresh buffer → IsReading left buffer.lines (bytes_to_come buffer left) end end 0
+begins buffer left end fresh = record {
+  items = [];
+  read = fresh_read left;
+  puts = record { puts = ap (λ (l : List Told). record end { put = l }) (sym (append-nil end.put)) };
+  many = refl;
+}
+  where
+    fresh_read : (left : Option (List ℕ)) → Yields 0 left buffer.lines (bytes_to_come buffer left) []
+    fresh_read None = tt
+    fresh_read (Some bytes) = ap (λ n. items_after n bytes) (sym fresh.0) ∙ ap (λ held. items_after buffer.lines (held ++ bytes)) (sym fresh.1)
+
+-- one more item
+pub goes_on : (left : Option (List ℕ)) (n m : ℕ) (a b : Option (List ℕ)) (old mid new : Putting) (count : ℕ) (item : Item)
+    → IsReading left n a old mid count → Yields n a m b (item ∷ []) → new ≡ record mid { put = mid.put ++ told_item mid.source item ∷ [] } → IsReading left m b old new (count + 1)
+goes_on left n m a b old mid new count item way one puts = record {
+  items = way.items ++ item ∷ [];
+  read = Yields-then 0 n m left a b way.items (item ∷ []) way.read one;
+  puts = record {
+    puts = puts ∙ ap (λ (e : Putting). record e { put = e.put ++ told_item e.source item ∷ [] }) way.puts.puts
+        ∙ ap (λ (l : List Told). record old { put = l }) (append_assoc old.put (map (told_item old.source) way.items) (told_item old.source item ∷ [])
+        ∙ ap (λ (l : List Told). old.put ++ l) (sym (map_push (told_item old.source) way.items item)));
+  };
+  many = length-append way.items (item ∷ []) ∙ ap (λ k. k + 1) way.many;
+}
+
+-- no last item is among those that are put
+no_last : (s : ℕ) (items : List Item) → has_last (map (told_item s) items) ≡ false
+no_last s [] = refl
+no_last s (item ∷ items) = no_last s items
+
+pub unended : (left : Option (List ℕ)) (n : ℕ) (a : Option (List ℕ)) (old mid : Putting) (count : ℕ) → old.put ≡ [] → IsReading left n a old mid count → has_last mid.put ≡ false
+unended left n a old mid count fresh way =
+    ap (λ (e : Putting). has_last e.put) way.puts.puts ∙ ap (λ (l : List Told). has_last (l ++ map (told_item old.source) way.items)) fresh ∙ no_last old.source way.items
+
+pub unended_after : (old new : Putting) (items : List Item) → old.put ≡ [] → HasPut old new items → has_last new.put ≡ false
+unended_after old new items fresh puts =
+    ap (λ (e : Putting). has_last e.put) puts.puts ∙ ap (λ (l : List Told). has_last (l ++ map (told_item old.source) items)) fresh ∙ no_last old.source items
+
+-- ---- the end
+
+all_done : (bytes rest : List ℕ) (m : ℕ) (done : List Item) → items_after 0 bytes ≡ done ++ items_after m rest → rest ≡ [] → items_of bytes ≡ done
+all_done bytes rest m done e none = e ∙ ap (λ r. done ++ items_after m r) none ∙ append-nil done
+
+-- at the end all items were read
+pub all_read : (left : Option (List ℕ)) (n m : ℕ) (a b : Option (List ℕ)) (old new : Putting) (count : ℕ) (way : IsReading left n a old new count) → Yields n a m b [] → IsAtEnd b → AreAll left way.items
+all_read None n m a b old new count way none end = tt
+all_read (Some bytes) n m a b old new count way none end = by b (Yields-then 0 n m (Some bytes) a b way.items [] way.read none) end
+  where
+    by : (b : Option (List ℕ)) → Yields 0 (Some bytes) m b (way.items ++ []) → IsAtEnd b → items_of bytes ≡ way.items
+    by None read end = absurd read
+    by (Some rest) read end = all_done bytes rest m (way.items ++ []) read end ∙ append-nil way.items
+
+-- before it the first were
+pub first_read : (left : Option (List ℕ)) (n : ℕ) (a : Option (List ℕ)) (old new : Putting) (count : ℕ) (way : IsReading left n a old new count) → AreFirst left way.items
+first_read None n a old new count way = tt
+first_read (Some bytes) n a old new count way = by a way.read
+  where
+    by : (a : Option (List ℕ)) → Yields 0 (Some bytes) n a way.items → (rest : List Item) × (items_of bytes ≡ way.items ++ rest)
+    by None read = absurd read
+    by (Some rest) read = (items_after n rest, read)
+
+-- ---- an input that is too long
+
+pub spends : (b c : LineBuffer) (x y : Option (List ℕ)) → IsFresh b → CountsBytes b x c y → IsSpent c → MayBeTooLong x
+spends b c None y fresh counts spent = tt
+spends b c (Some xs) None fresh counts spent = absurd counts
+spends b c (Some xs) (Some ys) fresh counts spent = elim spent [
+  | inl reads ↦ (let none = fresh.2 in let most = counts.0 in omega arith)
+  | inr ended ↦ (let none = fresh.0 in let most = counts.1 in let held : length (bytes_held b ++ xs) ≡ length xs = ap (λ h. length (h ++ xs)) fresh.1 in omega arith)
+]
+
+-- a byte more makes a line more at most
+first_lines : (byte : ℕ) (ls : List (List ℕ)) (n : ℕ) → length ls ≤ n → length (with_first byte ls) ≤ n + 1
+first_lines byte [] n le = omega arith
+first_lines byte (l ∷ ls) n le = omega (arith, le)
+
+length-lines : (bytes : List ℕ) → length (lines_of bytes) ≤ length bytes
+length-lines [] = omega arith
+length-lines (byte ∷ bytes) = elim (is_line_feed byte) as (λ t. length (cond t ([] ∷ lines_of bytes) (with_first byte (lines_of bytes))) ≤ length (byte ∷ bytes)) [
+  | true ↦ omega (arith, length-lines bytes)
+  | false ↦ (let more = first_lines byte (lines_of bytes) (length bytes) (length-lines bytes) in omega arith)
+]
+
+one_or_none : (t : Bool) (item : Item) → length (cond t [] (item ∷ [])) ≤ 1
+one_or_none true item = omega arith
+one_or_none false item = omega arith
+
+one_item : (number : ℕ) (line : List ℕ) → length (item_of number line) ≤ 1
+one_item number line = one_or_none (is_blank line) (number, edit_of line)
+
+length-numbered : (number : ℕ) (ls : List (List ℕ)) → length (numbered number ls) ≤ length ls
+length-numbered number [] = omega arith
+length-numbered number (l ∷ ls) = omega (arith, length-append (item_of number l) (numbered (number + 1) ls), one_item number l, length-numbered (number + 1) ls)
+
+-- so many items have at least as many bytes
+pub many_items : (left : Option (List ℕ)) (n : ℕ) (a : Option (List ℕ)) (old new : Putting) (count : ℕ) → IsReading left n a old new count → 2 ^ 64 - 1 ≤ count → MayBeTooLong left
+many_items None n a old new count way most = tt
+many_items (Some bytes) n a old new count way most = by a way.read
+  where
+    by : (a : Option (List ℕ)) → Yields 0 (Some bytes) n a way.items → 2 ^ 64 - 1 ≤ length bytes
+    by None read = absurd read
+    by (Some rest) read =
+        let items : length (items_after 0 bytes) ≡ length way.items + length (items_after n rest) = ap length read ∙ length-append way.items (items_after n rest) in
+        let few : length (items_after 0 bytes) ≤ length (lines_of bytes) = length-numbered 1 (lines_of bytes) in
+        omega (arith, length-lines bytes, items, few, way.many, most)

@@ -1,0 +1,114 @@
+use Rattle.std.proofs.Common.{rules, ◌≡◌, ◌∙◌, ◌++◌, ◌∷◌, [], ◌||◌, ◌+◌, ◌≤◌, Bool, false, ℕ, List, refl, sym, ap, arith, subst}
+use Rattle.std.proofs.lemmas.Result.{err_from_is_err_and}
+use Rattle.si_intake.specs.Ends.{Accepting}
+use Rattle.si_intake.specs.declared.items.Item.{Item as Told}
+use Rattle.si_intake.specs.declared.items.What.TheVariants.{Line, ReadFault, NoMemory, End}
+use Rattle.si_run.specs.Outputs.{Terms, Progress, sourced, item_text, progress_after}
+use Rattle.std.specs.List.{Contains}
+use Rattle.si_run.specs.Readings.{told}
+use Rattle.si_run.specs.Engines.{EngineState}
+use Rattle.si_run.specs.Takings.{IsBegun, IsDecided, lines_among}
+use Rattle.std.specs.Io.KnownBytes.{Appends}
+use Rattle.si_run.proofs.Beginnings.{decided_one, end_decided, line_decided, met_now, stops_behind, stops_in_line}
+use Rattle.si_run.proofs.accepters.decide_all.Goals.{in-Line+in_ok-decide-in-Line+in_ok-write_all-in-Line, in-End}
+use Rattle.si_run.proofs.accepters.decide_all.Goals as goal
+
+-- what was taken with the item
+taken_is : (old new : Accepting) (t : Told) → new ≡ record old { taken = old.taken ++ t ∷ [] } → new.taken ≡ old.taken ++ t ∷ []
+taken_is old new t is = ap (λ (a : Accepting). a.taken) is
+
+pub returns-in_err-decide-in-Line-clause-err : goal.returns-in_err-decide-in-Line-clause-err
+returns-in_err-decide-in-Line-clause-err g c =
+    let written = g.W.ByteSink.written in
+    let at = c.items.invariant in
+    let taken = taken_is c.items.accepter c.take.new.self c.in-Some.field-0 c.in-Some.ensures.taken in
+    let p = err_from_is_err_and c.from_residual.result c.from_residual.ensures.1 in
+    rw p.1 (subst (λ (l : List Told). IsBegun c.args.engine.now.terms (lines_among l) (written c.args.writer.now) (written c.items.writer)) (sym taken)
+    (stops_behind c.args.engine.now.terms c.items.accepter.taken c.in-Some.field-0 (written c.args.writer.now) (written c.items.writer) c.items.engine.progress at.way))
+
+pub returns-in_err-write_all-in-Line-clause-err : goal.returns-in_err-write_all-in-Line-clause-err
+returns-in_err-write_all-in-Line-clause-err g c =
+    let written = g.W.ByteSink.written in
+    let at = c.items.invariant in
+    let terms : Terms = c.args.engine.now.terms in
+    let p = c.items.engine.progress in
+    let source = c.in-Some.field-0.source in
+    let line = sourced source (c.in-Line.line, c.in-Line.answer) in
+    let item : c.in-Some.field-0 ≡ told source (Line c.in-Line.line c.in-Line.answer) = search rules in
+    let taken = taken_is c.items.accepter c.take.new.self c.in-Some.field-0 c.in-Some.ensures.taken ∙ ap (λ (t : Told). c.items.accepter.taken ++ t ∷ []) item in
+    let told_is : c.deref.result.now ≡ item_text c.items.engine.terms p line = search rules in
+    let text_is : c.deref.result.now ≡ item_text terms p line = told_is ∙ ap (λ (t : Terms). item_text t p line) at.terms in
+    let fault = err_from_is_err_and c.from_residual-in_err-write_all-in-Line.result c.from_residual-in_err-write_all-in-Line.ensures.1 in
+    rw fault.1 (subst (λ (l : List Told). IsBegun terms (lines_among l) (written c.args.writer.now) (written c.write_all.new.writer)) (sym taken)
+    (stops_in_line terms c.items.accepter.taken (written c.args.writer.now) (written c.items.writer) (written c.write_all.new.writer) p source c.in-Line.line c.in-Line.answer c.deref.result.now
+    at.way c.in_err-write_all-in-Line.ensures.err text_is))
+
+pub returns-in-ReadFault-clause-err : goal.returns-in-ReadFault-clause-err
+returns-in-ReadFault-clause-err g c =
+    let written = g.W.ByteSink.written in
+    let taken = taken_is c.items.accepter c.take.new.self c.in-Some.field-0 c.in-Some.ensures.taken in
+    subst (λ (l : List Told). IsBegun c.args.engine.now.terms (lines_among l) (written c.args.writer.now) (written c.items.writer)) (sym taken)
+    (stops_behind c.args.engine.now.terms c.items.accepter.taken c.in-Some.field-0 (written c.args.writer.now) (written c.items.writer) c.items.engine.progress c.items.invariant.way)
+
+pub returns-in-ReadFault-clause-fault : goal.returns-in-ReadFault-clause-fault
+returns-in-ReadFault-clause-fault g c =
+    let item : c.in-Some.field-0 ≡ told c.in-Some.field-0.source ReadFault = search rules in
+    let taken = taken_is c.items.accepter c.take.new.self c.in-Some.field-0 c.in-Some.ensures.taken ∙ ap (λ (t : Told). c.items.accepter.taken ++ t ∷ []) item in
+    (c.items.invariant.works, subst (λ (l : List Told). Contains l (told c.in-Some.field-0.source ReadFault)) (sym taken) (met_now c.items.accepter.taken c.in-Some.field-0.source))
+
+pub returns-in-NoMemory-clause-err : goal.returns-in-NoMemory-clause-err
+returns-in-NoMemory-clause-err g c =
+    let written = g.W.ByteSink.written in
+    let taken = taken_is c.items.accepter c.take.new.self c.in-Some.field-0 c.in-Some.ensures.taken in
+    subst (λ (l : List Told). IsBegun c.args.engine.now.terms (lines_among l) (written c.args.writer.now) (written c.items.writer)) (sym taken)
+    (stops_behind c.args.engine.now.terms c.items.accepter.taken c.in-Some.field-0 (written c.args.writer.now) (written c.items.writer) c.items.engine.progress c.items.invariant.way)
+
+pub items-preserved : goal.items-preserved
+items-preserved g c =
+    let written = g.W.ByteSink.written in
+    let at = c.items.invariant in
+    let terms : Terms = c.args.engine.now.terms in
+    let p = c.items.engine.progress in
+    let source = c.in-Some.field-0.source in
+    let before = c.items.accepter.taken in
+    let taken = taken_is c.items.accepter c.take.new.self c.in-Some.field-0 c.in-Some.ensures.taken in
+    let same : c.take.new.self ≡ record c.args.accepter.now { taken = c.take.new.self.taken } = search rules in
+    elim c.match-what.branch [
+      | in-Line+in_ok-decide-in-Line+in_ok-write_all-in-Line w ↦ (
+          let number = w.in-Line.line in
+          let answer = w.in-Line.answer in
+          let line = sourced source (number, answer) in
+          let item : c.in-Some.field-0 ≡ told source (Line number answer) = search rules in
+          let told_is : w.deref.result.now ≡ item_text c.items.engine.terms p line = search rules in
+          let text_is : w.deref.result.now ≡ item_text terms p line = told_is ∙ ap (λ (t : Terms). item_text t p line) at.terms in
+          let state : c.match-what.engine.progress ≡ progress_after terms p line =
+          ap (λ (e : EngineState). e.progress) w.engine-is ∙ w.in_ok-decide-in-Line.ensures.progress ∙ ap (λ (t : Terms). progress_after t p line) at.terms in
+          let adds : Appends (written c.items.writer) (written c.match-what.writer) w.deref.result.now =
+          subst (λ x. Appends (written c.items.writer) (written x) w.deref.result.now) (sym w.writer-is) w.in_ok-write_all-in-Line.ensures.ok in
+          let decided : c.match-what.engine.progress.decided ≡ p.decided + 1 = ap (λ (r : Progress). r.decided) state ∙ decided_one terms p line in
+          record {
+            same = same;
+            terms = ap (λ (e : EngineState). e.terms) w.engine-is ∙ w.in_ok-decide-in-Line.ensures.terms ∙ at.terms;
+            way = subst (λ (l : List Told). IsDecided terms l (written c.args.writer.now) (written c.match-what.writer) c.match-what.engine.progress)
+                (sym (taken ∙ ap (λ (t : Told). before ++ t ∷ []) item))
+                (line_decided terms before (written c.args.writer.now) (written c.items.writer) (written c.match-what.writer) p c.match-what.engine.progress source number answer w.deref.result.now at.way adds text_is state);
+            turns = (let t = at.turns in omega arith);
+            works = ap g.W.ByteSink.failed w.writer-is ∙ w.in_ok-write_all-in-Line.ensures.failed ∙ ap (λ (b : Bool). b || false) at.works;
+          }
+          )
+      | in-End w ↦ (
+          let item : c.in-Some.field-0 ≡ told source End = search rules in
+          let state : c.match-what.engine ≡ c.items.engine = w.engine-is in
+          record {
+            same = same;
+            terms = ap (λ (e : EngineState). e.terms) state ∙ at.terms;
+            way = subst (λ (l : List Told). IsDecided terms l (written c.args.writer.now) (written c.match-what.writer) c.match-what.engine.progress)
+                (sym (taken ∙ ap (λ (t : Told). before ++ t ∷ []) item))
+                (subst (λ (e : EngineState). IsDecided terms (before ++ told source End ∷ []) (written c.args.writer.now) (written c.match-what.writer) e.progress) (sym state)
+                (subst (λ x. IsDecided terms (before ++ told source End ∷ []) (written c.args.writer.now) (written x) p) (sym w.writer-is)
+                (end_decided terms before (written c.args.writer.now) (written c.items.writer) p source at.way)));
+            turns = (let t = at.turns in let d = ap (λ (e : EngineState). e.progress.decided) state in omega arith);
+            works = ap g.W.ByteSink.failed w.writer-is ∙ at.works;
+          }
+          )
+    ]

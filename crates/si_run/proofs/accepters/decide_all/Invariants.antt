@@ -1,0 +1,18 @@
+use Rattle.std.proofs.Common.{◌≡◌, ◌≤◌, false}
+use Rattle.si_run.specs.Takings.{IsDecided}
+use Rattle.si_run.proofs.accepters.decide_all.Given as goal
+
+-- all that was taken is decided, and what is written for it was written
+abbrev pub invariant-items : goal.invariant-items
+invariant-items g l =
+    let written = g.W.ByteSink.written in
+    record {
+      same : l.accepter ≡ record l.fn.accepter { taken = l.accepter.taken };
+      terms : l.engine.terms ≡ l.fn.engine.terms;
+      way : IsDecided l.fn.engine.terms l.accepter.taken (written l.fn.writer) (written l.writer) l.engine.progress;
+      turns : l.engine.progress.decided ≤ l._turn;
+      works : g.W.ByteSink.failed l.writer ≡ false;
+    }
+
+abbrev pub invariant-loop : goal.invariant-loop
+invariant-loop g l = (goal.iterator-loop g).can_next l.iterator' × (goal.iterator-loop g).is_finite l.iterator'

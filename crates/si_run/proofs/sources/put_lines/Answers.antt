@@ -1,0 +1,55 @@
+use Rattle.std.proofs.Common.{◌≡◌, ◌⊎◌, ◌++◌, ◌∷◌, [], inl, inr, ◌∙◌, ◌+◌, ◌-◌, ◌^◌, ◌≤◌, ℕ, Bool, false, true, refl, ap, sym, arith}
+use Rattle.si_intake.specs.Ends.{Putting}
+use Rattle.si_text.specs.Inputs.{Item}
+use Rattle.si_text.specs.LineBuffers.{bytes_to_come}
+use Rattle.si_run.specs.Readings.{told_item}
+use Rattle.si_run.proofs.Runnings.{CountsBytes-none, CountsBytes-then, all_read, begins, first_read, goes_on, many_items, spends, unended}
+use Rattle.si_run.proofs.sources.put_lines.Goals as goal
+
+pub items-init : goal.items-init
+items-init g c =
+    let left = g.S.ByteSource.left c.args.input.now in
+    record {
+      way = begins c.in-Ok.lines left c.args.end.now c.in-Ok.ensures;
+      counts = (c.in-Ok.lines, c.in-Ok.ensures, CountsBytes-none c.in-Ok.lines left);
+      works = c.requires.works;
+      source = c.source-source.ensures;
+    }
+
+pub put-requires-clause-unended : goal.put-requires-clause-unended
+put-requires-clause-unended g c =
+    let left = g.S.ByteSource.left in
+    let at = c.items.invariant in
+    unended (left c.args.input.now) c.items.lines.lines (bytes_to_come c.items.lines (left c.items.input)) c.args.end.now c.items.end c.items._turn c.requires.fresh at.way
+
+pub items-preserved : goal.items-preserved
+items-preserved g c =
+    let left = g.S.ByteSource.left in
+    let at = c.items.invariant in
+    let one = rw c.in-Ok-Some.field-0-is at c.in-Ok-Some.ensures.items in
+    let item : Item = (c.in-Ok-Some.line, c.in-Ok-Some.answer) in
+    let source : c.source-source.result ≡ c.items.end.source = c.source-source.ensures ∙ sym (ap (λ (e : Putting). e.source) at.way.puts.puts) in
+    let puts : c.put.new.self ≡ record c.items.end { put = c.items.end.put ++ told_item c.items.end.source item ∷ [] } =
+    c.put.ensures.put ∙ ap (λ (s : ℕ). record c.items.end { put = c.items.end.put ++ told_item s item ∷ [] }) source in
+    record {
+      way = goes_on (left c.args.input.now) c.items.lines.lines c.next_item.new.self.lines
+          (bytes_to_come c.items.lines (left c.items.input)) (bytes_to_come c.next_item.new.self (left c.next_item.new.source))
+          c.args.end.now c.items.end c.put.new.self c.items._turn item at.way one puts;
+      counts = (at.counts.0, at.counts.1, CountsBytes-then at.counts.0 c.items.lines c.next_item.new.self (left c.args.input.now) (left c.items.input) (left c.next_item.new.source) at.counts.2 c.next_item.ensures.counts);
+      works = c.in-Ok-Some.ensures.works ∙ at.works;
+      source = at.source;
+    }
+
+pub returns : goal.returns
+returns g c =
+    let left = g.S.ByteSource.left c.args.input.now in
+    let at = c.items.invariant in
+    let to_come = bytes_to_come c.items.lines (g.S.ByteSource.left c.items.input) in
+    let most : 2 ^ 64 - 1 ≤ c.items._turn = omega arith in (
+      at.way.items,
+      at.way.puts,
+      (
+        first_read left c.items.lines.lines to_come c.args.end.now c.items.end c.items._turn at.way,
+        inr (many_items left c.items.lines.lines to_come c.args.end.now c.items.end c.items._turn at.way most),
+      ),
+    )

@@ -1,0 +1,49 @@
+-- What is put for an input, and how it ends.
+use Rattle.std.specs.Prelude.{◌≡◌, ◌⊎◌, ℕ, ◌++◌, Bool, true, false, List, [], ◌∷◌, length, map, slice_get, slice_index_or, Option, Some, None, ⊤}
+use Rattle.si_intake.specs.declared.items.Item.{Item as Told}
+use Rattle.si_intake.specs.declared.items.What.{What}
+use Rattle.si_intake.specs.declared.items.What.TheVariants.{Line, ReadFault, NoMemory, End}
+use Rattle.si_intake.specs.Ends.{Putting}
+use Rattle.si_text.specs.Inputs.{Item, items_of}
+use Rattle.si_run.specs.Runs.{MayBeTooLong}
+
+-- what a source tells
+abbrev pub told : ℕ → What → Told
+told source what = record { source = source; what = what }
+
+-- what it tells of an item
+abbrev pub told_item : ℕ → Item → Told
+told_item source item = told source (Line item.0 item.1)
+
+-- these are all items of the input, where its bytes are known
+abbrev pub AreAll : Option (List ℕ) → List Item → Type 0
+AreAll None items = ⊤
+AreAll (Some bytes) items = items_of bytes ≡ items
+
+-- its items begin with these, where its bytes are known
+abbrev pub AreFirst : Option (List ℕ) → List Item → Type 0
+AreFirst None items = ⊤
+AreFirst (Some bytes) items = (rest : List Item) × (items_of bytes ≡ items ++ rest)
+
+-- behind these items the input ends so: at its end, where it hasn't failed; with a fault, where it has or is too long; or for want of memory
+abbrev pub EndsSo : Option (List ℕ) → Bool → List Item → What → Type 0
+EndsSo left failed items (Line number answer) = ⊥
+EndsSo left failed items ReadFault = AreFirst left items × ((failed ≡ true) ⊎ MayBeTooLong left)
+EndsSo left failed items NoMemory = AreFirst left items
+EndsSo left failed items End = AreAll left items × (failed ≡ false)
+
+-- items of the input were put behind what had been put, in order
+pub record HasPut (old new : Putting) (items : List Item) : Type 0 where
+  pub puts : new ≡ record old { put = old.put ++ map (told_item old.source) items }
+
+-- the first items of the input were put, and then how it ended
+pub record IsRead (left : Option (List ℕ)) (failed : Bool) (old new : Putting) : Type 0 where
+  pub items : List Item
+  pub last : What
+  pub puts : new ≡ record old { put = map (told_item old.source) items ++ told old.source last ∷ [] }
+  pub ends : EndsSo left failed items last
+
+-- so each of the inputs was read, with the end of the same place
+pub record AreRead (lefts : List (Option (List ℕ))) (failed : List Bool) (olds news : List Putting) : Type 0 where
+  pub many : length news ≡ length olds
+  pub each : (i : ℕ) (old new : Putting) → slice_get olds i ≡ Some old → slice_get news i ≡ Some new → IsRead (slice_index_or lefts i None) (slice_index_or failed i false) old new

@@ -1,0 +1,133 @@
+//! The accepter: it takes what the sources put, decides it, and writes what is written for it.
+ghost use Rattle.std.specs.Prelude.{◌≡◌, ◌++◌, [], false, List, IfOk, IfErr, OnOk, OnErr};
+ghost use Rattle.std.specs.Io.KnownBytes.{Appends};
+ghost use Rattle.si_intake.specs.declared.items.Item.{Item as Told};
+ghost use Rattle.si_intake.specs.Ends.{AllEnded};
+ghost use Rattle.si_run.specs.Outputs.{report_at, start, status_at};
+ghost use Rattle.si_run.specs.Runs.{AppendsBeginning, IsFaultOfWriting};
+ghost use Rattle.si_run.specs.Takings.{IsAccepted, IsBegun, IsDecided, IsMet, device, lines_among};
+
+use crate::engines::Engine;
+use crate::sessions::Session;
+use crate::writing::write_all;
+use crate::{ExitStatus, RunFault};
+use si_checker::{Checker, Gate, Name, Place};
+use si_intake::{Accepter, Item, What};
+use si_model::Edit;
+use si_text::{ByteSink, LineFault};
+use std::sync::Wait;
+
+/// Decides what the sources put until each has told its end, writes what is written for it and then the last report, and answers the
+/// status.
+///
+/// At the first fault nothing more is decided or written, and what is left is taken and dropped.
+pub fn accept_all<N: Name, R: Wait, W: ByteSink, G: Gate>(
+    rt: &R,
+    session: &Session<'_, N, G>,
+    engine: &mut Engine<N>,
+    accepter: &mut Accepter,
+    writer: &mut W,
+) -> Result<ExitStatus, RunFault>
+    requires fresh { engine.old.progress ≡ start }
+    requires untaken { accepter.old.taken ≡ [] }
+    requires writer { W.failed writer.old ≡ false }
+    ensures { IsAccepted engine.old.terms accepter.old accepter.new (device (W.written writer.old) (W.written writer.new) (W.failed writer.new)) result }
+{
+    let mut text = Vec::new(session.alloc);
+    match decide_all(rt, session, &mut text, engine, accepter, writer) {
+        Ok(()) => finish(rt, session.checker, engine, &mut text, writer),
+        Err(fault) => {
+            drop_all(rt, accepter);
+            Err(fault)
+        }
+    }
+}
+
+/// Decides what the sources put until each has told its end, and writes what is written for it.
+fn decide_all<N: Name, R: Wait, W: ByteSink, G: Gate>(
+    rt: &R,
+    session: &Session<'_, N, G>,
+    text: &mut Vec<u8>,
+    engine: &mut Engine<N>,
+    accepter: &mut Accepter,
+    writer: &mut W,
+) -> Result<(), RunFault>
+    requires fresh { engine.old.progress ≡ start }
+    requires untaken { accepter.old.taken ≡ [] }
+    requires writer { W.failed writer.old ≡ false }
+    ensures same { accepter.new ≡ record accepter.old { taken = accepter.new.taken } }
+    ensures terms { engine.new.terms ≡ engine.old.terms }
+    ensures ended { OnOk result (AllEnded accepter.new) }
+    ensures ok { OnOk result (IsDecided engine.old.terms accepter.new.taken (W.written writer.old) (W.written writer.new) engine.new.progress) }
+    ensures works { OnOk result (W.failed writer.new ≡ false) }
+    ensures err { OnErr result (IsBegun engine.old.terms (lines_among accepter.new.taken) (W.written writer.old) (W.written writer.new)) }
+    ensures fault { IfErr result (IsMet accepter.new.taken (W.failed writer.new)) }
+{
+    'items: for _turn in 0..u64::MAX {
+        let Some(Item { source, what }) = accepter.take(rt) else {
+            return Ok(());
+        };
+        match what {
+            What::Line(line, answer) => {
+                text.clear();
+                let operations = operations_of(&answer);
+                let refused = engine.refused();
+                engine.decide(rt, session.checker, text, source, (line, answer))?;
+                if engine.refused() == refused {
+                    session.add(source, operations);
+                }
+                write_all(writer, text)?;
+                session.gate.at(Place::Decided { source, line });
+            }
+            What::ReadFault => return Err(RunFault::Input(source)),
+            What::NoMemory => return Err(RunFault::Memory),
+            What::End => {}
+        }
+    }
+    // No run comes here: it would have taken 2^64 - 1 items.
+    for _ in rt.forever() {}
+    unreachable!()
+}
+
+/// How many operations the edit has, a set-up being one.
+fn operations_of(answer: &Result<Edit, LineFault>) -> u64 {
+    match answer {
+        Ok(Edit::Arrive(txn)) => txn.ops.as_slice().len() as u64,
+        Ok(Edit::SetUp(..)) => 1,
+        _ => 0,
+    }
+}
+
+/// Takes what is left, until each source has told its end, so that none of them waits for ever.
+pub fn drop_all<R: Wait>(rt: &R, accepter: &mut Accepter)
+    ensures taken { (more : List Told) × (accepter.new ≡ record accepter.old { taken = accepter.old.taken ++ more }) }
+    ensures ended { AllEnded accepter.new }
+{
+    for _ in rt.forever() {
+        if accepter.take(rt).is_none() {
+            return;
+        }
+    }
+    unreachable!()
+}
+
+/// Writes the last report in the place of this text, and answers the status.
+fn finish<N: Name, R: Wait, W: ByteSink>(
+    rt: &R,
+    checker: &Checker<N>,
+    engine: &mut Engine<N>,
+    text: &mut Vec<u8>,
+    writer: &mut W,
+) -> Result<ExitStatus, RunFault>
+    requires { W.failed writer.old ≡ false }
+    ensures written { OnOk result (Appends (W.written writer.old) (W.written writer.new) (report_at engine.old.terms engine.old.progress)) }
+    ensures status { IfOk result (λ status. status ≡ status_at engine.old.progress) }
+    ensures works { OnOk result (W.failed writer.new ≡ false) }
+    ensures part { OnErr result (AppendsBeginning (W.written writer.old) (W.written writer.new) (report_at engine.old.terms engine.old.progress)) }
+    ensures fault { IfErr result (IsFaultOfWriting (W.failed writer.new)) }
+{
+    text.clear();
+    let verdict = engine.report(rt, checker, text)?;
+    write_all(writer, text)?;
+    Ok(ExitStatus::of(verdict, engine.refused()))
+}

@@ -1,0 +1,293 @@
+ghost use Rattle.std.specs.Prelude.{◌≡◌, ◌≤◌, All, [], false, length, map, IfOk, IfErr, OnOk, OnErr};
+ghost use Rattle.std.specs.Thread.{IsSend, IsSync};
+ghost use Rattle.si_intake.specs.declared.openings.TheConstants.{MOST_SOURCES};
+ghost use Rattle.si_words.specs.Seats.{seated};
+ghost use Rattle.si_words.specs.Views.{new_pass};
+ghost use Rattle.si_run.specs.Outputs.{start};
+ghost use Rattle.si_run.specs.Readings.{AreRead};
+ghost use Rattle.si_run.specs.Runs.{BeginsText, IsTrueDeviceFault, IsTrueFault, WritesText, terms_by};
+ghost use Rattle.si_run.specs.Takings.{IsAccepted, IsTried, device};
+
+use crate::accepters::{accept_all, drop_all};
+use crate::engines::Engine;
+use crate::sessions::{Session, can_start, work_all};
+use crate::sources::read_all;
+use crate::{ExitStatus, Options, RunFault};
+use si_checker::gates::Open;
+use si_checker::{Checker, Gate, Name, Parts, Pass, open};
+use si_intake::{Accepter, SourceEnd, gather};
+use si_text::{ByteSink, ByteSource};
+use std::alloc::Global;
+use std::hash::RandomState;
+use std::marker::Brand;
+use std::mem::forget;
+use std::sync::Wait;
+use std::thread::{Threads, join_mut};
+
+/// How many items may wait for the accepter.
+const ROOM: usize = 64;
+
+/// Checks the inputs, each read by a thread of its own, and writes the refusals, the reports on the way and the last report. The text
+/// is that of some interleaving of the items of the inputs, so of one input it is one function of its bytes, whatever the number of
+/// shards and the secret key of the hash maps. After a fault a beginning of it was written.
+///
+/// The memory of the checker isn't given back: the program ends after it.
+pub fn run<R: Threads + Wait + Sync, S: ByteSource + Send, W: ByteSink>(
+    rt: &R,
+    alloc: Global,
+    hash: RandomState,
+    inputs: &mut [S],
+    writer: &mut W,
+    options: Options,
+) -> Result<ExitStatus, RunFault>
+    requires some { (1 ≤ length inputs.old) × (length inputs.old ≤ MOST_SOURCES) }
+    requires inputs { All (λ s. S.failed s ≡ false) inputs.old }
+    requires writer { W.failed writer.old ≡ false }
+    ensures output { IfOk result (WritesText (terms_by options) (map S.left inputs.old) (W.written writer.old) (W.written writer.new)) }
+    ensures works { OnOk result (All (λ s. S.failed s ≡ false) inputs.new × (W.failed writer.new ≡ false)) }
+    ensures part { OnErr result (BeginsText (terms_by options) (map S.left inputs.old) (W.written writer.old) (W.written writer.new)) }
+    ensures fault { IfErr result (IsTrueFault options (map S.left inputs.old) (map S.failed inputs.new) (W.failed writer.new)) }
+{
+    run_gated(rt, alloc, hash, inputs, writer, options, &Open)
+}
+
+/// As `run`, where threads tell the gate where they are.
+pub fn run_gated<R: Threads + Wait + Sync, S: ByteSource + Send, W: ByteSink, G: Gate + Sync>(
+    rt: &R,
+    alloc: Global,
+    hash: RandomState,
+    inputs: &mut [S],
+    writer: &mut W,
+    options: Options,
+    gate: &G,
+) -> Result<ExitStatus, RunFault>
+    requires some { (1 ≤ length inputs.old) × (length inputs.old ≤ MOST_SOURCES) }
+    requires inputs { All (λ s. S.failed s ≡ false) inputs.old }
+    requires writer { W.failed writer.old ≡ false }
+    ensures output { IfOk result (WritesText (terms_by options) (map S.left inputs.old) (W.written writer.old) (W.written writer.new)) }
+    ensures works { OnOk result (All (λ s. S.failed s ≡ false) inputs.new × (W.failed writer.new ≡ false)) }
+    ensures part { OnErr result (BeginsText (terms_by options) (map S.left inputs.old) (W.written writer.old) (W.written writer.new)) }
+    ensures fault { IfErr result (IsTrueFault options (map S.left inputs.old) (map S.failed inputs.new) (W.failed writer.new)) }
+{
+    let (parts, mut passes) = open(alloc, hash, options.shards, 1, options.limit)?;
+    let Some(pass) = passes.pop() else {
+        return Err(RunFault::Memory);
+    };
+    run_named::<Brand, _, _, _, _>(rt, alloc, hash, parts, pass, inputs, writer, options, gate)
+}
+
+/// Runs the checker of these parts.
+fn run_named<
+    N: Name + Send + Sync,
+    R: Threads + Wait + Sync,
+    S: ByteSource + Send,
+    W: ByteSink,
+    G: Gate + Sync,
+>(
+    rt: &R,
+    alloc: Global,
+    hash: RandomState,
+    parts: Parts,
+    pass: Pass,
+    inputs: &mut [S],
+    writer: &mut W,
+    options: Options,
+    gate: &G,
+) -> Result<ExitStatus, RunFault>
+    requires some { (1 ≤ length inputs.old) × (length inputs.old ≤ MOST_SOURCES) }
+    requires inputs { All (λ s. S.failed s ≡ false) inputs.old }
+    requires writer { W.failed writer.old ≡ false }
+    requires board { parts.board ≡ N.board }
+    requires limit { parts.limit ≡ N.limit }
+    requires options { options.limit ≡ N.limit }
+    requires alone { N.board.passes ≡ 1 }
+    requires pass { pass ≡ seated N.board.table (new_pass N.board.shards 0) }
+    ensures output { IfOk result (WritesText (terms_by options) (map S.left inputs.old) (W.written writer.old) (W.written writer.new)) }
+    ensures works { OnOk result (All (λ s. S.failed s ≡ false) inputs.new × (W.failed writer.new ≡ false)) }
+    ensures part { OnErr result (BeginsText (terms_by options) (map S.left inputs.old) (W.written writer.old) (W.written writer.new)) }
+    ensures fault { IfErr result (IsTrueDeviceFault (map S.left inputs.old) (map S.failed inputs.new) (W.failed writer.new)) }
+{
+    let checker = Checker::<N>::new(alloc, parts)?;
+    let mut engine = Engine::new(alloc, pass, options);
+    let ended = run_checker(rt, alloc, hash, &checker, &mut engine, inputs, writer, gate);
+    // The program ends after a run: to give back each piece of the checker's memory before would take a tenth of its time.
+    forget(checker);
+    ended
+}
+
+/// Runs this checker, of which nothing has been asked yet.
+fn run_checker<
+    N: Name + Send + Sync,
+    R: Threads + Wait + Sync,
+    S: ByteSource + Send,
+    W: ByteSink,
+    G: Gate + Sync,
+>(
+    rt: &R,
+    alloc: Global,
+    hash: RandomState,
+    checker: &Checker<N>,
+    engine: &mut Engine<N>,
+    inputs: &mut [S],
+    writer: &mut W,
+    gate: &G,
+) -> Result<ExitStatus, RunFault>
+    requires some { (1 ≤ length inputs.old) × (length inputs.old ≤ MOST_SOURCES) }
+    requires inputs { All (λ s. S.failed s ≡ false) inputs.old }
+    requires writer { W.failed writer.old ≡ false }
+    requires fresh { engine.old.progress ≡ start }
+    ensures output { IfOk result (WritesText engine.old.terms (map S.left inputs.old) (W.written writer.old) (W.written writer.new)) }
+    ensures works { OnOk result (All (λ s. S.failed s ≡ false) inputs.new × (W.failed writer.new ≡ false)) }
+    ensures part { OnErr result (BeginsText engine.old.terms (map S.left inputs.old) (W.written writer.old) (W.written writer.new)) }
+    ensures fault { IfErr result (IsTrueDeviceFault (map S.left inputs.old) (map S.failed inputs.new) (W.failed writer.new)) }
+{
+    let session = Session::new(alloc, hash, checker, gate, inputs.len())?;
+    run_session(rt, &session, engine, inputs, writer)
+}
+
+/// Runs the threads, and shows that what was taken is an interleaving of what was put.
+fn run_session<
+    N: Name + Send + Sync,
+    R: Threads + Wait + Sync,
+    S: ByteSource + Send,
+    W: ByteSink,
+    G: Gate + Sync,
+>(
+    rt: &R,
+    session: &Session<'_, N, G>,
+    engine: &mut Engine<N>,
+    inputs: &mut [S],
+    writer: &mut W,
+) -> Result<ExitStatus, RunFault>
+    requires some { (1 ≤ length inputs.old) × (length inputs.old ≤ MOST_SOURCES) }
+    requires inputs { All (λ s. S.failed s ≡ false) inputs.old }
+    requires writer { W.failed writer.old ≡ false }
+    requires fresh { engine.old.progress ≡ start }
+    ensures output { IfOk result (WritesText engine.old.terms (map S.left inputs.old) (W.written writer.old) (W.written writer.new)) }
+    ensures works { OnOk result (All (λ s. S.failed s ≡ false) inputs.new × (W.failed writer.new ≡ false)) }
+    ensures part { OnErr result (BeginsText engine.old.terms (map S.left inputs.old) (W.written writer.old) (W.written writer.new)) }
+    ensures fault { IfErr result (IsTrueDeviceFault (map S.left inputs.old) (map S.failed inputs.new) (W.failed writer.new)) }
+{
+    if !can_start(rt) {
+        return Err(RunFault::Memory);
+    }
+    let (mut ends, mut accepter) = si_intake::open(session.alloc, inputs.len(), ROOM)?;
+    let ended = run_threads(
+        rt,
+        session,
+        engine,
+        &mut accepter,
+        writer,
+        inputs,
+        ends.as_mut_slice(),
+    );
+    let _taken = gather(ends, accepter);
+    ended
+}
+
+/// Reads the inputs beside the workers and the accepter.
+fn run_threads<
+    N: Name + Send + Sync,
+    R: Threads + Wait + Sync,
+    S: ByteSource + Send,
+    W: ByteSink,
+    G: Gate + Sync,
+>(
+    rt: &R,
+    session: &Session<'_, N, G>,
+    engine: &mut Engine<N>,
+    accepter: &mut Accepter,
+    writer: &mut W,
+    inputs: &mut [S],
+    ends: &mut [SourceEnd],
+) -> Result<ExitStatus, RunFault>
+    requires many { length inputs.old ≡ length ends.old }
+    requires inputs { All (λ s. S.failed s ≡ false) inputs.old }
+    requires ends { All (λ e. e.put ≡ []) ends.old }
+    requires engine { engine.old.progress ≡ start }
+    requires accepter { accepter.old.taken ≡ [] }
+    requires writer { W.failed writer.old ≡ false }
+    ensures sources { AreRead (map S.left inputs.old) (map S.failed inputs.new) ends.old ends.new }
+    ensures accepted { IsAccepted engine.old.terms accepter.old accepter.new (device (W.written writer.old) (W.written writer.new) (W.failed writer.new)) result }
+{
+    let mut sources = ||
+        requires { IsSync R.row × IsSync N.row × IsSend N.row × IsSync G.row × IsSend S.row
+            × (length inputs.now ≡ length ends.now) × All (λ s. S.failed s ≡ false) inputs.now × All (λ e. e.put ≡ []) ends.now }
+        ensures { AreRead (map S.left inputs.entry.now) (map S.failed inputs.exit.now) ends.entry.now ends.exit.now }
+    { read_all(rt, session, inputs, ends) };
+    let mut others = || -> Option<Result<ExitStatus, RunFault>>
+        requires { IsSync R.row × IsSync N.row × IsSend N.row × IsSync G.row
+            × (engine.now.progress ≡ start) × (accepter.now.taken ≡ []) × (W.failed writer.now ≡ false) }
+        ensures { IsTried engine.entry.now.terms accepter.entry.now accepter.exit.now (device (W.written writer.entry.now) (W.written writer.exit.now) (W.failed writer.exit.now)) result }
+    { try_to_accept(rt, session, engine, accepter, writer) };
+    let ((), tried) = join_mut(rt, &mut sources, &mut others);
+    match tried {
+        Some(ended) => ended,
+        None => {
+            drop_all(rt, accepter);
+            Err(RunFault::Memory)
+        }
+    }
+}
+
+/// Accepts in this thread, or answers none where the sources don't begin.
+fn try_to_accept<N: Name + Send + Sync, R: Threads + Wait + Sync, W: ByteSink, G: Gate + Sync>(
+    rt: &R,
+    session: &Session<'_, N, G>,
+    engine: &mut Engine<N>,
+    accepter: &mut Accepter,
+    writer: &mut W,
+) -> Option<Result<ExitStatus, RunFault>>
+    requires engine { engine.old.progress ≡ start }
+    requires accepter { accepter.old.taken ≡ [] }
+    requires writer { W.failed writer.old ≡ false }
+    ensures { IsTried engine.old.terms accepter.old accepter.new (device (W.written writer.old) (W.written writer.new) (W.failed writer.new)) result }
+{
+    if session.have_sources_begun(rt) {
+        Some(work_and_accept(rt, session, engine, accepter, writer))
+    } else {
+        None
+    }
+}
+
+/// Accepts in this thread, beside the workers, and lets them end.
+fn work_and_accept<N: Name + Send + Sync, R: Threads + Wait + Sync, W: ByteSink, G: Gate + Sync>(
+    rt: &R,
+    session: &Session<'_, N, G>,
+    engine: &mut Engine<N>,
+    accepter: &mut Accepter,
+    writer: &mut W,
+) -> Result<ExitStatus, RunFault>
+    requires engine { engine.old.progress ≡ start }
+    requires accepter { accepter.old.taken ≡ [] }
+    requires writer { W.failed writer.old ≡ false }
+    ensures { IsAccepted engine.old.terms accepter.old accepter.new (device (W.written writer.old) (W.written writer.new) (W.failed writer.new)) result }
+{
+    let mut workers = ||
+        requires { IsSync R.row × IsSync N.row × IsSend N.row × IsSync G.row }
+    { work_all(rt, session) };
+    let mut accept = || -> Result<ExitStatus, RunFault>
+        requires { (engine.now.progress ≡ start) × (accepter.now.taken ≡ []) × (W.failed writer.now ≡ false) }
+        ensures { IsAccepted engine.entry.now.terms accepter.entry.now accepter.exit.now (device (W.written writer.entry.now) (W.written writer.exit.now) (W.failed writer.exit.now)) result }
+    { accept_and_close(rt, session, engine, accepter, writer) };
+    let ((), ended) = join_mut(rt, &mut workers, &mut accept);
+    ended
+}
+
+/// Accepts all, and then lets the workers end.
+fn accept_and_close<N: Name, R: Wait, W: ByteSink, G: Gate>(
+    rt: &R,
+    session: &Session<'_, N, G>,
+    engine: &mut Engine<N>,
+    accepter: &mut Accepter,
+    writer: &mut W,
+) -> Result<ExitStatus, RunFault>
+    requires engine { engine.old.progress ≡ start }
+    requires accepter { accepter.old.taken ≡ [] }
+    requires writer { W.failed writer.old ≡ false }
+    ensures { IsAccepted engine.old.terms accepter.old accepter.new (device (W.written writer.old) (W.written writer.new) (W.failed writer.new)) result }
+{
+    let ended = accept_all(rt, session, engine, accepter, writer);
+    engine.close(rt, session.checker);
+    ended
+}

@@ -1,0 +1,151 @@
+//! The sources: each is read to its end by a thread of its own, which puts its items for the accepter.
+ghost use Rattle.std.specs.Prelude.{◌≡◌, [], false, All, List, length, map};
+ghost use Rattle.std.specs.Thread.{IsSend, IsSync};
+ghost use Rattle.si_text.specs.Inputs.{Item as LineRead};
+ghost use Rattle.si_run.specs.Readings.{AreRead, EndsSo, HasPut, IsRead};
+
+use crate::sessions::Session;
+use si_checker::{Gate, Name, Place};
+use si_intake::{Item, SourceEnd, What};
+use si_text::{ByteSource, InputFault, KnownKeys, LineBuffer};
+use std::alloc::Global;
+use std::hash::RandomState;
+use std::sync::Wait;
+use std::thread::{Threads, join_mut};
+
+/// How many more of a source's longer keys may be known than operations of it were accepted.
+const MOST_KEYS_BEYOND: u64 = 65_536;
+
+/// The longer keys that a source's reader knows, with how many they may become before the accepter's count is looked at again.
+#[derive(Drop)]
+struct KeptKeys {
+    keys: KnownKeys,
+    most: u64,
+}
+
+impl KeptKeys {
+    fn new(alloc: Global, hash: RandomState) -> Self {
+        KeptKeys {
+            keys: KnownKeys::new(alloc, hash),
+            most: MOST_KEYS_BEYOND,
+        }
+    }
+
+    /// Whether they are more than they may become before the accepter's count is looked at.
+    fn are_many(&self) -> bool {
+        self.keys.len() as u64 > self.most
+    }
+
+    /// Forgets all keys where they are many more than the operations that were accepted, so that what refused items bring can't fill
+    /// the memory: what is known grows with what is kept.
+    fn keep_within(&mut self, accepted: u64) {
+        self.most = accepted.saturating_add(MOST_KEYS_BEYOND);
+        if self.are_many() {
+            self.keys.truncate(0);
+        }
+    }
+}
+
+/// Reads each of the inputs by a thread of its own, and puts its items at the end of the same place.
+#[cycle(inputs)]
+pub fn read_all<
+    N: Name + Send + Sync,
+    R: Threads + Wait + Sync,
+    S: ByteSource + Send,
+    G: Gate + Sync,
+>(rt: &R, session: &Session<'_, N, G>, inputs: &mut [S], ends: &mut [SourceEnd])
+    requires many { length inputs.old ≡ length ends.old }
+    requires works { All (λ s. S.failed s ≡ false) inputs.old }
+    requires fresh { All (λ e. e.put ≡ []) ends.old }
+    ensures { AreRead (map S.left inputs.old) (map S.failed inputs.new) ends.old ends.new }
+{
+    if inputs.is_empty() {
+        return;
+    }
+    let (input, inputs) = inputs.split_at_mut(1);
+    let (end, ends) = ends.split_at_mut(1);
+    read_both(rt, session, &mut input[0], &mut end[0], inputs, ends);
+}
+
+/// Reads the first input in a thread of its own, and the others beside it.
+#[cycle(inputs)]
+fn read_both<N: Name + Send + Sync, R: Threads + Wait + Sync, S: ByteSource + Send, G: Gate + Sync>(
+    rt: &R,
+    session: &Session<'_, N, G>,
+    input: &mut S,
+    end: &mut SourceEnd,
+    inputs: &mut [S],
+    ends: &mut [SourceEnd],
+)
+    requires works { S.failed input.old ≡ false }
+    requires fresh { end.old.put ≡ [] }
+    requires many { length inputs.old ≡ length ends.old }
+    requires others_work { All (λ s. S.failed s ≡ false) inputs.old }
+    requires others_fresh { All (λ e. e.put ≡ []) ends.old }
+    ensures first { IsRead (S.left input.old) (S.failed input.new) end.old end.new }
+    ensures others { AreRead (map S.left inputs.old) (map S.failed inputs.new) ends.old ends.new }
+{
+    let mut first = ||
+        requires { (S.failed input.now ≡ false) × (end.now.put ≡ []) }
+        ensures { IsRead (S.left input.entry.now) (S.failed input.exit.now) end.entry.now end.exit.now }
+    { read(rt, session, input, end) };
+    let mut others = ||
+        requires { IsSync R.row × IsSync N.row × IsSend N.row × IsSync G.row × IsSend S.row
+            × (length inputs.now ≡ length ends.now) × All (λ s. S.failed s ≡ false) inputs.now × All (λ e. e.put ≡ []) ends.now }
+        ensures { AreRead (map S.left inputs.entry.now) (map S.failed inputs.exit.now) ends.entry.now ends.exit.now }
+    { read_all(rt, session, inputs, ends) };
+    join_mut(rt, &mut first, &mut others);
+}
+
+/// Reads an input to its end or to a fault, puts its items and then how it ended.
+pub fn read<N: Name, R: Wait, S: ByteSource, G: Gate>(
+    rt: &R,
+    session: &Session<'_, N, G>,
+    input: &mut S,
+    end: &mut SourceEnd,
+)
+    requires works { S.failed input.old ≡ false }
+    requires fresh { end.old.put ≡ [] }
+    ensures { IsRead (S.left input.old) (S.failed input.new) end.old end.new }
+{
+    let what = put_lines(rt, session, input, end);
+    let source = end.source();
+    end.put(rt, Item { source, what });
+}
+
+/// Puts the items of an input, and answers how it ended.
+fn put_lines<N: Name, R: Wait, S: ByteSource, G: Gate>(
+    rt: &R,
+    session: &Session<'_, N, G>,
+    input: &mut S,
+    end: &mut SourceEnd,
+) -> What
+    requires works { S.failed input.old ≡ false }
+    requires fresh { end.old.put ≡ [] }
+    ensures { (items : List LineRead) × HasPut end.old end.new items × EndsSo (S.left input.old) (S.failed input.new) items result }
+{
+    if !session.begin() {
+        return What::NoMemory;
+    }
+    let Ok(mut lines) = LineBuffer::new(session.alloc) else {
+        return What::NoMemory;
+    };
+    let source = end.source();
+    let mut kept = KeptKeys::new(session.alloc, session.hash);
+    'items: for _turn in 0..u64::MAX {
+        match lines.next_item(input, &mut kept.keys) {
+            Ok(Some((line, answer))) => {
+                session.gate.at(Place::Put { source, line });
+                let what = What::Line(line, answer);
+                end.put(rt, Item { source, what });
+            }
+            Ok(None) => return What::End,
+            Err(InputFault::DeviceFailed) => return What::ReadFault,
+            Err(InputFault::OutOfMemory) => return What::NoMemory,
+        }
+        if kept.are_many() {
+            kept.keep_within(session.accepted(source));
+        }
+    }
+    What::ReadFault
+}
