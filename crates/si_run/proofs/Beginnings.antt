@@ -1,5 +1,5 @@
 -- What was written for items is a beginning of the text of those and all that follow.
-use Rattle.std.proofs.Common.{◌≡◌, ℕ, ◌+◌, Bool, true, false, ◌||◌, List, [], ◌∷◌, ◌++◌, length, Option, Some, None, refl, sym, ap, subst, ◌∙◌, inl, inr, append_assoc, append-nil}
+use Rattle.std.proofs.Common.{◌≡◌, ℕ, ◌+◌, Bool, false, ◌||◌, List, [], ◌∷◌, ◌++◌, Option, refl, sym, ap, subst, ◌∙◌, inl, inr, append_assoc, append-nil}
 use Rattle.std.specs.Io.KnownBytes.{Appends}
 use Rattle.std.proofs.KnownBytes.{Appends-trans, Appends-nil}
 use Rattle.std.proofs.lemmas.List.Elements.{filter_map-append, Contains-append_left, Contains-append_right}
@@ -8,7 +8,7 @@ use Rattle.std.specs.List.{Contains}
 use Rattle.si_lists.proofs.Members.{here}
 use Rattle.si_intake.specs.Ends.{Accepting, AllEnded}
 use Rattle.si_intake.specs.declared.items.Item.{Item as Told}
-use Rattle.si_intake.specs.declared.items.What.TheVariants.{Line, ReadFault, NoMemory, End}
+use Rattle.si_intake.specs.declared.items.What.TheVariants.{Line, ReadFault, End}
 use Rattle.std.specs.Prelude.{Result, Ok, Err, IfOk, OnOk, IfErr, OnErr}
 use Rattle.si_model.specs.declared.edits.Edit.{Edit}
 use Rattle.si_text.specs.declared.faults.LineFault.{LineFault}

@@ -1,12 +1,11 @@
 -- The ends of a run: those that were opened, and what is known once all is taken.
-use Rattle.std.proofs.Common.{◌≡◌, ℕ, zero, suc, ◌<◌, ◌≤◌, Bool, false, List, [], ◌∷◌, ◌++◌, map, length, take, drop, Option, Some, None, All, refl, sym, ap, ◌∙◌, subst, arith, append-nil}
+use Rattle.std.proofs.Common.{◌≡◌, ℕ, zero, suc, ◌<◌, Bool, false, List, [], ◌∷◌, ◌++◌, map, length, take, drop, Option, Some, All, refl, sym, ap, ◌∙◌, arith, append-nil}
 use Rattle.std.specs.Prelude.{Result, Ok, Err, IfOk, OnOk, IfErr, OnErr}
 use Rattle.std.proofs.Math.ListN.{get_or-map}
 use Rattle.std.proofs.lemmas.List.{drop_all, length-map, take_all}
 use Rattle.std.proofs.lemmas.List.Elements.{All-append}
 use Rattle.std.specs.Prelude.{slice_get, slice_index_or}
 use Rattle.std.proofs.lemmas.Option.{same_Some, slice_get-get_or, slice_get_within}
-use Rattle.si_intake.specs.declared.items.Item.{Item as Told}
 use Rattle.si_intake.specs.Ends.{Accepting, AreAllEndsOf, Putting, all_put, new_end, new_ends}
 use Rattle.si_intake.specs.Interleavings.{IsInterleaving as IsIntakeOf}
 use Rattle.si_run.specs.declared.statuses.ExitStatus.{ExitStatus}

@@ -1,9 +1,8 @@
 -- Once all was taken of inputs that were read, the lines that were taken are an interleaving of the inputs' items.
-use Rattle.std.proofs.Common.{◌≡◌, ◌⊎◌, ⊎_elim, ℕ, zero, suc, ◌<◌, Bool, true, false, List, [], ◌∷◌, ◌++◌, map, length, Option, Some, None, refl, sym, ap, ◌∙◌, subst, arith, append-nil, All, eq-eqb}
+use Rattle.std.proofs.Common.{◌≡◌, ⊎_elim, ℕ, zero, suc, ◌<◌, Bool, false, List, [], ◌∷◌, ◌++◌, map, length, Option, Some, None, refl, sym, ap, ◌∙◌, subst, arith, append-nil, All, eq-eqb}
 use Rattle.std.specs.Prelude.{slice_get, slice_index_or}
 use Rattle.std.specs.List.{Contains}
 use Rattle.std.specs.Option.{option_map}
-use Rattle.std.specs.Io.KnownBytes.{Appends}
 use Rattle.std.proofs.lemmas.List.{length-map, map-append}
 use Rattle.std.proofs.lemmas.List.Elements.{filter-append, Contains-append_cases}
 use Rattle.std.proofs.lemmas.Option.{none-some, same_Some, slice_get-get_or, slice_get-map, slice_get_within}
@@ -21,12 +20,12 @@ use Rattle.si_run.specs.declared.faults.RunFault.TheVariants as fault
 use Rattle.si_run.specs.Outputs.{SourcedItem, Terms, from_source, output_of}
 use Rattle.si_run.specs.Interleavings.{IsInterleaving, comes_from, items_from}
 use Rattle.si_run.specs.Readings.{AreRead, IsRead, told}
-use Rattle.si_run.specs.Runs.{AppendsBeginning, BeginsSome, BeginsText, IsTrueDeviceFault, MayBeTooLong, WritesSome, WritesText, all_known}
+use Rattle.si_run.specs.Runs.{BeginsSome, BeginsText, IsTrueDeviceFault, WritesSome, WritesText, all_known}
 use Rattle.si_run.specs.Takings.{IsBegun, IsFinished, IsMet, IsStopped, has_fault, lines_among}
 use Rattle.si_run.proofs.Beginnings.{nothing}
 use Rattle.si_run.proofs.Texts.{text_begun, text_written}
 use Rattle.si_run.proofs.Told.{IsSplit, has_worked, split, told_fault}
-use Rattle.si_run.proofs.TakenLines.{AreRests, lines_within, own_faults, rests_of, taken_lines}
+use Rattle.si_run.proofs.TakenLines.{lines_within, own_faults, rests_of, taken_lines}
 
 -- where the bytes of all inputs are known, they are known of each
 known_at : (lefts : List (Option (List ℕ))) (all : List (List ℕ)) → all_known lefts ≡ Some all

@@ -1,8 +1,7 @@
 -- A lone pass: what it has submitted is the whole journal.
-use Rattle.std.proofs.Common.{◌≡◌, List, [], ◌∷◌, ◌++◌, ℕ, All, ◌<◌, Option, None, sym, ap, ◌∙◌, subst}
+use Rattle.std.proofs.Common.{◌≡◌, List, [], ◌∷◌, ◌++◌, ℕ, All, ◌<◌, None, sym, ap, ◌∙◌, subst}
 use Rattle.std.proofs.lemmas.List.{append_cancel_right}
 use Rattle.si_model.specs.declared.edits.Edit.{Edit}
-use Rattle.si_model.specs.declared.refusals.Refusal.{Refusal}
 use Rattle.si_model.specs.Journals.{refusal_after}
 use Rattle.si_words.specs.declared.views.Entry.{Entry}
 use Rattle.si_words.specs.declared.views.PassView.{PassView}

@@ -1,5 +1,5 @@
 -- What a fault of the opening is to a run.
-use Rattle.std.proofs.Common.{◌≡◌, ◌⊎◌, inl, inr, ⊎_elim, ℕ, ◌<◌, Bool, false, List, Option, arith}
+use Rattle.std.proofs.Common.{◌≡◌, ⊎_elim, ℕ, Bool, false, List, Option, arith}
 use Rattle.si_checker.specs.Openings.{IsOpenFault}
 use Rattle.si_checker.specs.declared.openings.OpenFault.{OpenFault}
 use Rattle.si_checker.specs.declared.openings.OpenFault.TheVariants as opening

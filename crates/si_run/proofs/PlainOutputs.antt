@@ -1,5 +1,5 @@
 -- What the output is where no reports on the way are asked for.
-use Rattle.std.proofs.Common.{◌≡◌, ◌+◌, ℕ, Bool, List, [], ◌∷◌, ◌++◌, length, None, Option, Some, refl, sym, ap, ap₂, ◌∙◌, append-nil, arith}
+use Rattle.std.proofs.Common.{◌≡◌, ◌+◌, ℕ, Bool, List, [], ◌∷◌, ◌++◌, length, None, Option, Some, refl, ap₂, ◌∙◌, append-nil, arith}
 use Rattle.si_model.specs.Findings.{findings}
 use Rattle.si_model.specs.Journals.{present}
 use Rattle.si_text.specs.declared.reasons.Reason.{Reason}

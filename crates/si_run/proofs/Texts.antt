@@ -1,5 +1,5 @@
 -- The text of one input is one, and that of several that of some interleaving.
-use Rattle.std.proofs.Common.{◌≡◌, ℕ, suc, ◌<◌, List, [], ◌∷◌, Option, Some, None, All, refl, sym, ap, subst, ◌∙◌, arith, eq-eqb, cond, Bool, true}
+use Rattle.std.proofs.Common.{◌≡◌, ℕ, suc, ◌<◌, List, [], ◌∷◌, Option, Some, None, All, refl, sym, ap, subst, ◌∙◌, arith, eq-eqb, cond, Bool}
 use Rattle.si_text.specs.Inputs.{Item, items_of}
 use Rattle.si_run.specs.declared.statuses.ExitStatus.{ExitStatus}
 use Rattle.si_run.specs.Outputs.{SourcedItem, Terms, from_source, output_of, status_of}

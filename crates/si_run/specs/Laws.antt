@@ -1,11 +1,10 @@
 -- What the output is where no reports on the way are asked for.
-use Rattle.std.specs.Prelude.{◌≡◌, ◌+◌, ℕ, Bool, List, [], ◌∷◌, ◌++◌, length, None, Option, Some}
+use Rattle.std.specs.Prelude.{◌≡◌, ℕ, Bool, List, [], ◌∷◌, ◌++◌, length, None}
 use Rattle.si_model.specs.declared.edits.Edit.{Edit}
 use Rattle.si_model.specs.Findings.{findings}
 use Rattle.si_model.specs.Journals.{present}
-use Rattle.si_text.specs.declared.reasons.Reason.{Reason}
 use Rattle.si_text.specs.Texts.{report_text}
-use Rattle.si_run.specs.Outputs.{SourcedItem, Terms, counted, journal_after, output_of, reason_after, refusal_line}
+use Rattle.si_run.specs.Outputs.{SourcedItem, counted, journal_after, output_of, reason_after, refusal_line}
 
 -- the accepted edits of items that come after these edits, with them
 abbrev pub accepted_after : ℕ → List Edit → List SourcedItem → List Edit

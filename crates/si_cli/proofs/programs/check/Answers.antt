@@ -1,5 +1,4 @@
-use Rattle.std.proofs.Common.{◌≡◌, inl, inr, refl, map, Bool, false}
-use Rattle.si_run.proofs.Openings.{device_fault}
+use Rattle.std.proofs.Common.{◌≡◌, inl, refl, Bool, false}
 use Rattle.si_cli.proofs.Opened.{all_mapped}
 use Rattle.si_cli.proofs.programs.check.Goals as goal
 

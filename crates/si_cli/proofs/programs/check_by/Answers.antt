@@ -1,4 +1,4 @@
-use Rattle.std.proofs.Common.{rules, ◌≡◌, ◌≤◌, [], ◌∷◌, List, map, length, refl, ap, subst, ◌∙◌, arith}
+use Rattle.std.proofs.Common.{rules, ◌≡◌, ◌≤◌, [], ◌∷◌, map, length, refl, ap, subst, ◌∙◌}
 use Rattle.si_run.specs.Runs.{terms_by}
 use Rattle.si_run.specs.Takings.{device}
 use Rattle.si_cli.specs.Programs.{EndsCheck}

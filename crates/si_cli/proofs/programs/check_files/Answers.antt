@@ -1,4 +1,4 @@
-use Rattle.std.proofs.Common.{rules, ◌≡◌, ◌≤◌, inl, inr, refl, sym, ap, subst, ◌∙◌, map, length, List, arith}
+use Rattle.std.proofs.Common.{rules, ◌≡◌, inl, inr, refl, sym, subst, ◌∙◌, map, length, arith}
 use Rattle.std.proofs.lemmas.List.{length-map}
 use Rattle.si_run.specs.Runs.{terms_by}
 use Rattle.si_run.specs.Takings.{device}

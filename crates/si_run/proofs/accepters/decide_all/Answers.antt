@@ -1,8 +1,8 @@
-use Rattle.std.proofs.Common.{rules, ◌≡◌, ◌∙◌, ◌++◌, ◌∷◌, [], ◌||◌, ◌+◌, ◌≤◌, Bool, false, ℕ, List, refl, sym, ap, arith, subst}
+use Rattle.std.proofs.Common.{rules, ◌≡◌, ◌∙◌, ◌++◌, ◌∷◌, [], ◌||◌, ◌+◌, Bool, false, List, sym, ap, arith, subst}
 use Rattle.std.proofs.lemmas.Result.{err_from_is_err_and}
 use Rattle.si_intake.specs.Ends.{Accepting}
 use Rattle.si_intake.specs.declared.items.Item.{Item as Told}
-use Rattle.si_intake.specs.declared.items.What.TheVariants.{Line, ReadFault, NoMemory, End}
+use Rattle.si_intake.specs.declared.items.What.TheVariants.{Line, ReadFault, End}
 use Rattle.si_run.specs.Outputs.{Terms, Progress, sourced, item_text, progress_after}
 use Rattle.std.specs.List.{Contains}
 use Rattle.si_run.specs.Readings.{told}

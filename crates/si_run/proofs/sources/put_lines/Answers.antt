@@ -1,9 +1,9 @@
-use Rattle.std.proofs.Common.{◌≡◌, ◌⊎◌, ◌++◌, ◌∷◌, [], inl, inr, ◌∙◌, ◌+◌, ◌-◌, ◌^◌, ◌≤◌, ℕ, Bool, false, true, refl, ap, sym, arith}
+use Rattle.std.proofs.Common.{◌≡◌, ◌++◌, ◌∷◌, [], inr, ◌∙◌, ◌-◌, ◌^◌, ◌≤◌, ℕ, ap, sym, arith}
 use Rattle.si_intake.specs.Ends.{Putting}
 use Rattle.si_text.specs.Inputs.{Item}
 use Rattle.si_text.specs.LineBuffers.{bytes_to_come}
 use Rattle.si_run.specs.Readings.{told_item}
-use Rattle.si_run.proofs.Runnings.{CountsBytes-none, CountsBytes-then, all_read, begins, first_read, goes_on, many_items, spends, unended}
+use Rattle.si_run.proofs.Runnings.{CountsBytes-none, CountsBytes-then, begins, first_read, goes_on, many_items, unended}
 use Rattle.si_run.proofs.sources.put_lines.Goals as goal
 
 pub items-init : goal.items-init
