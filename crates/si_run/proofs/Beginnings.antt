@@ -2,13 +2,11 @@
 use Rattle.std.proofs.Common.{◌≡◌, ℕ, ◌+◌, Bool, false, ◌||◌, List, [], ◌∷◌, ◌++◌, Option, refl, sym, ap, subst, ◌∙◌, inl, inr, append_assoc, append-nil}
 use Rattle.std.specs.Io.KnownBytes.{Appends}
 use Rattle.std.proofs.KnownBytes.{Appends-trans, Appends-nil}
-use Rattle.std.proofs.lemmas.List.Elements.{filter_map-append, Contains-append_left, Contains-append_right}
+use Rattle.std.proofs.lemmas.List.Elements.{filter_map-append}
 use Rattle.std.proofs.lemmas.List.Folds.{list_any-append}
-use Rattle.std.specs.List.{Contains}
-use Rattle.si_lists.proofs.Members.{here}
 use Rattle.si_intake.specs.Ends.{Accepting, AllEnded}
 use Rattle.si_intake.specs.declared.items.Item.{Item as Told}
-use Rattle.si_intake.specs.declared.items.What.TheVariants.{Line, ReadFault, End}
+use Rattle.si_intake.specs.declared.items.What.TheVariants.{Line, End}
 use Rattle.std.specs.Prelude.{Result, Ok, Err, IfOk, OnOk, IfErr, OnErr}
 use Rattle.si_model.specs.declared.edits.Edit.{Edit}
 use Rattle.si_text.specs.declared.faults.LineFault.{LineFault}
@@ -18,7 +16,7 @@ use Rattle.si_run.specs.declared.faults.RunFault.TheVariants as fault
 use Rattle.si_run.specs.Outputs.{SourcedItem, sourced, Terms, Progress, start, progress_after, progress_through, report_at, item_text, items_text, output_of, status_at, status_of}
 use Rattle.si_run.specs.Readings.{told}
 use Rattle.si_run.specs.Runs.{AppendsBeginning, IsFaultOfWriting}
-use Rattle.si_run.specs.Takings.{IsAccepted, IsBegun, IsDecided, device, IsFinished, IsMet, IsStopped, has_fault, is_fault, line_of, lines_among}
+use Rattle.si_run.specs.Takings.{IsAccepted, IsBegun, IsCutInReport, IsCutOff, IsDecided, device, IsFinished, IsMetBefore, has_fault, is_fault, line_of, lines_among}
 
 -- ---- the texts of items, one more at the end
 
@@ -136,9 +134,6 @@ more_begun terms lines all next old new is begun = λ more.
 pub stops_behind : (terms : Terms) (taken : List Told) (t : Told) (old new : Option (List ℕ)) (p : Progress) → IsDecided terms taken old new p → IsBegun terms (lines_among (taken ++ t ∷ [])) old new
 stops_behind terms taken t old new p way = more_begun terms (lines_among taken) (lines_among (taken ++ t ∷ [])) (lines_among (t ∷ [])) old new (filter_map-append line_of taken (t ∷ [])) (stops terms taken old new p way)
 
-pub taken_on : (terms : Terms) (taken more : List Told) (old new : Option (List ℕ)) → IsBegun terms (lines_among taken) old new → IsBegun terms (lines_among (taken ++ more)) old new
-taken_on terms taken more old new begun = more_begun terms (lines_among taken) (lines_among (taken ++ more)) (lines_among more) old new (filter_map-append line_of taken more) begun
-
 -- a part of the text of one more line was written
 pub stops_in_line : (terms : Terms) (taken : List Told) (old mid new : Option (List ℕ)) (p : Progress) (source number : ℕ) (answer : Result Edit LineFault) (text : List ℕ)
     → IsDecided terms taken old mid p → AppendsBeginning mid new text → text ≡ item_text terms p (sourced source (number, answer))
@@ -168,30 +163,71 @@ finishes terms taken old mid new p status way adds status_is =
     }
 
 pub stops_in_report : (terms : Terms) (taken : List Told) (old mid new : Option (List ℕ)) (p : Progress)
-    → IsDecided terms taken old mid p → AppendsBeginning mid new (report_at terms p) → IsStopped terms taken old new
-stops_in_report terms taken old mid new p way part =
-    inr (
-      way.faultless,
-      subst (λ (l : List SourcedItem). AppendsBeginning old new (output_of terms l)) (append-nil (lines_among taken))
-          (begun terms old mid new (lines_among taken) [] p (report_at terms p) [] way.wrote way.progress part (sym (append-nil (report_at terms p)))),
-    )
+    (writer_failed : Bool) (f : RunFault)
+    → IsDecided terms taken old mid p → AppendsBeginning mid new (report_at terms p) → IsFaultOfWriting writer_failed f → IsCutInReport terms taken old new writer_failed f
+stops_in_report terms taken old mid new p writer_failed f way part met = record {
+  faultless = way.faultless;
+  part = subst (λ (l : List SourcedItem). AppendsBeginning old new (output_of terms l)) (append-nil (lines_among taken))
+      (begun terms old mid new (lines_among taken) [] p (report_at terms p) [] way.wrote way.progress part (sym (append-nil (report_at terms p))));
+  met = met;
+}
 
 -- ---- which fault was met
 
-pub met_on : (taken more : List Told) (writer_failed : Bool) (f : RunFault) → IsMet taken writer_failed f → IsMet (taken ++ more) writer_failed f
-met_on taken more w (fault.Input source) m = (m.0, Contains-append_left taken more (told source ReadFault) m.1)
-met_on taken more w (fault.Open opening) m = m
-met_on taken more w fault.Output m = m
-met_on taken more w fault.Memory m = m
+met_before : (next more : List Told) (writer_failed : Bool) (f : RunFault) → IsMetBefore next writer_failed f → IsMetBefore (next ++ more) writer_failed f
+met_before next more w (fault.Input source) m = (m.0, m.1 ++ more, ap (λ (l : List Told). l ++ more) m.2)
+met_before next more w (fault.Open opening) m = m
+met_before next more w fault.Output m = m
+met_before next more w fault.Memory m = m
 
-pub met_now : (taken : List Told) (source : ℕ) → Contains (taken ++ told source ReadFault ∷ []) (told source ReadFault)
-met_now taken source = Contains-append_right taken (told source ReadFault ∷ []) (told source ReadFault) (here (told source ReadFault) [])
+pub met_in_writing : (next : List Told) (writer_failed : Bool) (f : RunFault) → IsFaultOfWriting writer_failed f → IsMetBefore next writer_failed f
+met_in_writing next w (fault.Input source) m = absurd m
+met_in_writing next w (fault.Open opening) m = m
+met_in_writing next w fault.Output m = m
+met_in_writing next w fault.Memory m = m
 
-pub met_in_writing : (taken : List Told) (writer_failed : Bool) (f : RunFault) → IsFaultOfWriting writer_failed f → IsMet taken writer_failed f
-met_in_writing taken w (fault.Input source) m = absurd m
-met_in_writing taken w (fault.Open opening) m = m
-met_in_writing taken w fault.Output m = m
-met_in_writing taken w fault.Memory m = m
+-- the fault was met before this item, which isn't decided
+pub cut_before : (terms : Terms) (taken : List Told) (t : Told) (old new : Option (List ℕ)) (p : Progress) (writer_failed : Bool) (f : RunFault)
+    → IsDecided terms taken old new p → IsMetBefore (t ∷ []) writer_failed f → IsCutOff terms (taken ++ t ∷ []) old new writer_failed f
+cut_before terms taken t old new p writer_failed f way met = record {
+  before = taken;
+  next = t ∷ [];
+  order = refl;
+  faultless = way.faultless;
+  begun = stops terms taken old new p way;
+  met = met;
+}
+
+-- the fault was met at this line, of whose text a part may have been written
+pub cut_in_line : (terms : Terms) (taken : List Told) (source number : ℕ) (answer : Result Edit LineFault) (old new : Option (List ℕ)) (writer_failed : Bool) (f : RunFault)
+    → has_fault taken ≡ false → IsBegun terms (lines_among (taken ++ told source (Line number answer) ∷ [])) old new → IsFaultOfWriting writer_failed f
+    → IsCutOff terms (taken ++ told source (Line number answer) ∷ []) old new writer_failed f
+cut_in_line terms taken source number answer old new writer_failed f faultless begun met = record {
+  before = taken ++ told source (Line number answer) ∷ [];
+  next = [];
+  order = sym (append-nil (taken ++ told source (Line number answer) ∷ []));
+  faultless = no_more_faults taken (told source (Line number answer)) faultless refl;
+  begun = begun;
+  met = met_in_writing [] writer_failed f met;
+}
+
+-- so what was written is a beginning of the text of all lines that were taken, and whatever lines follow
+pub cut_begun : (terms : Terms) (taken : List Told) (old new : Option (List ℕ)) (writer_failed : Bool) (f : RunFault)
+    → IsCutOff terms taken old new writer_failed f → IsBegun terms (lines_among taken) old new
+cut_begun terms taken old new writer_failed f cut =
+    more_begun terms (lines_among cut.before) (lines_among taken) (lines_among cut.next) old new (ap lines_among cut.order ∙ filter_map-append line_of cut.before cut.next) cut.begun
+
+-- what is taken behind it changes nothing
+pub cut_on : (terms : Terms) (taken more : List Told) (old new : Option (List ℕ)) (writer_failed : Bool) (f : RunFault)
+    → IsCutOff terms taken old new writer_failed f → IsCutOff terms (taken ++ more) old new writer_failed f
+cut_on terms taken more old new writer_failed f cut = record {
+  before = cut.before;
+  next = cut.next ++ more;
+  order = ap (λ (l : List Told). l ++ more) cut.order ∙ append_assoc cut.before cut.next more;
+  faultless = cut.faultless;
+  begun = cut.begun;
+  met = met_before cut.next more writer_failed f cut.met;
+}
 
 -- ---- all was taken
 
@@ -207,39 +243,40 @@ reported terms at old new before mid after failed p (Ok status) is same ended wa
   ok = finishes terms new.taken before mid after p status way (subst (λ (t : Terms). Appends mid after (report_at t p)) is adds) status_is;
   works = works;
   err = tt;
-  fault = tt;
 }
 reported terms at old new before mid after failed p (Err f) is same ended way adds status_is works part fault = record {
   same = same;
   ended = ended;
   ok = tt;
   works = tt;
-  err = stops_in_report terms new.taken before mid after p way (subst (λ (t : Terms). AppendsBeginning mid after (report_at t p)) is part);
-  fault = met_in_writing new.taken failed f fault;
+  err = inr (stops_in_report terms new.taken before mid after p failed f way (subst (λ (t : Terms). AppendsBeginning mid after (report_at t p)) is part) fault);
 }
 
 -- a fault was met, and what was left was taken and dropped
 pub dropped : (terms : Terms) (old mid new : Accepting) (more : List Told) (before after : Option (List ℕ)) (failed : Bool) (f : RunFault)
     → mid ≡ record old { taken = mid.taken } → new ≡ record mid { taken = mid.taken ++ more } → AllEnded new
-    → IsBegun terms (lines_among mid.taken) before after → IsMet mid.taken failed f
+    → IsCutOff terms mid.taken before after failed f
     → IsAccepted terms old new (device before after failed) (Err f)
-dropped terms old mid new more before after failed f same goes_on ended begun met =
+dropped terms old mid new more before after failed f same goes_on ended cut =
     let taken : new.taken ≡ mid.taken ++ more = ap (λ (a : Accepting). a.taken) goes_on in
     record {
       same = goes_on ∙ ap (λ (a : Accepting). record a { taken = mid.taken ++ more }) same ∙ ap (λ (l : List Told). record old { taken = l }) (sym taken);
       ended = ended;
       ok = tt;
       works = tt;
-      err = inl (subst (λ (l : List Told). IsBegun terms (lines_among l) before after) (sym taken) (taken_on terms mid.taken more before after begun));
-      fault = subst (λ (l : List Told). IsMet l failed f) (sym taken) (met_on mid.taken more failed f met);
+      err = inl (subst (λ (l : List Told). IsCutOff terms l before after failed f) (sym taken) (cut_on terms mid.taken more before after failed f cut));
     }
 
 -- nothing was accepted, and what was put was dropped
 pub given_up : (terms : Terms) (old new : Accepting) (more : List Told) (before after : Option (List ℕ)) (failed : Bool)
     → old.taken ≡ [] → after ≡ before → failed ≡ false → new ≡ record old { taken = old.taken ++ more } → AllEnded new
     → IsAccepted terms old new (device before after failed) (Err fault.Memory)
-given_up terms old new more before after failed none same works goes_on ended =
-    dropped terms old old new more before after failed fault.Memory refl goes_on ended
-    (subst (λ (l : List Told). IsBegun terms (lines_among l) before after) (sym none)
-    (subst (λ (a : Option (List ℕ)). IsBegun terms [] before a) (sym same) (stops terms [] before before start (none_decided terms before start refl))))
-    works
+given_up terms old new more before after failed none same works goes_on ended = dropped terms old old new more before after failed fault.Memory refl goes_on ended record {
+  before = old.taken;
+  next = [];
+  order = sym (append-nil old.taken);
+  faultless = ap has_fault none;
+  begun = subst (λ (l : List Told). IsBegun terms (lines_among l) before after) (sym none)
+      (subst (λ (a : Option (List ℕ)). IsBegun terms [] before a) (sym same) (stops terms [] before before start (none_decided terms before start refl)));
+  met = works;
+}

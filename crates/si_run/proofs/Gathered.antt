@@ -81,9 +81,9 @@ ran_works has_failed inputs terms old new out (Err f) lefts olds news t a many =
 pub ran_err : (terms : Terms) (old new : Accepting) (out : Device) (result : Result ExitStatus RunFault) (lefts : List (Option (List ℕ))) (failed : List Bool) (olds news : List Putting)
     → AreTaken lefts failed olds news new.taken → IsAccepted terms old new out result → OnErr result (BeginsText terms lefts out.before out.after)
 ran_err terms old new out (Ok status) lefts failed olds news t a = tt
-ran_err terms old new out (Err f) lefts failed olds news t a = stopped terms lefts failed olds news new.taken out.before out.after t a.err
+ran_err terms old new out (Err f) lefts failed olds news t a = stopped terms lefts failed olds news new.taken out.before out.after out.failed f t a.err
 
 pub ran_fault : (terms : Terms) (old new : Accepting) (out : Device) (result : Result ExitStatus RunFault) (lefts : List (Option (List ℕ))) (failed : List Bool) (olds news : List Putting)
     → AreTaken lefts failed olds news new.taken → IsAccepted terms old new out result → IfErr result (IsTrueDeviceFault lefts failed out.failed)
 ran_fault terms old new out (Ok status) lefts failed olds news t a = tt
-ran_fault terms old new out (Err f) lefts failed olds news t a = met lefts failed olds news new.taken out.failed f t a.fault
+ran_fault terms old new out (Err f) lefts failed olds news t a = met terms lefts failed olds news new.taken out.before out.after out.failed f t a.err

@@ -4,9 +4,9 @@ use Rattle.std.specs.Prelude.{slice_get, slice_index_or}
 use Rattle.std.specs.List.{Contains}
 use Rattle.std.specs.Option.{option_map}
 use Rattle.std.proofs.lemmas.List.{length-map, map-append}
-use Rattle.std.proofs.lemmas.List.Elements.{filter-append, Contains-append_cases}
+use Rattle.std.proofs.lemmas.List.Elements.{filter-append, Contains-append_cases, Contains-append_right}
 use Rattle.std.proofs.lemmas.Option.{none-some, same_Some, slice_get-get_or, slice_get-map, slice_get_within}
-use Rattle.si_lists.proofs.Members.{Contains-filter, contains_get, get_contains}
+use Rattle.si_lists.proofs.Members.{Contains-filter, contains_get, get_contains, here}
 use Rattle.si_lists.proofs.Tests.{mapped_some}
 use Rattle.si_intake.specs.declared.items.Item.{Item as Told}
 use Rattle.si_intake.specs.declared.items.What.TheVariants.{ReadFault}
@@ -20,9 +20,9 @@ use Rattle.si_run.specs.declared.faults.RunFault.TheVariants as fault
 use Rattle.si_run.specs.Outputs.{SourcedItem, Terms, from_source, output_of}
 use Rattle.si_run.specs.Interleavings.{IsInterleaving, comes_from, items_from}
 use Rattle.si_run.specs.Readings.{AreRead, IsRead, told}
-use Rattle.si_run.specs.Runs.{BeginsSome, BeginsText, IsTrueDeviceFault, WritesSome, WritesText, all_known}
-use Rattle.si_run.specs.Takings.{IsBegun, IsFinished, IsMet, IsStopped, has_fault, lines_among}
-use Rattle.si_run.proofs.Beginnings.{nothing}
+use Rattle.si_run.specs.Runs.{BeginsSome, BeginsText, IsFaultOfWriting, IsTrueDeviceFault, WritesSome, WritesText, all_known}
+use Rattle.si_run.specs.Takings.{IsCutOff, IsFinished, IsMetBefore, IsStopped, has_fault, lines_among}
+use Rattle.si_run.proofs.Beginnings.{cut_begun, nothing}
 use Rattle.si_run.proofs.Texts.{text_begun, text_written}
 use Rattle.si_run.proofs.Told.{IsSplit, has_worked, split, told_fault}
 use Rattle.si_run.proofs.TakenLines.{lines_within, own_faults, rests_of, taken_lines}
@@ -200,26 +200,45 @@ finished terms lefts failed olds news taken old new status t f = text_written te
     by (Some all) e = (lines_among taken, all_lines lefts failed olds news taken all t e f.faultless, f.wrote, f.ends)
 
 pub stopped : (terms : Terms) (lefts : List (Option (List ℕ))) (failed : List Bool) (olds news : List Putting) (taken : List Told) (old new : Option (List ℕ))
-    → AreTaken lefts failed olds news taken → IsStopped terms taken old new → BeginsText terms lefts old new
-stopped terms lefts failed olds news taken old new t f = text_begun terms lefts old new (by (all_known lefts) refl)
+    (writer_failed : Bool) (fault : RunFault) → AreTaken lefts failed olds news taken → IsStopped terms taken old new writer_failed fault → BeginsText terms lefts old new
+stopped terms lefts failed olds news taken old new writer_failed fault t f = text_begun terms lefts old new (by (all_known lefts) refl)
   where
     by : (known : Option (List (List ℕ))) → all_known lefts ≡ known → BeginsSome terms known old new
     by None e = tt
     by (Some all) e = ⊎_elim
-        (λ (begun : IsBegun terms (lines_among taken) old new). let m = lines_and_more lefts failed olds news taken all t e in (lines_among taken ++ m.0, m.1, begun m.0))
-        (λ w. (lines_among taken, all_lines lefts failed olds news taken all t e w.0, w.1))
+        (λ (cut : IsCutOff terms taken old new writer_failed fault).
+            let m = lines_and_more lefts failed olds news taken all t e in (lines_among taken ++ m.0, m.1, cut_begun terms taken old new writer_failed fault cut m.0))
+        (λ w. (lines_among taken, all_lines lefts failed olds news taken all t e w.faultless, w.part))
         f
 
-pub met : (lefts : List (Option (List ℕ))) (failed : List Bool) (olds news : List Putting) (taken : List Told) (writer_failed : Bool) (f : RunFault)
-    → AreTaken lefts failed olds news taken → IsMet taken writer_failed f → IsTrueDeviceFault lefts failed writer_failed f
-met lefts failed olds news taken w (fault.Input s) t m =
-    let below = sources_within lefts failed olds news taken (told s ReadFault) t m.1 in
+-- a fault that a source told is true
+met_before : (lefts : List (Option (List ℕ))) (failed : List Bool) (olds news : List Putting) (taken before next : List Told) (writer_failed : Bool) (f : RunFault)
+    → AreTaken lefts failed olds news taken → taken ≡ before ++ next → IsMetBefore next writer_failed f → IsTrueDeviceFault lefts failed writer_failed f
+met_before lefts failed olds news taken before next w (fault.Input s) t order m =
+    let it : Told = told s ReadFault in
+    let there : Contains taken it =
+    subst (λ (l : List Told). Contains l it) (sym (order ∙ ap (λ (l : List Told). before ++ l) m.2)) (Contains-append_right before (it ∷ m.1) it (here it m.1)) in
+    let below = sources_within lefts failed olds news taken it t there in
     let one = taken_at lefts failed olds news taken s t below in
-    let own : Contains (of_source s taken) (told s ReadFault) = Contains-filter (is_of s) taken (told s ReadFault) m.1 (eq-eqb s s refl) in
-    (below, m.0, told_fault (slice_index_or lefts s None) (slice_index_or failed s false) one.old one.new s one.read (subst (λ (l : List Told). Contains l (told s ReadFault)) one.put own))
-met lefts failed olds news taken w (fault.Open opening) t m = m
-met lefts failed olds news taken w fault.Output t m = m
-met lefts failed olds news taken w fault.Memory t m = m
+    let own : Contains (of_source s taken) it = Contains-filter (is_of s) taken it there (eq-eqb s s refl) in
+    (below, m.0, told_fault (slice_index_or lefts s None) (slice_index_or failed s false) one.old one.new s one.read (subst (λ (l : List Told). Contains l it) one.put own))
+met_before lefts failed olds news taken before next w (fault.Open opening) t order m = m
+met_before lefts failed olds news taken before next w fault.Output t order m = m
+met_before lefts failed olds news taken before next w fault.Memory t order m = m
+
+met_in_report : (lefts : List (Option (List ℕ))) (failed : List Bool) (writer_failed : Bool) (f : RunFault) → IsFaultOfWriting writer_failed f → IsTrueDeviceFault lefts failed writer_failed f
+met_in_report lefts failed w (fault.Input s) m = absurd m
+met_in_report lefts failed w (fault.Open opening) m = m
+met_in_report lefts failed w fault.Output m = m
+met_in_report lefts failed w fault.Memory m = m
+
+pub met : (terms : Terms) (lefts : List (Option (List ℕ))) (failed : List Bool) (olds news : List Putting) (taken : List Told) (old new : Option (List ℕ)) (writer_failed : Bool) (f : RunFault)
+    → AreTaken lefts failed olds news taken → IsStopped terms taken old new writer_failed f → IsTrueDeviceFault lefts failed writer_failed f
+met terms lefts failed olds news taken old new writer_failed f t stop =
+    ⊎_elim
+    (λ (cut : IsCutOff terms taken old new writer_failed f). met_before lefts failed olds news taken cut.before cut.next writer_failed f t cut.order cut.met)
+    (λ w. met_in_report lefts failed writer_failed f w.met)
+    stop
 
 -- where no fault was taken, no input has failed
 pub all_worked : (lefts : List (Option (List ℕ))) (failed : List Bool) (olds news : List Putting) (taken : List Told)

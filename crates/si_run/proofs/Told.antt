@@ -64,8 +64,8 @@ split bytes failed old new r = by r.last (put_is (Some bytes) failed old new r) 
     }
     by NoMemory puts ends = record {
       done = r.items;
-      rest = ends.0;
-      items = ends.1;
+      rest = ends.0.0;
+      items = ends.0.1;
       lines = lines_are s r.items NoMemory new.put puts refl;
       whole = λ none. absurd (true≢false (sym (fault_is s r.items NoMemory new.put puts) ∙ none));
     }

@@ -25,11 +25,11 @@ abbrev pub AreFirst : Option (List ℕ) → List Item → Type 0
 AreFirst None items = ⊤
 AreFirst (Some bytes) items = (rest : List Item) × (items_of bytes ≡ items ++ rest)
 
--- behind these items the input ends so: at its end, where it hasn't failed; with a fault, where it has or is too long; or for want of memory
+-- behind these items the input ends so: at its end or for want of memory, where it hasn't failed; or with a fault, where it has or is too long
 abbrev pub EndsSo : Option (List ℕ) → Bool → List Item → What → Type 0
 EndsSo left failed items (Line number answer) = ⊥
 EndsSo left failed items ReadFault = AreFirst left items × ((failed ≡ true) ⊎ MayBeTooLong left)
-EndsSo left failed items NoMemory = AreFirst left items
+EndsSo left failed items NoMemory = AreFirst left items × (failed ≡ false)
 EndsSo left failed items End = AreAll left items × (failed ≡ false)
 
 -- items of the input were put behind what had been put, in order

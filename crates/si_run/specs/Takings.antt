@@ -1,6 +1,6 @@
 -- What is decided and written for what is taken of the sources.
-use Rattle.std.specs.Prelude.{◌≡◌, ◌⊎◌, ℕ, ◌++◌, Bool, true, false, List, Option, Some, None, Result, IfOk, OnOk, IfErr, OnErr}
-use Rattle.std.specs.List.{Contains, filter_map, list_any}
+use Rattle.std.specs.Prelude.{◌≡◌, ◌⊎◌, ℕ, ◌++◌, ◌∷◌, Bool, true, false, List, Option, Some, None, Result, IfOk, OnOk, IfErr}
+use Rattle.std.specs.List.{filter_map, list_any}
 use Rattle.std.specs.Io.KnownBytes.{Appends}
 use Rattle.si_intake.specs.declared.items.Item.{Item as Told}
 use Rattle.si_intake.specs.declared.items.What.{What}
@@ -11,7 +11,7 @@ use Rattle.si_run.specs.declared.faults.RunFault.{RunFault}
 use Rattle.si_run.specs.declared.faults.RunFault.TheVariants as fault
 use Rattle.si_run.specs.Outputs.{SourcedItem, Terms, Progress, items_text, output_of, progress_through, start, status_of}
 use Rattle.si_run.specs.Readings.{told}
-use Rattle.si_run.specs.Runs.{AppendsBeginning}
+use Rattle.si_run.specs.Runs.{AppendsBeginning, IsFaultOfWriting}
 
 -- the item of a line, if it is one
 abbrev pub line_told : ℕ → What → Option SourcedItem
@@ -53,19 +53,31 @@ pub record IsFinished (terms : Terms) (taken : List Told) (old new : Option (Lis
 abbrev pub IsBegun : Terms → List SourcedItem → Option (List ℕ) → Option (List ℕ) → Type 0
 IsBegun terms lines old new = (more : List SourcedItem) → AppendsBeginning old new (output_of terms (lines ++ more))
 
--- what was written is a beginning of the text of these lines and whatever lines follow, or there is no fault among what was taken, and it is a beginning of the
--- text of these alone
-abbrev pub IsStopped : Terms → List Told → Option (List ℕ) → Option (List ℕ) → Type 0
-IsStopped terms taken old new =
-    IsBegun terms (lines_among taken) old new
-    ⊎ ((has_fault taken ≡ false) × AppendsBeginning old new (output_of terms (lines_among taken)))
+-- a fault that was met where this is what the sources told next: where a source told it, it stands first; that memory was refused may have no word of a source
+abbrev pub IsMetBefore : List Told → Bool → RunFault → Type 0
+IsMetBefore next writer_failed (fault.Input source) = (writer_failed ≡ false) × (more : List Told) × (next ≡ told source ReadFault ∷ more)
+IsMetBefore next writer_failed (fault.Open opening) = ⊥
+IsMetBefore next writer_failed fault.Output = writer_failed ≡ true
+IsMetBefore next writer_failed fault.Memory = writer_failed ≡ false
 
--- the fault was met: a source told it, or the writer has failed
-abbrev pub IsMet : List Told → Bool → RunFault → Type 0
-IsMet taken writer_failed (fault.Input source) = (writer_failed ≡ false) × Contains taken (told source ReadFault)
-IsMet taken writer_failed (fault.Open opening) = ⊥
-IsMet taken writer_failed fault.Output = writer_failed ≡ true
-IsMet taken writer_failed fault.Memory = writer_failed ≡ false
+-- the fault is the first that was met: before it no source told one, and what was written is a beginning of the text of the lines before it, whatever lines follow
+pub record IsCutOff (terms : Terms) (taken : List Told) (old new : Option (List ℕ)) (writer_failed : Bool) (f : RunFault) : Type 0 where
+  pub before : List Told
+  pub next : List Told
+  pub order : taken ≡ before ++ next
+  pub faultless : has_fault before ≡ false
+  pub begun : IsBegun terms (lines_among before) old new
+  pub met : IsMetBefore next writer_failed f
+
+-- no source told a fault, and what was written is a beginning of the text of all lines, where the writer has failed or memory was refused
+pub record IsCutInReport (terms : Terms) (taken : List Told) (old new : Option (List ℕ)) (writer_failed : Bool) (f : RunFault) : Type 0 where
+  pub faultless : has_fault taken ≡ false
+  pub part : AppendsBeginning old new (output_of terms (lines_among taken))
+  pub met : IsFaultOfWriting writer_failed f
+
+-- at the first fault that was met nothing more was decided or written
+abbrev pub IsStopped : Terms → List Told → Option (List ℕ) → Option (List ℕ) → Bool → RunFault → Type 0
+IsStopped terms taken old new writer_failed f = IsCutOff terms taken old new writer_failed f ⊎ IsCutInReport terms taken old new writer_failed f
 
 -- a device for text: what was written to it before and is now, where that is known, and whether it has failed
 pub record Device : Type 0 where
@@ -82,8 +94,7 @@ pub record IsAccepted (terms : Terms) (old new : Accepting) (out : Device) (resu
   pub ended : AllEnded new
   pub ok : IfOk result (IsFinished terms new.taken out.before out.after)
   pub works : OnOk result (out.failed ≡ false)
-  pub err : OnErr result (IsStopped terms new.taken out.before out.after)
-  pub fault : IfErr result (IsMet new.taken out.failed)
+  pub err : IfErr result (IsStopped terms new.taken out.before out.after out.failed)
 
 -- it was accepted so, or nothing was taken or written
 abbrev pub IsTried : Terms → Accepting → Accepting → Device → Option (Result ExitStatus RunFault) → Type 0

@@ -5,7 +5,7 @@ ghost use Rattle.si_intake.specs.declared.items.Item.{Item as Told};
 ghost use Rattle.si_intake.specs.Ends.{AllEnded};
 ghost use Rattle.si_run.specs.Outputs.{report_at, start, status_at};
 ghost use Rattle.si_run.specs.Runs.{AppendsBeginning, IsFaultOfWriting};
-ghost use Rattle.si_run.specs.Takings.{IsAccepted, IsBegun, IsDecided, IsMet, device, lines_among};
+ghost use Rattle.si_run.specs.Takings.{IsAccepted, IsCutOff, IsDecided, device};
 
 use crate::engines::Engine;
 use crate::sessions::Session;
@@ -60,8 +60,7 @@ fn decide_all<N: Name, R: Wait, W: ByteSink, G: Gate>(
     ensures ended { OnOk result (AllEnded accepter.new) }
     ensures ok { OnOk result (IsDecided engine.old.terms accepter.new.taken (W.written writer.old) (W.written writer.new) engine.new.progress) }
     ensures works { OnOk result (W.failed writer.new ≡ false) }
-    ensures err { OnErr result (IsBegun engine.old.terms (lines_among accepter.new.taken) (W.written writer.old) (W.written writer.new)) }
-    ensures fault { IfErr result (IsMet accepter.new.taken (W.failed writer.new)) }
+    ensures err { IfErr result (IsCutOff engine.old.terms accepter.new.taken (W.written writer.old) (W.written writer.new) (W.failed writer.new)) }
 {
     'items: for _turn in 0..u64::MAX {
         let Some(Item { source, what }) = accepter.take(rt) else {

@@ -14,4 +14,4 @@ returns g c =
     let written = g.W.ByteSink.written in
     dropped c.args.engine.now.terms c.args.accepter.now c.decide_all.new.accepter c.drop_all.new.accepter c.drop_all.ensures.taken.0
     (written c.args.writer.now) (written c.decide_all.new.writer) (g.W.ByteSink.failed c.decide_all.new.writer) c.in-Err.fault
-    c.decide_all.ensures.same c.drop_all.ensures.taken.1 c.drop_all.ensures.ended c.in-Err.ensures.err c.in-Err.ensures.fault
+    c.decide_all.ensures.same c.drop_all.ensures.taken.1 c.drop_all.ensures.ended c.in-Err.ensures.err

@@ -1,15 +1,15 @@
-use Rattle.std.proofs.Common.{rules, ◌≡◌, ◌∙◌, ◌++◌, ◌∷◌, [], ◌||◌, ◌+◌, Bool, false, List, sym, ap, arith, subst}
+use Rattle.std.proofs.Common.{rules, ◌≡◌, ◌∙◌, ◌++◌, ◌∷◌, [], ◌||◌, ◌+◌, Bool, true, false, List, refl, sym, ap, arith, subst}
 use Rattle.std.proofs.lemmas.Result.{err_from_is_err_and}
 use Rattle.si_intake.specs.Ends.{Accepting}
 use Rattle.si_intake.specs.declared.items.Item.{Item as Told}
 use Rattle.si_intake.specs.declared.items.What.TheVariants.{Line, ReadFault, End}
 use Rattle.si_run.specs.Outputs.{Terms, Progress, sourced, item_text, progress_after}
-use Rattle.std.specs.List.{Contains}
 use Rattle.si_run.specs.Readings.{told}
 use Rattle.si_run.specs.Engines.{EngineState}
-use Rattle.si_run.specs.Takings.{IsBegun, IsDecided, lines_among}
+use Rattle.si_run.specs.declared.faults.RunFault.TheVariants as fault
+use Rattle.si_run.specs.Takings.{IsCutOff, IsDecided}
 use Rattle.std.specs.Io.KnownBytes.{Appends}
-use Rattle.si_run.proofs.Beginnings.{decided_one, end_decided, line_decided, met_now, stops_behind, stops_in_line}
+use Rattle.si_run.proofs.Beginnings.{cut_before, cut_in_line, decided_one, end_decided, line_decided, stops_behind, stops_in_line}
 use Rattle.si_run.proofs.accepters.decide_all.Goals.{in-Line+in_ok-decide-in-Line+in_ok-write_all-in-Line, in-End}
 use Rattle.si_run.proofs.accepters.decide_all.Goals as goal
 
@@ -20,15 +20,22 @@ taken_is old new t is = ap (λ (a : Accepting). a.taken) is
 pub returns-in_err-decide-in-Line-clause-err : goal.returns-in_err-decide-in-Line-clause-err
 returns-in_err-decide-in-Line-clause-err g c =
     let written = g.W.ByteSink.written in
+    let failed = g.W.ByteSink.failed c.items.writer in
     let at = c.items.invariant in
-    let taken = taken_is c.items.accepter c.take.new.self c.in-Some.field-0 c.in-Some.ensures.taken in
+    let terms : Terms = c.args.engine.now.terms in
+    let before = c.items.accepter.taken in
+    let line : Told = told c.in-Some.field-0.source (Line c.in-Line.line c.in-Line.answer) in
+    let item : c.in-Some.field-0 ≡ line = search rules in
+    let taken = taken_is c.items.accepter c.take.new.self c.in-Some.field-0 c.in-Some.ensures.taken ∙ ap (λ (t : Told). before ++ t ∷ []) item in
     let p = err_from_is_err_and c.from_residual.result c.from_residual.ensures.1 in
-    rw p.1 (subst (λ (l : List Told). IsBegun c.args.engine.now.terms (lines_among l) (written c.args.writer.now) (written c.items.writer)) (sym taken)
-    (stops_behind c.args.engine.now.terms c.items.accepter.taken c.in-Some.field-0 (written c.args.writer.now) (written c.items.writer) c.items.engine.progress at.way))
+    rw p.1 (rw p.2 (subst (λ (l : List Told). IsCutOff terms l (written c.args.writer.now) (written c.items.writer) failed fault.Memory) (sym taken)
+    (cut_in_line terms before c.in-Some.field-0.source c.in-Line.line c.in-Line.answer (written c.args.writer.now) (written c.items.writer) failed fault.Memory at.way.faultless
+    (stops_behind terms before line (written c.args.writer.now) (written c.items.writer) c.items.engine.progress at.way) at.works)))
 
 pub returns-in_err-write_all-in-Line-clause-err : goal.returns-in_err-write_all-in-Line-clause-err
 returns-in_err-write_all-in-Line-clause-err g c =
     let written = g.W.ByteSink.written in
+    let failed = g.W.ByteSink.failed c.write_all.new.writer in
     let at = c.items.invariant in
     let terms : Terms = c.args.engine.now.terms in
     let p = c.items.engine.progress in
@@ -38,30 +45,34 @@ returns-in_err-write_all-in-Line-clause-err g c =
     let taken = taken_is c.items.accepter c.take.new.self c.in-Some.field-0 c.in-Some.ensures.taken ∙ ap (λ (t : Told). c.items.accepter.taken ++ t ∷ []) item in
     let told_is : c.deref.result.now ≡ item_text c.items.engine.terms p line = search rules in
     let text_is : c.deref.result.now ≡ item_text terms p line = told_is ∙ ap (λ (t : Terms). item_text t p line) at.terms in
-    let fault = err_from_is_err_and c.from_residual-in_err-write_all-in-Line.result c.from_residual-in_err-write_all-in-Line.ensures.1 in
-    rw fault.1 (subst (λ (l : List Told). IsBegun terms (lines_among l) (written c.args.writer.now) (written c.write_all.new.writer)) (sym taken)
+    let has_failed : failed ≡ true = c.in_err-write_all-in-Line.ensures.failed ∙ ap (λ (b : Bool). b || true) at.works in
+    let f = err_from_is_err_and c.from_residual-in_err-write_all-in-Line.result c.from_residual-in_err-write_all-in-Line.ensures.1 in
+    rw f.1 (rw f.2 (subst (λ (l : List Told). IsCutOff terms l (written c.args.writer.now) (written c.write_all.new.writer) failed fault.Output) (sym taken)
+    (cut_in_line terms c.items.accepter.taken source c.in-Line.line c.in-Line.answer (written c.args.writer.now) (written c.write_all.new.writer) failed fault.Output at.way.faultless
     (stops_in_line terms c.items.accepter.taken (written c.args.writer.now) (written c.items.writer) (written c.write_all.new.writer) p source c.in-Line.line c.in-Line.answer c.deref.result.now
-    at.way c.in_err-write_all-in-Line.ensures.err text_is))
+    at.way c.in_err-write_all-in-Line.ensures.err text_is) has_failed)))
 
 pub returns-in-ReadFault-clause-err : goal.returns-in-ReadFault-clause-err
 returns-in-ReadFault-clause-err g c =
     let written = g.W.ByteSink.written in
-    let taken = taken_is c.items.accepter c.take.new.self c.in-Some.field-0 c.in-Some.ensures.taken in
-    subst (λ (l : List Told). IsBegun c.args.engine.now.terms (lines_among l) (written c.args.writer.now) (written c.items.writer)) (sym taken)
-    (stops_behind c.args.engine.now.terms c.items.accepter.taken c.in-Some.field-0 (written c.args.writer.now) (written c.items.writer) c.items.engine.progress c.items.invariant.way)
-
-pub returns-in-ReadFault-clause-fault : goal.returns-in-ReadFault-clause-fault
-returns-in-ReadFault-clause-fault g c =
-    let item : c.in-Some.field-0 ≡ told c.in-Some.field-0.source ReadFault = search rules in
+    let failed = g.W.ByteSink.failed c.items.writer in
+    let at = c.items.invariant in
+    let terms : Terms = c.args.engine.now.terms in
+    let source = c.in-Some.field-0.source in
+    let item : c.in-Some.field-0 ≡ told source ReadFault = search rules in
     let taken = taken_is c.items.accepter c.take.new.self c.in-Some.field-0 c.in-Some.ensures.taken ∙ ap (λ (t : Told). c.items.accepter.taken ++ t ∷ []) item in
-    (c.items.invariant.works, subst (λ (l : List Told). Contains l (told c.in-Some.field-0.source ReadFault)) (sym taken) (met_now c.items.accepter.taken c.in-Some.field-0.source))
+    subst (λ (l : List Told). IsCutOff terms l (written c.args.writer.now) (written c.items.writer) failed (fault.Input source)) (sym taken)
+    (cut_before terms c.items.accepter.taken (told source ReadFault) (written c.args.writer.now) (written c.items.writer) c.items.engine.progress failed (fault.Input source) at.way (at.works, [], refl))
 
 pub returns-in-NoMemory-clause-err : goal.returns-in-NoMemory-clause-err
 returns-in-NoMemory-clause-err g c =
     let written = g.W.ByteSink.written in
+    let failed = g.W.ByteSink.failed c.items.writer in
+    let at = c.items.invariant in
+    let terms : Terms = c.args.engine.now.terms in
     let taken = taken_is c.items.accepter c.take.new.self c.in-Some.field-0 c.in-Some.ensures.taken in
-    subst (λ (l : List Told). IsBegun c.args.engine.now.terms (lines_among l) (written c.args.writer.now) (written c.items.writer)) (sym taken)
-    (stops_behind c.args.engine.now.terms c.items.accepter.taken c.in-Some.field-0 (written c.args.writer.now) (written c.items.writer) c.items.engine.progress c.items.invariant.way)
+    subst (λ (l : List Told). IsCutOff terms l (written c.args.writer.now) (written c.items.writer) failed fault.Memory) (sym taken)
+    (cut_before terms c.items.accepter.taken c.in-Some.field-0 (written c.args.writer.now) (written c.items.writer) c.items.engine.progress failed fault.Memory at.way at.works)
 
 pub items-preserved : goal.items-preserved
 items-preserved g c =
