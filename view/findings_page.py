@@ -1,0 +1,96 @@
+#!/usr/bin/env python3
+"""Writes a page that shows what sicheck found: the transactions of each finding side by side, and what is wrong.
+
+    ./sicheck check --explain LOG > ANSWER
+    python3 view/findings_page.py LOG.. --answer ANSWER > findings.html
+
+The status is 0 where the page was written, 1 where answer and log don't belong together, which the page says, and 2 where
+no page could be made.
+"""
+import argparse
+import gc
+import sys
+
+from answers import NUMBERS, AnswerFault, answer_of
+from cards import Story
+from choosing import choose, groups_of
+from fitting import fitted_keys
+from histories import Misfit, Source, TooManyOrders, history_of
+from page import findings_page, misfit_page
+
+MOST_SOURCES = 8
+EACH, MOST = 100, 300
+
+
+def positive(text):
+    count = int(text)
+    if count < 1:
+        raise ValueError
+    return count
+
+
+def settings():
+    parser = argparse.ArgumentParser(
+        description="Writes one HTML file that shows the findings of an answer of `sicheck check` beside its log.",
+        epilog="Name the same files in the same order as in the check. The status is 0 where the page was written, 1 where "
+               "answer and log don't belong together, which the page says, and 2 where no page could be made.")
+    parser.add_argument("logs", metavar="LOG", nargs="+", help="a file of the log; up to 8, in the order of the check")
+    parser.add_argument("--answer", required=True, metavar="ANSWER", help="what `sicheck check --explain LOG..` wrote")
+    parser.add_argument("--kind", action="append", choices=list(NUMBERS), help="draws only findings of this kind; may be repeated")
+    parser.add_argument("--key", action="append", help="draws only findings on this key; may be repeated")
+    parser.add_argument("--each", type=positive, default=EACH, metavar="N",
+                        help=f"draws at most the first N of each kind and key (else {EACH})")
+    parser.add_argument("--most", type=positive, default=MOST, metavar="N", help=f"draws at most N in all (else {MOST})")
+    chosen = parser.parse_args()
+    if len(chosen.logs) > MOST_SOURCES:
+        parser.error(f"at most {MOST_SOURCES} files")
+    return chosen
+
+
+def limits_of(chosen):
+    """Why findings are left out, in words."""
+    only = ["of the chosen kinds"] * bool(chosen.kind) + ["on the chosen keys"] * bool(chosen.key)
+    asked = f"only those {' and '.join(only)} were asked for (--kind, --key), " if only else ""
+    return f"{asked}at most the first {chosen.each:,} of each kind and key, and at most {chosen.most:,} in all (--each, --most)."
+
+
+def page_of(chosen):
+    """The page and the status."""
+    with open(chosen.answer, "rb") as file:
+        answer = answer_of(file.read())
+    sources = [Source(name) for name in chosen.logs]
+    try:
+        history = history_of(sources, answer.refusals)
+        keys = fitted_keys(history, answer)
+    except Misfit as misfit:
+        sys.stderr.write(f"findings_page: answer and log don't belong together: {misfit}\n")
+        return misfit_page(str(misfit), chosen.logs), 1
+    groups = groups_of(answer)
+    choose([group for group in groups if (not chosen.kind or group.kind in map(NUMBERS.get, chosen.kind))
+            and (not chosen.key or group.key in chosen.key)], chosen.each, chosen.most)
+    return findings_page(Story(sources, history, keys, answer, groups), limits_of(chosen)), 0
+
+
+def main():
+    gc.disable()  # a log makes millions of objects, all of which stay: looking for rubbish among them takes most of the time
+    try:
+        page, status = page_of(settings())
+    except OSError as fault:
+        sys.exit(fail(f"cannot read {fault.filename}: {fault.strerror}"))
+    except (AnswerFault, TooManyOrders) as fault:
+        sys.exit(fail(str(fault)))
+    try:
+        sys.stdout.buffer.write(page.encode("utf-8"))
+        sys.stdout.flush()
+    except OSError:
+        sys.exit(fail("cannot write"))
+    sys.exit(status)
+
+
+def fail(words):
+    sys.stderr.write(f"findings_page: {words}\n")
+    return 2
+
+
+if __name__ == "__main__":
+    main()
