@@ -9,6 +9,7 @@ from pictures import picture_of, roles_of
 from wording import REASONS, STATUSES, advice, edge_words, edges, key_shown, sentence
 
 MOST_LETTERS = 600  # of a line of the log
+SHORT = 20  # letters of a key that stay on one line
 
 
 class Story:
@@ -40,7 +41,9 @@ class Story:
 
 
 def key_code(key):
-    return data(key_shown(key))
+    """The key, which is parted between lines only where it is long."""
+    shown = key_shown(key)
+    return element("span", data(shown), class_="short") if len(shown) <= SHORT else data(shown)
 
 
 def heading(finding):
@@ -97,9 +100,9 @@ def transactions_table(story, finding, picture):
             record = records[place - len(picture.lanes) + len(records)]
             outcome, places = became(story, record), record.places()
         rows.append([text_of(lane.id), text_of(lane.role), text_of(lane.start), "none" if lane.end is None else text_of(lane.end),
-                     text_of(outcome), "<br/>".join(text_of(story.place(one)) for one in places), operations_cell(lane)])
+                     text_of(outcome), "<br/>".join(element("span", text_of(story.place(one)), class_="short") for one in places), operations_cell(lane)])
     heads = ["Transaction", "Part", "Start", "Commit", "Became", "Logged at", "Operations on the key"]
-    return table("Transactions, with their operations on the key in order", heads, rows, class_="transactions")
+    return table("Transactions, with their operations on the key in order", heads, rows, class_="wide")
 
 
 def places_of(story, finding):
@@ -129,7 +132,7 @@ def lines_part(story, finding):
         rows = [element("span", text_of(f"{place.line}: "), class_="line-number") + text_of(story.raw_line(place))
                 for place in places]
         parts.append(element("pre", "\n".join(rows), dir="ltr", tabindex="0"))
-    numbers = "; ".join(f"{story.sources[source].name if len(by_source) > 1 else 'numbers'} "
+    numbers = "; ".join((f"{story.sources[source].name} " if len(story.sources) > 1 else "")
                         + ", ".join(str(place.line) for place in places) for source, places in sorted(by_source.items()))
     return element("details", element("summary", text_of(f"Lines of the log: {numbers}")), *parts, class_="lines")
 
@@ -139,13 +142,12 @@ def evidence_part(story, finding):
     if finding.kind in FORM:
         why = "a fault of form, which comes before the thesis's phenomena" if KINDS[finding.kind] == "own" \
             else "no violation by itself"
-        return element("p", text_of(f"There is no evidence of edges for it: it is {why}."), class_="evidence-text")
+        return element("p", text_of(f"None: it is {why}."), class_="evidence-text")
     told = edges(finding)
     words = "; ".join(edge_words(edge) for edge in told) + "."
     line = finding.evidence().strip()
-    note = "" if story.answer.is_explained else " The answer was made without --explain, and doesn't print it."
     return draw_edges(told, f"Evidence: {words}") + element(
-        "p", element("code", text_of(line)), text_of(f": {words}{note}"), class_="evidence-text")
+        "p", element("code", text_of(line)), text_of(f": {words}"), class_="evidence-text")
 
 
 def card(story, finding):
@@ -158,12 +160,11 @@ def card(story, finding):
     head = element("h4", element("a", text_of(KINDS[finding.kind]), href="#" + name), text_of(" of "), key_code(finding.key),
                    text_of(": " + heading(finding)))
     drawing = draw_picture(picture, told.replace("{key}", "the key"))
+    aside = element("div", element("h5", "In the database"), element("p", text_of(advice(finding))),
+                    element("h5", "Evidence"), evidence_part(story, finding), class_="aside")
     return element(
         "article", head,
         element("p", text_of(before), key_code(finding.key), text_of(after), class_="sentence"),
-        scrolled(drawing, f"Picture of {name}"),
-        element("p", element("strong", "Look for: "), text_of(advice(finding)), class_="advice"),
-        transactions_table(story, finding, picture),
-        element("div", element("h5", "Evidence"), evidence_part(story, finding), class_="evidence"),
-        lines_part(story, finding),
+        element("div", scrolled(drawing, f"Picture of {name}"), aside, class_="beside"),
+        transactions_table(story, finding, picture), lines_part(story, finding),
         id=name, class_="finding", data_kind=KINDS[finding.kind], data_key=story.key_numbers[finding.key])

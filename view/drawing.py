@@ -67,8 +67,8 @@ class Axis:
         edges = [-1 if version.begins is None else self.places[version.begins] for version in versions]
         for version, begins, ends in zip(versions, edges, [*edges[1:], len(self.stamps)]):
             longest = max(map(len, (version.text, version.origin)))
-            tags = max((len(tag) for tag in version.tags), default=0)
-            self.spans.append((begins, ends, max(longest, tags * 0.9) * LETTER + 14))
+            tags = max((len(tag) + 2 for tag in version.tags), default=0)
+            self.spans.append((begins, ends, max(longest, tags) * LETTER + 14))
 
     def add_lanes(self, lanes):
         for lane in lanes:
@@ -151,17 +151,27 @@ def draw_lanes(picture, axis, top, width):
 
 
 def draw_versions(versions, axis):
-    """The band of versions, each from its commit on, and the tags below it."""
+    """The band of versions, each from its commit on, and the texts in it and below it."""
     edges = [axis.left if version.begins is None else axis.x(version.begins) for version in versions]
-    parts = []
+    boxes, texts = [], []
     for version, begin, end in zip(versions, edges, [*edges[1:], axis.right]):
         kind = "left-out" if version.is_left_out else "tagged" if version.tags else "plain"
-        parts.append(box(begin, BAND, end - begin, BAND_HEIGHT, class_=f"version {kind}"))
-        parts.append(words(begin + 6, BAND + 15, version.text, class_="value"))
-        parts.append(words(begin + 6, BAND + 31, version.origin, class_="origin"))
+        boxes.append(box(begin, BAND, end - begin, BAND_HEIGHT, class_=f"version {kind}"))
+        texts.append(words(begin + 6, BAND + 15, version.text, class_="value"))
+        texts.append(words(begin + 6, BAND + 31, version.origin, class_="origin"))
         for row, tag in enumerate(version.tags, 1):
-            parts.append(words(begin + 2, BAND + BAND_HEIGHT + TAG * row - 2, f"▲ {tag}", class_="tag"))
-    return parts
+            texts.append(words(begin + 2, BAND + BAND_HEIGHT + TAG * row - 2, f"▲ {tag}", class_="tag"))
+    return boxes, texts
+
+
+def draw_marks(picture, axis, middles):
+    """The line of the reader's snapshot, from the versions to its bar, or the time in which both were under way."""
+    if picture.overlap:
+        begin, end = map(axis.x, picture.overlap)
+        top, bottom = middles[0] - BAR / 2 - 3, middles[-1] + BAR / 2 + 3
+        return [box(begin, top, end - begin, bottom - top, class_="both")]
+    x = axis.x(picture.snapshot)
+    return [line(x, BAND - 6, x, middles[-1], class_="snapshot")]
 
 
 def draw_axis(axis, bottom):
@@ -181,14 +191,9 @@ def draw_picture(picture, label):
     tags = max(len(version.tags) for version in picture.versions)
     top = BAND + BAND_HEIGHT + TAG * tags + 14
     lanes, middles, bottom = draw_lanes(picture, axis, top, width)
-    parts = draw_axis(axis, bottom - LANE_GAP) + draw_versions(picture.versions, axis)
-    if picture.snapshot is not None:
-        x = axis.x(picture.snapshot)
-        parts.append(line(x, BAND - 6, x, middles[-1], class_="snapshot"))
-    if picture.overlap:
-        begin, end = map(axis.x, picture.overlap)
-        parts.append(box(begin, middles[0] - BAR, end - begin, middles[-1] - middles[0] + 2 * BAR, class_="both"))
-    return picture_frame(width, bottom, label, parts + lanes)
+    boxes, texts = draw_versions(picture.versions, axis)
+    parts = draw_axis(axis, bottom - LANE_GAP) + boxes + draw_marks(picture, axis, middles) + texts + lanes
+    return picture_frame(width, bottom, label, parts)
 
 
 def pill(x, y, text):

@@ -30,15 +30,16 @@ def data(text):
 
 
 def table(caption, heads, rows, **values):
-    """A table whose cells know their column's name, which a small screen shows beside them. The first cell of each row is
-    its head."""
-    head = element("tr", *(element("th", text_of(name), scope="col") for name in heads))
+    """A table in which the first cell of each row is its head. The cells know their column's name, which a small screen shows
+    beside them, and their roles, which they would lose there."""
+    head = element("tr", *(element("th", text_of(name), scope="col", role="columnheader") for name in heads), role="row")
     body = []
     for row in rows:
-        cells = [element("th", row[0], scope="row", data_head=heads[0])]
-        cells += [element("td", cell, data_head=name) for name, cell in zip(heads[1:], row[1:])]
-        body.append(element("tr", *cells))
-    return element("table", element("caption", text_of(caption)), element("thead", head), element("tbody", *body), **values)
+        cells = [element("th", row[0], scope="row", role="rowheader", data_head=heads[0])]
+        cells += [element("td", cell, role="cell", data_head=name) for name, cell in zip(heads[1:], row[1:])]
+        body.append(element("tr", *cells, role="row"))
+    return element("table", element("caption", text_of(caption)), element("thead", head, role="rowgroup"),
+                   element("tbody", *body, role="rowgroup"), role="table", **values)
 
 
 def scrolled(content, label):

@@ -8,7 +8,7 @@ from drawing import SHARED
 from log_lines import ABORTED, COMMITTED, IN_DOUBT
 from markup import data, element, scrolled, table, text_of
 from strips import column_words, columns_of, draw_strip, stamp_of
-from wording import ADVICE, MEANINGS, REASONS
+from wording import MEANINGS, REASONS, key_shown
 
 MOST_KEYS, MOST_ROWS, MOST_OPEN = 10, 100, 60
 HERE = Path(__file__).parent
@@ -63,7 +63,8 @@ def kinds_part(story):
             for kind, (found, drawn, first) in kind_totals(story).items()]
     none = ", ".join(word for kind, word in KINDS.items() if kind not in kind_totals(story))
     rest = element("p", text_of(f"None is of the kind {none}." if none else "All kinds were found."))
-    return section("Findings by kind", table("Findings by kind", ["Kind", "Found", "Drawn", "Means"], rows), rest)
+    return section("Findings by kind", table("Findings by kind", ["Kind", "Found", "Drawn", "Means"], rows,
+                                             class_="wide"), rest)
 
 
 def keys_part(story):
@@ -102,7 +103,7 @@ def bounded(title, heads, rows):
     rest = len(rows) - MOST_ROWS
     more = element("p", text_of(f"{rest:,} more are left out.")) if rest > 0 else ""
     shown = [row() for row in rows[:MOST_ROWS]]
-    return element("details", element("summary", text_of(f"{title}: {len(rows):,}")), table(title, heads, shown), more)
+    return element("details", element("summary", text_of(f"{title}: {len(rows):,}")), table(title, heads, shown, class_="wide" if len(heads) > 3 else None), more)
 
 
 def log_part(story):
@@ -159,8 +160,8 @@ def list_part(story):
     drawn = drawn_of(story)
     rows = [[link(finding, text_of(KINDS[finding.kind])), key_code(finding.key), text_of(heading(finding)),
              text_of(stamp_of(finding, story.history))] for _, finding in drawn]
-    return element("details", element("summary", text_of(f"List of the {many(len(drawn), 'drawn finding')}")),
-                   table("Drawn findings", ["Kind", "Key", "Of", "At commit stamp"], rows, class_="list"),
+    return element("details", element("summary", text_of(f"The drawn findings as a list: {len(drawn):,}")),
+                   table("Drawn findings", ["Kind", "Key", "Of", "At commit stamp"], rows),
                    open="" if len(drawn) <= MOST_OPEN else None)
 
 
@@ -172,7 +173,6 @@ def choice(name, label, options):
 
 def filter_part(story):
     """Chooses by kind and key, where the browser runs scripts; it is hidden where it doesn't."""
-    from wording import key_shown
     drawn = [group for group in story.groups if group.drawn]
     kinds = [(KINDS[kind], KINDS[kind]) for kind in sorted({group.kind for group in drawn})]
     keys = sorted({(story.key_numbers[group.key], group.key) for group in drawn})
@@ -190,7 +190,7 @@ def left_out_words(group):
 def kind_part(story, kind, groups):
     """The drawn findings of a kind, key by key, and what is left out."""
     found = sum(len(group.findings) for group in groups)
-    parts = [element("h3", text_of(f"{KINDS[kind]}: {found:,}")), element("p", text_of(f"{MEANINGS[kind]} {ADVICE[kind]}"))]
+    parts = [element("h3", text_of(f"{KINDS[kind]}: {found:,}")), element("p", text_of(MEANINGS[kind]))]
     for group in groups:
         parts += [card(story, finding) for finding in group.findings[:group.drawn]]
         if group.drawn and group.left_out():
@@ -205,14 +205,17 @@ def kind_part(story, kind, groups):
 
 def findings_part(story, limits):
     drawn, found = len(drawn_of(story)), len(story.answer.findings)
-    note = f"All {many(found, 'finding')} are drawn." if drawn == found else (
+    note = "All findings are drawn." if drawn == found else (
         f"{drawn:,} of {found:,} findings are drawn, {found - drawn:,} are left out: {limits}")
     kinds = {}
     for group in story.groups:
         kinds.setdefault(group.kind, []).append(group)
     legend = "In a picture stamps go from left to right in their order, not to scale. The band has the versions of the key, each " \
              "from its commit on. A ring is a start, where the snapshot is taken, and a thick end is a commit; an open, " \
-             "dashed bar didn't commit, or isn't known to have. The dashed line is the reader's snapshot. ✗ marks what is wrong."
+             "dashed bar didn't commit, or isn't known to have. The dashed line is the reader's snapshot; hatching is the time in " \
+             "which both transactions were under way. ✗ marks what is wrong."
+    if not story.answer.is_explained:
+        note += " The answer was made without --explain: the evidence shown is what it would print."
     return section("The findings", element("p", text_of(note)), element("p", text_of(legend), class_="legend"),
                    filter_part(story), list_part(story),
                    *(kind_part(story, kind, groups) for kind, groups in sorted(kinds.items())), id="the-findings")
@@ -231,7 +234,7 @@ def findings_page(story, limits):
     """The page of an answer that belongs to its log. The limits say in words why findings are left out."""
     summary = story.answer.summary
     title = f"sicheck: {VERDICTS[summary.verdict][0]}, {many(summary.findings, 'finding')}"
-    found = [kinds_part(story), keys_part(story), when_part(story)] if summary.findings else []
+    found = [element("div", kinds_part(story), keys_part(story), class_="beside"), when_part(story)] if summary.findings else []
     findings = [findings_part(story, limits)] if summary.findings else []
     skip = element("a", "To the findings", href="#the-findings", class_="skip") if findings else ""
     return document(title, skip, verdict_part(story), element("main", *found, log_part(story), *findings))

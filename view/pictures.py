@@ -1,7 +1,7 @@
 """What the picture of a finding shows: the transactions as lanes, and the versions of the key around them."""
 from typing import NamedTuple, Optional
 
-from answers import FUTURE, INTERMEDIATE, LATER, OVERLAP, OWN, STALE
+from answers import INTERMEDIATE, LATER, OVERLAP, OWN, STALE, UNKNOWN
 from judgement import INITIAL
 from log_lines import COMMITTED
 from wording import STATUSES, value_shown
@@ -154,9 +154,10 @@ def version_tags(finding, keys, history):
     tags = {}
     if finding.kind == OVERLAP:
         first, second = (keys.version_place(history.records[number]) for number in (finding.first, finding.second))
-        return {first: ["overwritten"], second: ["not seen what it overwrote"]}
-    read = keys.place_of_value(finding.read)
-    if finding.kind in (STALE, FUTURE) and read is not None:
+        return {first: ["was overwritten"], second: ["overwrote it"]}
+    # What is unknown is of no version, though a set-up key has an initial one and the read found nothing.
+    read = keys.place_of_value(finding.read) if finding.kind != UNKNOWN else None
+    if read is not None:
         tags.setdefault(read, []).append("was read")
     if finding.kind == STALE:
         tags.setdefault(keys.version_place(history.records[finding.detail]), []).append("was missed")

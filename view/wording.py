@@ -19,8 +19,8 @@ MEANINGS = {
 
 ADVICE = {
     UNKNOWN: "Look for a lost line, a writer that was refused or withdrawn, rolled back writes that weren't logged, or a "
-             "`setup` line that is missing. Else it is a value out of nowhere, which is a find.",
-    DOUBT: "Settle the doubtful transaction, and write its `resolve` line.",
+             "missing setup line. Else it is a value out of nowhere, which is a find.",
+    DOUBT: "Settle the doubtful transaction, and write its resolve line.",
     OWN: "Look at reads that pass by the transaction's own writes. If it returned what was written only afterwards, look "
          "for operations that were logged in a wrong order.",
     ABORTED_READ: "Look at a cache that is filled before the commit, at reads of what isn't committed yet, or at an outcome "
@@ -39,7 +39,7 @@ REASONS = {
     1: "the line has over 1,048,576 bytes",
     2: "the line is no JSON",
     3: "the line's value is no object",
-    4: "`do` is missing or is no word of the format",
+    4: "the member do is missing or is no word of the format",
     5: "a member is missing or of another kind",
     6: "the status is no word of the format",
     7: "the transaction has over 4,096 operations",
@@ -180,7 +180,7 @@ def edge_words(edge):
     """An edge in words."""
     one, label, other = edge
     return {"read": f"{other} read what {one} wrote",
-            "wr": f"{other} read the version of {one}",
-            "ww": f"{other} installed the version next after that of {one}",
+            "wr": f"{other} read the version of {one}, which hadn't committed when {other} started",
+            "ww": f"{other} installed the version next after that of {one}, and started before {one} committed",
             "rw": f"{other} installed the version next after the one that {one} read",
             "st": f"{other} started after {one} committed"}[label]
