@@ -102,7 +102,7 @@ def finding_of(line):
         key, end = json.JSONDecoder().raw_decode(line, head.end())
         fields = {name: value for name, value in FIELD.findall(line, end)}
         finding = finding_with(NUMBERS[head[1]], key, fields)
-        return finding if finding.text() == line else None
+        return finding if type(key) is str and finding.text() == line else None
     except (ValueError, KeyError, AttributeError):
         return None
 

@@ -10,8 +10,9 @@ no page could be made.
 import argparse
 import gc
 import sys
+from contextlib import ExitStack, closing
 
-from answers import NUMBERS, AnswerFault, answer_of
+from answers import KINDS, NUMBERS, AnswerFault, answer_of
 from cards import Story
 from choosing import choose, groups_of
 from fitting import fitted_keys
@@ -23,13 +24,15 @@ EACH, MOST = 100, 300
 
 
 def positive(text):
+    """The whole number from 1 on that the text is."""
     count = int(text)
     if count < 1:
         raise ValueError
     return count
 
 
-def settings():
+def settings(words):
+    """What the words of the command line ask for."""
     parser = argparse.ArgumentParser(
         description="Writes one HTML file that shows the findings of an answer of `sicheck check` beside its log.",
         epilog="Name the same files in the same order as in the check. The status is 0 where the page was written, 1 where "
@@ -41,7 +44,7 @@ def settings():
     parser.add_argument("--each", type=positive, default=EACH, metavar="N",
                         help=f"draws at most the first N of each kind and key (else {EACH})")
     parser.add_argument("--most", type=positive, default=MOST, metavar="N", help=f"draws at most N in all (else {MOST})")
-    chosen = parser.parse_args()
+    chosen = parser.parse_args(words)
     if len(chosen.logs) > MOST_SOURCES:
         parser.error(f"at most {MOST_SOURCES} files")
     return chosen
@@ -58,23 +61,27 @@ def page_of(chosen):
     """The page and the status."""
     with open(chosen.answer, "rb") as file:
         answer = answer_of(file.read())
-    sources = [Source(name) for name in chosen.logs]
-    try:
-        history = history_of(sources, answer.refusals)
-        keys = fitted_keys(history, answer)
-    except Misfit as misfit:
-        sys.stderr.write(f"findings_page: answer and log don't belong together: {misfit}\n")
-        return misfit_page(str(misfit), chosen.logs), 1
-    groups = groups_of(answer)
-    choose([group for group in groups if (not chosen.kind or group.kind in map(NUMBERS.get, chosen.kind))
-            and (not chosen.key or group.key in chosen.key)], chosen.each, chosen.most)
-    return findings_page(Story(sources, history, keys, answer, groups), limits_of(chosen)), 0
+    with ExitStack() as opened:
+        sources = [opened.enter_context(closing(Source(name))) for name in chosen.logs]
+        try:
+            history = history_of(sources, answer.refusals)
+            keys = fitted_keys(history, answer)
+        except Misfit as misfit:
+            sys.stderr.write(f"findings_page: answer and log don't belong together: {misfit}\n")
+            return misfit_page(str(misfit), chosen.logs), 1
+        groups = groups_of(answer)
+        choose([group for group in groups if is_asked(group, chosen)], chosen.each, chosen.most)
+        return findings_page(Story(sources, history, keys, answer, groups), limits_of(chosen)), 0
+
+
+def is_asked(group, chosen):
+    return (not chosen.kind or KINDS[group.kind] in chosen.kind) and (not chosen.key or group.key in chosen.key)
 
 
 def main():
     gc.disable()  # a log makes millions of objects, all of which stay: looking for rubbish among them takes most of the time
     try:
-        page, status = page_of(settings())
+        page, status = page_of(settings(sys.argv[1:]))
     except OSError as fault:
         sys.exit(fail(f"cannot read {fault.filename}: {fault.strerror}"))
     except (AnswerFault, TooManyOrders) as fault:

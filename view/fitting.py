@@ -1,7 +1,8 @@
 """Whether an answer and a log belong together: the counts, and every finding, told and untold."""
-from answers import INTERMEDIATE, OVERLAP, Finding
+from answers import ABORTED_READ, DOUBT, INTERMEDIATE, OVERLAP, STALE, Finding
 from histories import Misfit
 from judgement import findings_of, key_histories
+from log_lines import ABORTED, COMMITTED, IN_DOUBT
 
 MOST_TOLD = 5
 
@@ -14,9 +15,10 @@ def suits(record, finding):
     if record.id == finding.first:
         op = record.ops[finding.second] if finding.second < len(record.ops) else None
         return record.is_committed and op == ("r", finding.key, finding.read)
-    if finding.kind == INTERMEDIATE:
-        return finding.read in writes[:-1]
-    return bool(writes)
+    if finding.kind == STALE:
+        return record.is_committed and bool(writes)
+    status = {DOUBT: IN_DOUBT, ABORTED_READ: ABORTED}.get(finding.kind, COMMITTED)
+    return record.status == status and finding.read in (writes[:-1] if finding.kind == INTERMEDIATE else writes)
 
 
 def settle_unsure(history, findings):

@@ -67,9 +67,14 @@ class Source:
 
     def __init__(self, name):
         self.name = name
-        handle = open(name, "rb")
-        self.handle = handle if handle.seekable() else io.BytesIO(handle.read())
+        self.handle = open(name, "rb")
+        if not self.handle.seekable():
+            with self.handle as pipe:
+                self.handle = io.BytesIO(pipe.read())
         self.offsets = []
+
+    def close(self):
+        self.handle.close()
 
     def lines(self):
         """The lines without their line feeds."""

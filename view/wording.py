@@ -57,6 +57,8 @@ REASONS = {
     21: "the key was set up with a value that the transaction writes",
 }
 
+MOST_MARKS = 2  # on one letter
+
 STATUSES = {"committed": "committed", "aborted": "rolled back", "indoubt": "in doubt"}
 
 
@@ -68,10 +70,16 @@ def is_unseen(letter):
 
 
 def with_escapes(text):
-    """The text with JSON's escapes in place of the characters that can't be seen."""
+    """The text with JSON's escapes in place of the characters that can't be seen, and of marks that are piled on one letter,
+    which would hide what stands around them."""
     if text.isascii() and text.isprintable():
         return text
-    return "".join(json.dumps(letter)[1:-1] if is_unseen(letter) else letter for letter in text)
+    shown, marks = [], MOST_MARKS  # a mark at the beginning has no letter to stand on
+    for letter in text:
+        is_mark = unicodedata.category(letter) in ("Mn", "Me")
+        marks = marks + 1 if is_mark else 0
+        shown.append(json.dumps(letter)[1:-1] if is_unseen(letter) or marks > MOST_MARKS else letter)
+    return "".join(shown)
 
 
 def key_shown(key):
