@@ -12,7 +12,6 @@ from xml.etree import ElementTree
 from histories import Source
 
 HERE = Path(__file__).parent
-SVG = "{http://www.w3.org/2000/svg}"
 VOID = {"meta", "br"}
 
 
@@ -24,6 +23,7 @@ class Tags(HTMLParser):
         self.open, self.ids, self.links, self.faults = [], [], [], []
         self.texts = {}  # by the name of a tag: the texts of its elements
         self.articles = {}  # by address: what the article says
+        self.words = []
         self.attributes = []
         self.feed(text)
         self.close()
@@ -57,6 +57,7 @@ class Tags(HTMLParser):
             self.open[-1][2].append(text)
 
     def handle_data(self, data):
+        self.words.append(data)
         if self.open:
             self.open[-1][2].append(data)
 
@@ -135,6 +136,12 @@ class PageTest(unittest.TestCase):
         self.assertEqual((result.status, result.complaint), (0, ""))
         self.check_form(result)
         return result
+
+    def check_says(self, result, *texts):
+        """The page has these texts, each within one element or across them."""
+        words = "".join(result.tags().words)
+        for text in texts:
+            self.assertTrue(text in words, f"the page doesn't say: {text}")
 
     def check_form(self, result):
         tags = result.tags()
