@@ -86,6 +86,7 @@ SUMMARY = re.compile(r"transactions=(\d+) findings=(\d+) refused=(\d+) verdict=(
 REFUSAL = re.compile(r"refused source=(\d+) line=(\d+) code=(\d+) reason=(.+)")
 HEAD = re.compile(r"(\w+) key=")
 FIELD = re.compile(r" (\w+)=(\w+)")
+READER = json.JSONDecoder()
 
 
 def json_text(text):
@@ -99,7 +100,7 @@ def finding_of(line):
     if head is None or head[1] not in NUMBERS:
         return None
     try:
-        key, end = json.JSONDecoder().raw_decode(line, head.end())
+        key, end = READER.raw_decode(line, head.end())
         fields = {name: value for name, value in FIELD.findall(line, end)}
         finding = finding_with(NUMBERS[head[1]], key, fields)
         return finding if type(key) is str and finding.text() == line else None

@@ -99,6 +99,9 @@ def no_constant(word):
     raise ValueError(word + " is no JSON")
 
 
+READER = json.JSONDecoder(parse_int=whole_number, parse_float=other_number, parse_constant=no_constant)
+
+
 def depth(text):
     """How deep the text nests."""
     deep = deepest = 0
@@ -123,7 +126,7 @@ def json_value(line):
     """The JSON value of the line, by the strict rules of the format, which Python's reader alone doesn't keep."""
     try:
         text = line.decode("utf-8")
-        value = json.loads(text, parse_int=whole_number, parse_float=other_number, parse_constant=no_constant)
+        value = READER.decode(text)
     except (ValueError, RecursionError):
         raise LineFault(NOT_JSON) from None
     if text.count("[") + text.count("{") > DEEPEST and depth(text) > DEEPEST or has_half_surrogate(text):

@@ -1,14 +1,17 @@
 """For tests: makes a page of lines and an answer, and reads it back, looking whether its tags nest and its pictures parse."""
+import io
 import json
 import re
 import subprocess
 import sys
 import tempfile
 import unittest
+from contextlib import redirect_stderr
 from html.parser import HTMLParser
 from pathlib import Path
 from xml.etree import ElementTree
 
+from findings_page import page_of, settings
 from histories import Source
 
 HERE = Path(__file__).parent
@@ -67,9 +70,12 @@ class Result:
 
     def __init__(self, status, page, complaint):
         self.status, self.page, self.complaint = status, page, complaint
+        self.read = None
 
     def tags(self):
-        return Tags(self.page)
+        """The elements of the page, which is read once."""
+        self.read = self.read or Tags(self.page)
+        return self.read
 
     def pictures(self):
         """The pictures of the page, each parsed as XML."""
@@ -124,15 +130,24 @@ class PageTest(unittest.TestCase):
         done = subprocess.run([sys.executable, str(HERE / "findings_page.py"), *words], capture_output=True, check=False)
         return Result(done.returncode, done.stdout.decode("utf-8"), done.stderr.decode("utf-8"))
 
-    def page(self, logs, answer, *options):
-        """The page of these logs and this answer; one log may stand without a list."""
+    def words(self, logs, answer, *options):
+        """The words that ask for the page of these logs and this answer; one log may stand without a list."""
         logs = logs if isinstance(logs, list) else [logs]
         names = [self.write(f"{place}.jsonl", log) for place, log in enumerate(logs)]
-        return self.run_script(*names, "--answer", self.write("answer", answer), *options)
+        return [*names, "--answer", self.write("answer", answer), *options]
+
+    def page(self, logs, answer, *options):
+        """The page of these logs and this answer, without a process of its own."""
+        complaint = io.StringIO()
+        with redirect_stderr(complaint):
+            page, status = page_of(settings(self.words(logs, answer, *options)))
+        return Result(status, page, complaint.getvalue())
 
     def good_page(self, logs, answer, *options):
         """The page, which has to be made without a complaint and to be well formed."""
-        result = self.page(logs, answer, *options)
+        return self.checked(self.page(logs, answer, *options))
+
+    def checked(self, result):
         self.assertEqual((result.status, result.complaint), (0, ""))
         self.check_form(result)
         return result

@@ -126,8 +126,9 @@ class Pictures(PageTest):
 
         def found(kind, name="x"):
             return [float(part.get(name)) for part in picture.iter() if kind in part.get("class", "").split()]
-        one, two, three, four, seven, eight = found("stamp")
-        self.assertLess(one < two < three < four < seven, eight)
+        stamps = found("stamp")
+        self.assertEqual(sorted(set(stamps)), stamps)
+        one, two, three, four, seven, eight = stamps
         self.assertEqual(found("start", "cx"), [one, three, seven])
         self.assertEqual([end + 4 for end in found("commit")], [two, four, eight])
         self.assertEqual(found("snapshot", "x1"), [seven])
@@ -317,6 +318,16 @@ class Misfits(PageTest):
                            self.write("odd", "odd\n" + sample("samples/stale_read.out")))
         self.check_failure("--each", log, "--answer", answer, "--each", "0")
 
+    def test_script_writes_the_page(self):
+        words = self.words(sample("samples/stale_read.jsonl"), sample("samples/stale_read.out"))
+        page = self.page(sample("samples/stale_read.jsonl"), sample("samples/stale_read.out")).page
+        result = self.run_script(*words)
+        self.assertEqual((result.status, result.page, result.complaint), (0, page, ""))
+        result = self.run_script(words[0], "--answer", self.write("other", sample("samples/lost_update.out")))
+        self.assertEqual(result.status, 1)
+        self.assertIn("answer and log don't belong together", result.complaint)
+        self.assertIn("Answer and log don't belong together", result.tags().texts["h1"][0])
+
     def test_help(self):
         result = self.run_script("--help")
         self.assertEqual((result.status, result.complaint), (0, ""))
@@ -340,7 +351,7 @@ class Bounds(PageTest):
     def test_hundred_thousand_findings(self):
         log, answer = self.many(100, 1000)
         begin = time.monotonic()
-        page = self.good_page(log, answer)
+        page = self.checked(self.run_script(*self.words(log, answer)))
         self.assertLess(time.monotonic() - begin, 60)
         self.assertLess(len(page.page), 4_000_000)
         tags = page.tags()
