@@ -81,10 +81,15 @@ def ghosts_of(story, finding):
     return story.ghosts_by_value.get((finding.key, finding.read), ()) if finding.kind != OVERLAP else ()
 
 
+def digits(text):
+    """A number, or a text with one, which may be parted anywhere: it can have twenty digits."""
+    return element("span", text_of(text), class_="digits")
+
+
 def operations_cell(lane):
     """The operations on the key in order; the wrong one is marked by a sign and a word, not by its colour alone."""
-    texts = [element("strong", text_of(f"✗ {chip.text} (wrong)")) if chip.is_wrong
-             else text_of(f"({chip.text})" if chip.is_left_out else chip.text) for chip in lane.chips]
+    texts = [element("strong", digits(f"✗ {chip.text} (wrong)")) if chip.is_wrong
+             else digits(f"({chip.text})" if chip.is_left_out else chip.text) for chip in lane.chips]
     return "<br/>".join(texts) or "none on this key"
 
 
@@ -99,7 +104,7 @@ def transactions_table(story, finding, picture):
         else:
             record = records[place - len(picture.lanes) + len(records)]
             outcome, places = became(story, record), record.places()
-        rows.append([text_of(lane.id), text_of(lane.role), text_of(lane.start), "none" if lane.end is None else text_of(lane.end),
+        rows.append([digits(lane.id), text_of(lane.role), digits(lane.start), "none" if lane.end is None else digits(lane.end),
                      text_of(outcome), "<br/>".join(element("span", text_of(story.place(one)), class_="short") for one in places), operations_cell(lane)])
     heads = ["Transaction", "Part", "Start", "Commit", "Became", "Logged at", "Operations on the key"]
     return table("Transactions, with their operations on the key in order", heads, rows, class_="wide")

@@ -68,12 +68,10 @@ class KeyHistory:
 def kind_by_source(history, reader, value):
     """The kind and the detail of a read by where its value comes from and by the version after that one; None without a
     finding. The cases come in the order of the format."""
-    if value is None and history.set_up:
-        return UNKNOWN, None
     version = INITIAL
     if value != history.initial:
         writer = history.writers.get(value)
-        if writer is None:
+        if writer is None:  # so also where a set-up key was found without a value, which nobody writes
             return UNKNOWN, None
         if writer.status in (IN_DOUBT, ABORTED):
             return (DOUBT if writer.status == IN_DOUBT else ABORTED_READ), writer.id

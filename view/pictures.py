@@ -125,15 +125,15 @@ def roles_of(finding, keys, history):
     if finding.kind != OWN:
         writer = keys.writers.get(finding.read)
         if writer:
-            roles.setdefault(writer.id, []).append("wrote what was read")
+            roles.setdefault(writer.id, []).append("what was read")
         if finding.kind == STALE:
-            roles.setdefault(finding.detail, []).append("wrote what was missed")
+            roles.setdefault(finding.detail, []).append("what was missed")
         version = keys.place_in_force(reader.start)
         if version != INITIAL:
-            roles.setdefault(keys.versions[version].id, []).append("wrote what should have been seen")
+            roles.setdefault(keys.versions[version].id, []).append("what should have been seen")
     roles.pop(reader.id, None)
     others = sorted((history.records[number] for number in roles), key=lambda one: (one.start, one.id))
-    return [(one, ", and ".join(roles[one.id])) for one in others] + [(reader, "the reader")]
+    return [(one, "wrote " + " and ".join(roles[one.id])) for one in others] + [(reader, "the reader")]
 
 
 def ghost_lanes(finding, ghosts):

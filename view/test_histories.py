@@ -58,6 +58,7 @@ class Present(PageTest):
                 ([one + one], [], "can't all be accepted"),
                 ([lines({"do": "withdraw", "id": 1}) + one], [], "can't all be accepted"),
                 ([one + lines({"do": "resolve", "id": 1, "status": "aborted"})], [], "can't all be accepted"),
+                ([lines(unfinished(1, 2, "indoubt"), *[{"do": "resolve", "id": 1, "status": "aborted"}] * 2)], [], "can't all be accepted"),
                 ([one], [Refusal(Place(0, 1), 13, "no-such")], "refuses it with code 13"),
                 ([one], [Refusal(Place(0, 1), 2, "not-json")], "refuses it with code 2"),
                 ([one], [Refusal(Place(0, 2), 2, "not-json")], "no such line"),

@@ -7,8 +7,9 @@ import time
 import unittest
 from pathlib import Path
 
-from choosing import address
 from answers import Finding
+from choosing import address
+from markup import element, text_of
 from page_reader import PageTest, committed, lines, texts_of, unfinished
 
 TOP = Path(__file__).parent.parent
@@ -131,8 +132,22 @@ class Pictures(PageTest):
         one, two, three, four, seven, eight = stamps
         self.assertEqual(found("start", "cx"), [one, three, seven])
         self.assertEqual([end + 4 for end in found("commit")], [two, four, eight])
+        ends = [begin + wide for begin, wide in zip(found("bar"), found("bar", "width"))]
+        for end, stamp in zip(ends, (two, four, eight), strict=True):
+            self.assertAlmostEqual(end, stamp, delta=0.2)
         self.assertEqual(found("snapshot", "x1"), [seven])
         self.assertEqual(found("version")[1:], [two, four])
+
+    def test_overlap_in_time(self):
+        """1 runs from 1 to 5 and 2 from 2 to 6: both are under way from 2 to 5."""
+        page = self.good_page(sample("samples/lost_update.jsonl"), sample("samples/lost_update.out"))
+        picture = page.picture_of("overlap-x-1-2")
+        stamps = dict(zip(texts_of(picture, "stamp"), [float(part.get("x")) for part in picture.iter() if part.get("class") == "stamp"]))
+        both, = [part for part in picture.iter() if part.get("class") == "both"]
+        self.assertEqual(list(stamps), ["1", "2", "5", "6"])
+        self.assertEqual(float(both.get("x")), stamps["2"])
+        self.assertAlmostEqual(float(both.get("x")) + float(both.get("width")), stamps["5"], delta=0.2)
+        self.check_says(page, "stamp 6: 1 overlap")
 
     def test_table_tells_what_became(self):
         page = self.good_page(sample("samples/stale_read.jsonl"), sample("samples/stale_read.explained.out"))
@@ -197,6 +212,11 @@ class Log(PageTest):
                                     committed(2, 8, 8, ["r", "x", None])),
                               'stale key="x" txn=2 op=0 read=initial missed=1\n' + SUMMARY.format(2, 1, 0, "violation"))
         self.assertIn("committed. Another record of it, line 1, is withdrawn by line 2", page.tags().texts["td"])
+
+    def test_lines_stand_once(self):
+        page = self.good_page(lines(committed(1, 2, 3, ["w", "x", 64]), {"do": "withdraw", "id": 1}, committed(1, 4, 4, ["r", "x", 64])),
+                              'unknown key="x" txn=1 op=0 read=64\n' + SUMMARY.format(1, 1, 0, "open"))
+        self.assertIn("Lines of the log: 1, 2, 3", page.tags().texts["summary"])
 
     def test_several_files_and_what_their_order_decides(self):
         logs = [lines(committed(1, 2, 3, ["w", "x", 1])), lines(committed(1, 4, 5, ["w", "x", 2])),
@@ -264,10 +284,14 @@ class Hostile(PageTest):
         for key, name in (("x", "stale-x-2-0"), ("run/0", "stale-run/0-2-0"), ("a b~é", "stale-a~20b~7E~C3~A9-2-0"), ('"', "stale-~22-2-0")):
             self.assertEqual(address(Finding(7, key, 2, 0, None, 1)), name)
 
+    def test_attributes_are_escaped(self):
+        self.assertEqual(element("a", text_of('<"'), title='"><\''), '<a title="&quot;&gt;&lt;&#x27;">&lt;&quot;</a>')
+
     def test_refused_lines_are_shown_as_data(self):
         page = self.good_page(b'<b>\xff\xe2\x80\xae\n[]', "refused source=0 line=1 code=2 reason=not-json\n"
                               "refused source=0 line=2 code=3 reason=not-object\n" + SUMMARY.format(0, 0, 2, "clean"))
         self.assertIn(r"<b>\xff\u202e", page.tags().texts["td"])
+        self.assertIn("not-json", page.tags().texts["code"])
         self.check_says(page, "2 lines refused")
 
 
