@@ -104,8 +104,10 @@ def transactions_table(story, finding, picture):
         else:
             record = records[place - len(picture.lanes) + len(records)]
             outcome, places = became(story, record), record.places()
-        rows.append([digits(lane.id), text_of(lane.role), digits(lane.start), "none" if lane.end is None else digits(lane.end),
-                     text_of(outcome), "<br/>".join(element("span", text_of(story.place(one)), class_="short") for one in places), operations_cell(lane)])
+        logged = "<br/>".join(element("span", text_of(story.place(one)), class_="short") for one in places)
+        commit = "none" if lane.end is None else digits(lane.end)
+        rows.append([digits(lane.id), text_of(lane.role), digits(lane.start), commit, text_of(outcome), logged,
+                     operations_cell(lane)])
     heads = ["Transaction", "Part", "Start", "Commit", "Became", "Logged at", "Operations on the key"]
     return table("Transactions, with their operations on the key in order", heads, rows, class_="wide")
 

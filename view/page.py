@@ -103,7 +103,8 @@ def bounded(title, heads, rows):
     rest = len(rows) - MOST_ROWS
     more = element("p", text_of(f"{rest:,} more are left out.")) if rest > 0 else ""
     shown = [row() for row in rows[:MOST_ROWS]]
-    return element("details", element("summary", text_of(f"{title}: {len(rows):,}")), table(title, heads, shown, class_="wide" if len(heads) > 3 else None), more)
+    told = table(title, heads, shown, class_="wide" if len(heads) > 3 else None)
+    return element("details", element("summary", text_of(f"{title}: {len(rows):,}")), told, more)
 
 
 def log_part(story):

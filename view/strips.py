@@ -3,7 +3,7 @@ from bisect import bisect_left
 from typing import NamedTuple
 
 from answers import KINDS, OVERLAP
-from drawing import line, number, picture_frame, box, width_of, words
+from drawing import box, line, picture_frame, width_of, words
 from markup import element
 
 MOST_COLUMNS = 80

@@ -142,7 +142,8 @@ class Pictures(PageTest):
         """1 runs from 1 to 5 and 2 from 2 to 6: both are under way from 2 to 5."""
         page = self.good_page(sample("samples/lost_update.jsonl"), sample("samples/lost_update.out"))
         picture = page.picture_of("overlap-x-1-2")
-        stamps = dict(zip(texts_of(picture, "stamp"), [float(part.get("x")) for part in picture.iter() if part.get("class") == "stamp"]))
+        places = [float(part.get("x")) for part in picture.iter() if part.get("class") == "stamp"]
+        stamps = dict(zip(texts_of(picture, "stamp"), places))
         both, = [part for part in picture.iter() if part.get("class") == "both"]
         self.assertEqual(list(stamps), ["1", "2", "5", "6"])
         self.assertEqual(float(both.get("x")), stamps["2"])
@@ -190,7 +191,8 @@ class Log(PageTest):
     """What the log holds besides what is present."""
 
     def test_withdrawn_writer_of_an_unknown_value(self):
-        page = self.good_page(lines(committed(1, 2, 3, ["w", "x", 64]), committed(2, 4, 4, ["r", "x", 64]), {"do": "withdraw", "id": 1}),
+        page = self.good_page(lines(committed(1, 2, 3, ["w", "x", 64]), committed(2, 4, 4, ["r", "x", 64]),
+                                    {"do": "withdraw", "id": 1}),
                               'unknown key="x" txn=2 op=0 read=64\n' + SUMMARY.format(1, 1, 0, "open"))
         self.assertEqual(texts_of(page.picture_of("unknown-x-2-0"), "name"), ["transaction 1 (withdrawn)", "transaction 2"])
         cells = page.tags().texts["td"]
@@ -199,7 +201,8 @@ class Log(PageTest):
         self.assertEqual(texts_of(page.picture_of("unknown-x-2-0"), "value"), ["nothing"])
 
     def test_refused_writer_of_an_unknown_value(self):
-        page = self.good_page(lines(committed(1, 2, 3, ["w", "y", 1]), committed(3, 2, 3, ["w", "x", 64]), committed(2, 4, 4, ["r", "x", 64])),
+        page = self.good_page(lines(committed(1, 2, 3, ["w", "y", 1]), committed(3, 2, 3, ["w", "x", 64]),
+                                    committed(2, 4, 4, ["r", "x", 64])),
                               "refused source=0 line=2 code=16 reason=stamp-taken stamp=3 holder=1\n"
                               'unknown key="x" txn=2 op=0 read=64\n' + SUMMARY.format(2, 1, 1, "open"))
         self.assertEqual(texts_of(page.picture_of("unknown-x-2-0"), "name"),
@@ -214,7 +217,8 @@ class Log(PageTest):
         self.assertIn("committed. Another record of it, line 1, is withdrawn by line 2", page.tags().texts["td"])
 
     def test_lines_stand_once(self):
-        page = self.good_page(lines(committed(1, 2, 3, ["w", "x", 64]), {"do": "withdraw", "id": 1}, committed(1, 4, 4, ["r", "x", 64])),
+        page = self.good_page(lines(committed(1, 2, 3, ["w", "x", 64]), {"do": "withdraw", "id": 1},
+                                    committed(1, 4, 4, ["r", "x", 64])),
                               'unknown key="x" txn=1 op=0 read=64\n' + SUMMARY.format(1, 1, 0, "open"))
         self.assertIn("Lines of the log: 1, 2, 3", page.tags().texts["summary"])
 
@@ -255,8 +259,8 @@ class Log(PageTest):
 
 class Hostile(PageTest):
     """Keys and lines are data, whatever they have."""
-    KEYS = ["<script>alert(1)</script>", "\"'><img src=x onerror=alert(1)>", "\u202eevil\u202c", "שלום", "a\0\x1f\x7f", "\u2028", "k" * 128,
-            "a&amp;b", "</style>", "{key}", "~ %41", "a-1-2", "z" + "\u0301" * 20, "`$(x)`"]
+    KEYS = ["<script>alert(1)</script>", "\"'><img src=x onerror=alert(1)>", "\u202eevil\u202c", "שלום", "a\0\x1f\x7f",
+            "\u2028", "k" * 128, "a&amp;b", "</style>", "{key}", "~ %41", "a-1-2", "z" + "\u0301" * 20, "`$(x)`"]
 
     def test_hostile_keys(self):
         for plain in (True, False):
@@ -264,7 +268,8 @@ class Hostile(PageTest):
                 edits, answer = [], []
                 for place, key in enumerate(self.KEYS):
                     edits.append(json.dumps(committed(place, 4, 4, ["r", key, 2**64 - 1]), ensure_ascii=plain))
-                    answer.append((key.encode("utf-8"), f"unknown key={json.dumps(key, ensure_ascii=False)} txn={place} op=0 read={2**64 - 1}\n"))
+                    told = json.dumps(key, ensure_ascii=False)
+                    answer.append((key.encode("utf-8"), f"unknown key={told} txn={place} op=0 read={2**64 - 1}\n"))
                 text = "".join(line for _, line in sorted(answer))
                 page = self.good_page("\n".join(edits), text + SUMMARY.format(len(edits), len(edits), 0, "open"))
                 self.check_shown(page)
@@ -281,7 +286,8 @@ class Hostile(PageTest):
         self.assertIn(str(2**64 - 1), tags.articles["unknown-a-1-2-11-0"])
 
     def test_addresses(self):
-        for key, name in (("x", "stale-x-2-0"), ("run/0", "stale-run/0-2-0"), ("a b~é", "stale-a~20b~7E~C3~A9-2-0"), ('"', "stale-~22-2-0")):
+        for key, name in (("x", "stale-x-2-0"), ("run/0", "stale-run/0-2-0"), ("a b~é", "stale-a~20b~7E~C3~A9-2-0"),
+                          ('"', "stale-~22-2-0")):
             self.assertEqual(address(Finding(7, key, 2, 0, None, 1)), name)
 
     def test_attributes_are_escaped(self):
@@ -311,7 +317,8 @@ class Misfits(PageTest):
         self.check_misfit(sample("examples/etcd/clean.jsonl"), sample("examples/etcd/faulty.out"), "and the log doesn't show it")
         self.check_misfit(sample("examples/etcd/faulty.jsonl"), sample("examples/etcd/clean.out"),
                           'the log shows `overlap key="run/0" first=1013 second=3010`, and the answer doesn\'t tell it')
-        self.check_misfit(sample("samples/stale_read.jsonl") + sample("samples/write_skew.jsonl"), sample("samples/stale_read.out"), "can't all be")
+        self.check_misfit(sample("samples/stale_read.jsonl") + sample("samples/write_skew.jsonl"),
+                          sample("samples/stale_read.out"), "can't all be")
         self.check_misfit("[]\n", SUMMARY.format(0, 0, 0, "clean"), "line 1 of")
         self.check_misfit(lines(committed(1, 2, 3)), SUMMARY.format(2, 0, 0, "clean"), "counts 2 transactions, and the log has 1")
 

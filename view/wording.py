@@ -2,7 +2,7 @@
 import json
 import unicodedata
 
-from answers import (ABORTED_READ, DOUBT, FUTURE, INTERMEDIATE, KINDS, LATER, OVERLAP, OWN, STALE, UNKNOWN)
+from answers import ABORTED_READ, DOUBT, FUTURE, INTERMEDIATE, LATER, OVERLAP, OWN, STALE, UNKNOWN
 from judgement import INITIAL
 
 MEANINGS = {
