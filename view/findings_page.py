@@ -18,6 +18,7 @@ from choosing import choose, groups_of
 from fitting import fitted_keys
 from histories import Misfit, Source, TooManyOrders, history_of
 from page import findings_page, misfit_page
+from wording import with_escapes
 
 MOST_SOURCES = 8
 EACH, MOST = 100, 300
@@ -67,7 +68,7 @@ def page_of(chosen):
             history = history_of(sources, answer.refusals)
             keys = fitted_keys(history, answer)
         except Misfit as misfit:
-            sys.stderr.write(f"findings_page: answer and log don't belong together: {misfit}\n")
+            complain(f"answer and log don't belong together: {misfit}")
             return misfit_page(str(misfit), chosen.logs), 1
         groups = groups_of(answer)
         choose([group for group in groups if is_asked(group, chosen)], chosen.each, chosen.most)
@@ -94,8 +95,13 @@ def main():
     sys.exit(status)
 
 
+def complain(words):
+    """Says it on standard error, where a key of the log may not change how a terminal shows it either."""
+    sys.stderr.write(f"findings_page: {with_escapes(words)}\n")
+
+
 def fail(words):
-    sys.stderr.write(f"findings_page: {words}\n")
+    complain(words)
     return 2
 
 

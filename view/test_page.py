@@ -328,6 +328,11 @@ class Misfits(PageTest):
                        'stale key="x" txn=9 op=0 read=1 missed=2\n', 'stale key="x" txn=3 op=0 read=2 missed=2\n'):
             self.check_misfit(sample("samples/stale_read.jsonl"), answer + SUMMARY.format(3, 1, 0, "violation"), "doesn't show it")
 
+    def test_complaint_has_no_unseen_letters(self):
+        result = self.page("", 'unknown key="\u202ex" txn=1 op=0 read=1\n' + SUMMARY.format(0, 1, 0, "open"))
+        self.assertEqual(result.status, 1)
+        self.assertIn(r'unknown key="\u202ex" txn=1', result.complaint)
+
     def check_failure(self, words, *arguments):
         result = self.run_script(*arguments)
         self.assertEqual((result.status, result.page), (2, ""))
