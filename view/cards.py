@@ -153,7 +153,7 @@ def evidence_part(story, finding):
     told = edges(finding)
     words = "; ".join(edge_words(edge) for edge in told) + "."
     line = finding.evidence().strip()
-    return draw_edges(told, f"Evidence: {words}") + element(
+    return scrolled(draw_edges(told, f"Evidence: {words}"), "Evidence as edges") + element(
         "p", element("code", text_of(line)), text_of(f": {words}"), class_="evidence-text")
 
 

@@ -2,7 +2,7 @@
 from pathlib import Path
 
 from answers import KINDS
-from cards import card, ghost_became, heading, key_code
+from cards import card, digits, ghost_became, heading, key_code
 from choosing import address
 from drawing import SHARED
 from log_lines import ABORTED, COMMITTED, IN_DOUBT
@@ -159,8 +159,8 @@ def drawn_of(story):
 def list_part(story):
     """The drawn findings as a list with links."""
     drawn = drawn_of(story)
-    rows = [[link(finding, text_of(KINDS[finding.kind])), key_code(finding.key), text_of(heading(finding)),
-             text_of(stamp_of(finding, story.history))] for _, finding in drawn]
+    rows = [[link(finding, text_of(KINDS[finding.kind])), key_code(finding.key), digits(heading(finding)),
+             digits(stamp_of(finding, story.history))] for _, finding in drawn]
     return element("details", element("summary", text_of(f"The drawn findings as a list: {len(drawn):,}")),
                    table("Drawn findings", ["Kind", "Key", "Of", "At commit stamp"], rows),
                    open="" if len(drawn) <= MOST_OPEN else None)
