@@ -207,7 +207,7 @@ stopped terms lefts failed olds news taken old new writer_failed fault t f = tex
     by None e = tt
     by (Some all) e = ⊎_elim
         (λ (cut : IsCutOff terms taken old new writer_failed fault).
-            let m = lines_and_more lefts failed olds news taken all t e in (lines_among taken ++ m.0, m.1, cut_begun terms taken old new writer_failed fault cut m.0))
+        let m = lines_and_more lefts failed olds news taken all t e in (lines_among taken ++ m.0, m.1, cut_begun terms taken old new writer_failed fault cut m.0))
         (λ w. (lines_among taken, all_lines lefts failed olds news taken all t e w.faultless, w.part))
         f
 
