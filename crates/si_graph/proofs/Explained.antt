@@ -168,7 +168,7 @@ module _ (laws : ModelLaws) (P : Present) (h : IsHistory P) (x : List ℕ) where
   read_explained : (k : Kind) → IsOfRead cases (on_key x P) k → IsExplained P k
   read_explained k r =
       let same = sight_is (on_key x P) r.part r.place r.value r.sight r.seen in
-      by_own r.part r.place r.value r.returned r.sight.source r.sight.next k r.seen.from r.seen.next (subst (λ s. kind_of s ≡ Some k) same r.judged)
+      by_own r.part r.place r.value r.returned r.sight.source r.sight.missed k r.seen.from r.seen.missed (subst (λ s. kind_of s ≡ Some k) same r.judged)
 
   pair_explained : (k : Kind) → IsOfPair cases (on_key x P) k → IsExplained P k
   pair_explained k r = subst (IsExplained P) (sym r.is) (λ e g. subst (Shows P) (same_some g) (overlap_shown r.first r.second r.installs r.next r.judged))

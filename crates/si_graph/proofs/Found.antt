@@ -54,7 +54,7 @@ module _ (laws : ModelLaws) (P : Present) (h : IsHistory P) (form : IsWellFormed
     value = v;
     sight = sight_with T i v s n;
     returned = read;
-    seen = record { txn = refl; op = refl; start = refl; read = refl; own = refl; later = refl; from = from; next = missed };
+    seen = record { txn = refl; op = refl; start = refl; read = refl; own = refl; later = refl; from = from; missed = missed };
     judged = ap₂ (judged_by_own (sight_with T i v s n)) plain.0 plain.1 ∙ is;
   }))
 
@@ -135,7 +135,7 @@ module _ (laws : ModelLaws) (P : Present) (h : IsHistory P) (form : IsWellFormed
       let t = sight_of Q T i v in
       let is = (laws.sights Q T i v t (of_history x) read.part).1 refl in
       let same : t.source ≡ s = (laws.sources Q v t.source (of_history x)).0 is.from ∙ sym ((laws.sources Q v s (of_history x)).0 from) in
-      (t.next, subst (λ r. IsMissedOf Q T.start (version_of r) t.next) same is.next)
+      (t.missed, subst (λ r. IsMissedOf Q T.start (version_of r) t.missed) same is.missed)
 
   -- a wr edge is a start edge, or a read of the future
   read_edge : (a b : TxnId) → a ≢ b → IsReadDependency P a b → IsStartDependency P a b ⊎ FindsInterference P

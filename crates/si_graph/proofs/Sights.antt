@@ -24,10 +24,10 @@ use Rattle.si_graph.proofs.OnKeys.{part_from, op_at}
 
 -- what is seen at T's read of v at the place i, where that is the source and that was missed
 abbrev pub sight_with : Part → ℕ → Option Value → Source → Option Installer → Sight
-sight_with T i v s n = record { txn = T.id; op = i; start = T.start; read = v; own = own_value T i; later = writes_later T i v; source = s; next = n }
+sight_with T i v s n = record { txn = T.id; op = i; start = T.start; read = v; own = own_value T i; later = writes_later T i v; source = s; missed = n }
 
-pub sight_is : (Q : OnKey) (T : Part) (i : ℕ) (v : Option Value) (s : Sight) → IsSight Q T i v s → s ≡ sight_with T i v s.source s.next
-sight_is Q T i v s is = λ j. record { txn = is.txn j; op = is.op j; start = is.start j; read = is.read j; own = is.own j; later = is.later j; source = s.source; next = s.next }
+pub sight_is : (Q : OnKey) (T : Part) (i : ℕ) (v : Option Value) (s : Sight) → IsSight Q T i v s → s ≡ sight_with T i v s.source s.missed
+sight_is Q T i v s is = λ j. record { txn = is.txn j; op = is.op j; start = is.start j; read = is.read j; own = is.own j; later = is.later j; source = s.source; missed = s.missed }
 
 -- accesses with no last write have no write
 none_written : (o : Option Value) (ys : List Placed) → fold (λ last a. option_or (written a.access) last) o ys ≡ None → (o ≡ None) × ((a : Placed) → Contains ys a → written a.access ≡ None)

@@ -3,6 +3,7 @@ use Rattle.std.proofs.Common.{◌≡◌, ◌≢◌, ◌∙◌, inl, inr, ◌↔�
 use Rattle.std.specs.List.{Contains}
 use Rattle.std.specs.Ordering.{eq_by_cmp}
 use Rattle.si_lists.proofs.Members.{same_some}
+use Rattle.si_model.specs.declared.numbers.Stamp.{Stamp}
 use Rattle.si_model.specs.declared.numbers.TxnId.{TxnId}
 use Rattle.si_model.specs.declared.numbers.Value.{Value}
 use Rattle.si_model.specs.declared.parts.Part.{Part}
@@ -20,14 +21,14 @@ use Rattle.si_judge.specs.declared.judgements.ReadId.{ReadId}
 use Rattle.si_judge.specs.declared.indexes.Indexes.{Indexes}
 use Rattle.si_judge.specs.Indexes.{AreIndexes, AreReadsOf, Fits, IsTouchedBy, Joins, present_in, reader_of, reads_in, version_of}
 use Rattle.si_judge.specs.Mending.{ArePairKinds, AreReadKinds, Found, IsJudgedWith, IsJudgedWithout, IsReadKind, IsVersionForgotten, IsVersionJudged, id_of, installer, read_cmp, risen}
-use Rattle.si_judge.specs.Touched.{IsBoundedBy, IsTouched}
+use Rattle.si_judge.specs.Touched.{IsBoundedBy, IsTouched, RestsOn}
 use Rattle.si_judge.proofs.Coverage.{bounded, bounded_by_both, own_once, readers_once}
 use Rattle.si_judge.proofs.Gathered.{touched_are}
 use Rattle.si_judge.proofs.IndexEdits.{no_value}
 use Rattle.si_judge.proofs.Mended.{IsReader, NotAmong, differ, is_read, reader_id, reader_read, right_after, same_kind}
 use Rattle.si_judge.proofs.Orders.{read_decides}
 use Rattle.si_judge.proofs.Pairs.{pairs_after_coming, pairs_after_going, pairs_apart}
-use Rattle.si_judge.proofs.PartLists.{installs_version, version_installs}
+use Rattle.si_judge.proofs.PartLists.{installs_version, read_from, version_installs}
 use Rattle.si_judge.proofs.Touching.{IsSide, touches}
 use Rattle.si_judge.proofs.Updates.{key_or_not, others_stay, value_stands}
 
@@ -39,6 +40,9 @@ pub record IsRight (J : Rules) (Q : OnKey) (m : Found) : Type 0 where
 -- the judgements since were within the bound
 abbrev pub WithinBound : OnKey → OnKey → TxnId → Found → Found → Type 0
 WithinBound Q R u old new = (n : ℕ) × IsBoundedBy (IsTouched Q R u) n × (new.answers ≡ risen old.answers n)
+
+started : (X : Part) (p : Reader × Option Value) → Contains (reads_in X) p → p.0.start ≡ X.start
+started X p c = sym (ap (λ q. q.0.start) (read_from X p c).is)
 
 reader_in : (ix : Indexes) (is : AreIndexes ix) (P : Reader → Type 0) (xs : List (Reader × Option Value)) → AreReadsOf ix P xs → (p : Reader × Option Value) → Contains xs p → IsReader ix p
 reader_in ix is P xs are p c = (is.readers p.0 p.1).0 (are.only p c).0
@@ -113,7 +117,7 @@ module _ (J : Rules) (ix new_ix : Indexes) (is : AreIndexes ix) (is_new : AreInd
           value = p.0.value;
           read = is_read (present_in new_ix) x.0 p x.1 x.2;
           of = reader_id x.0 p x.2;
-          touched = inr (inr (touches ix is T joins.absent (present_in new_ix) after there p.0 (gathered.only p c).1));
+          touched = inr (inr (subst (λ s. RestsOn (present_in new_ix) T.id s p.0.value) (started x.0 p x.2) (touches ix is T joins.absent (present_in new_ix) after there p.0 (gathered.only p c).1)));
         }))
         (λ p c. record { part = T; value = p.0.value; read = is_read (present_in new_ix) T p there c; of = reader_id T p c; touched = inl (sym (reader_id T p c)) })
         judged.counted.0 judged.counted.1,
@@ -187,7 +191,7 @@ module _ (J : Rules) (ix : Indexes) (is : AreIndexes ix) (T : Part) (Q : OnKey) 
           value = p.0.value;
           read = is_read (present_in ix) x.0 p x.1 x.2;
           of = reader_id x.0 p x.2;
-          touched = inr (inl (touches ix is T joins.absent Q was had p.0 (collected.only p c).1));
+          touched = inr (inl (subst (λ s. RestsOn Q T.id s p.0.value) (started x.0 p x.2) (touches ix is T joins.absent Q was had p.0 (collected.only p c).1)));
         }))
         judged.counted.0 judged.counted.1,
     judged.counted.2,

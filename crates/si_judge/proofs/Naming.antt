@@ -37,8 +37,8 @@ by_source s source.Missing = given s (kind.Unknown s.txn s.op s.read) (refl, ref
 by_source s (source.InDoubt u) = given s (kind.Doubt s.txn s.op s.read u) (refl, refl)
 by_source s (source.Aborted u) = given s (kind.Aborted s.txn s.op s.read u) (refl, refl)
 by_source s (source.Earlier u) = given s (kind.Intermediate s.txn s.op s.read u) (refl, refl)
-by_source s (source.Installed u c) = either s (nat_lt s.start.0 c.0) _ _ (given s (kind.Future s.txn s.op s.read u) (refl, refl)) (by_next s s.next)
-by_source s source.Initial = by_next s s.next
+by_source s (source.Installed u c) = either s (nat_lt s.start.0 c.0) _ _ (given s (kind.Future s.txn s.op s.read u) (refl, refl)) (by_next s s.missed)
+by_source s source.Initial = by_next s s.missed
 
 by_own : (s : Sight) (own : Option Value) (later : Bool) → Said s (judged_by_own s own later)
 by_own s (Some w) later = either s (option_eq same_value s.read (Some w)) _ _ (nothing s) (given s (kind.Own s.txn s.op s.read (Some w)) (refl, refl))

@@ -132,7 +132,7 @@ module _ (ix : Indexes) (is : AreIndexes ix) where
     own = own_value T i;
     later = later_is T there i v k;
     source = source_is v k;
-    next = missed_of (present_in ix).parts T.start (version_of (source_is v k));
+    missed = missed_of (present_in ix).parts T.start (version_of (source_is v k));
   }
 
   pub seen_is : (T : Part) (p : Reader × Option Value) → Contains (present_in ix).parts T → Contains (reads_in T) p

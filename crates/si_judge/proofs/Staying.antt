@@ -91,7 +91,7 @@ reads_stay Q R u T i v s old history differ read other before after seen = (
     own = seen.own;
     later = seen.later;
     from = from;
-    next = next (version_of s.source) refl s.next seen.next;
+    missed = next (version_of s.source) refl s.missed seen.missed;
   },
 )
   where
@@ -152,7 +152,7 @@ module _ (before after : Option Value) (P : List Part) (v : Option Value) (not_b
       own = seen.own;
       later = seen.later;
       from = source_again s.source seen.from;
-      next = missed_again T.start (version_of s.source) s.next seen.next;
+      missed = missed_again T.start (version_of s.source) s.missed seen.missed;
     },
   )
 

@@ -23,7 +23,7 @@ use Rattle.si_judge.specs.declared.reads.Reader.{Reader}
 use Rattle.si_judge.specs.declared.indexes.Indexes.{Indexes}
 use Rattle.si_judge.specs.Indexes.{AreIndexes, IsTouchedBy, IsValueBefore, present_in, returned_by, version_of}
 use Rattle.si_judge.specs.Mending.{installer}
-use Rattle.si_judge.specs.Touched.{InstallsNext, IsTouchedIn, RestsOn}
+use Rattle.si_judge.specs.Touched.{InstallsMissed, RestsOn}
 use Rattle.si_judge.proofs.Neighbours.{installed, standing}
 use Rattle.si_judge.proofs.PartLists.{installs_version, version_from, version_installs, version_to}
 
@@ -122,19 +122,20 @@ module _ (ix : Indexes) (is : AreIndexes ix) (T : Part) (absent : (X : Part) →
           omega (arith, n))
     ]
 
-    pub installs_next : (d : Dated) (v : Option Value) → version_of T ≡ Some d → IsValueBefore ix d.0 v → InstallsNext S T.id v
-    installs_next d v e before = by before.0 before.1 before.2
+    pub installs_missed : (d : Dated) (v : Option Value) (start : Stamp) → version_of T ≡ Some d → IsValueBefore ix d.0 v → d.0.0 < start.0 → InstallsMissed S T.id start v
+    installs_missed d v start e before late = by before.0 before.1 before.2
       where
         is_n : IsInstaller S (installer d)
         is_n = (T, there, version_installs T d e)
 
-        by : (o : Option Dated) → IsNearestBefore ix.timeline d.0 o → v ≡ returned_by ix.initial o → InstallsNext S T.id v
+        by : (o : Option Dated) → IsNearestBefore ix.timeline d.0 o → v ≡ returned_by ix.initial o → InstallsMissed S T.id start v
         by None near same = (
           version.Initial,
           installer d,
           (source.Initial, same ∙ side.initial, refl),
           record { installs = is_n; after = tt; first = first_after d e version.Initial (λ x c after. near x c) },
           (version_from T d e).writer,
+          late,
         )
         by (Some b) near same =
             let y = (is.timeline b).0 near.0 in
@@ -153,8 +154,9 @@ module _ (ix : Indexes) (is : AreIndexes ix) (T : Part) (absent : (X : Part) →
                 ]);
               },
               (version_from T d e).writer,
+              late,
             )
 
-    pub touches : (r : Reader) → IsTouchedBy ix T r → IsTouchedIn S T.id r.value
+    pub touches : (r : Reader) → IsTouchedBy ix T r → RestsOn S T.id r.start r.value
     touches r (inl w) = inl (w.0, T, w.2, there, refl, w.1)
-    touches r (inr i) = inr (subst (InstallsNext S T.id) (sym i.4.0) (installs_next i.0 i.1 i.2 i.3))
+    touches r (inr i) = inr (subst (InstallsMissed S T.id r.start) (sym i.4.0) (installs_missed i.0 i.1 r.start i.2 i.3 i.4.1))

@@ -61,5 +61,5 @@ sight_in ix p = record {
   own = p.1;
   later = is_later_write p.0 (write_in ix p.0.value);
   source = source_in ix p.0.value (write_in ix p.0.value);
-  next = missed_of (present_in ix).parts p.0.start (version_of (source_in ix p.0.value (write_in ix p.0.value)));
+  missed = missed_of (present_in ix).parts p.0.start (version_of (source_in ix p.0.value (write_in ix p.0.value)));
 }

@@ -80,7 +80,7 @@ pub record IsTouched (Q R : OnKey) (u : TxnId) (o : TxnId × ℕ) : Type 0 where
   pub value : Option Value
   pub read : IsRead R part o.1 value
   pub of : part.id ≡ o.0
-  pub touched : (o.0 ≡ u) ⊎ (IsTouchedIn Q u value ⊎ IsTouchedIn R u value)
+  pub touched : (o.0 ≡ u) ⊎ (RestsOn Q u part.start value ⊎ RestsOn R u part.start value)
 
 -- a read that setting the key up with w touches: one that returned null or w
 pub record IsTouchedBySetUp (R : OnKey) (w : Value) (o : TxnId × ℕ) : Type 0 where

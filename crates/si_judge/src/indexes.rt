@@ -151,7 +151,7 @@ impl Indexes {
             own,
             later: is_later_write(reader, write),
             source,
-            next: self.missed_at(reader.start, source),
+            missed: self.missed_at(reader.start, source),
         }
     }
 

@@ -48,14 +48,14 @@ module _ (Q : OnKey) (h : IsOfHistory Q) (w : IsWellFormedOn Q) where
         let same = one_writer Q h is.1 by.2.writer by.0 is.3.part by.2.part (subst (Writes is.1) value is.3.writes) by.2.writes in
         absurd (by.2.known (ap (λ U. U.status) (sym same) ∙ is.4)))
   ]
-  source_is_no_form T i v r none s source.Initial is k e = next_is_no_form s s.next k e
+  source_is_no_form T i v r none s source.Initial is k e = next_is_no_form s s.missed k e
   source_is_no_form T i v r none s (source.Aborted u) is k e = ap concerns_form (sym (same_some e))
   source_is_no_form T i v r none s (source.Earlier u) is k e = ap concerns_form (sym (same_some e))
   source_is_no_form T i v r none s (source.Installed u c) is k e = by (nat_lt s.start.0 c.0) e
     where
-      by : (b : Bool) → cond b (Some (kind.Future s.txn s.op s.read u)) (judged_by_next s s.next) ≡ Some k → concerns_form k ≡ false
+      by : (b : Bool) → cond b (Some (kind.Future s.txn s.op s.read u)) (judged_by_next s s.missed) ≡ Some k → concerns_form k ≡ false
       by true f = ap concerns_form (sym (same_some f))
-      by false f = next_is_no_form s s.next k f
+      by false f = next_is_no_form s s.missed k f
 
   read_is_no_form : (k : Kind) → IsOfRead cases Q k → concerns_form k ≡ false
   unfolding kind_of

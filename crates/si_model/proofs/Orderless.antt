@@ -62,7 +62,7 @@ module _ (Q R : OnKey) (initial : Q.initial ≡ R.initial) (to : (T : Part) → 
   same_missed start (Some a) None i = λ n is. i n (next_back a n is)
 
   same_sight : (T : Part) (i : ℕ) (v : Option Value) (s : Sight) → IsSight Q T i v s → IsSight R T i v s
-  same_sight T i v s is = record { txn = is.txn; op = is.op; start = is.start; read = is.read; own = is.own; later = is.later; from = same_source v s.source is.from; next = same_missed T.start (version_of s.source) s.next is.next }
+  same_sight T i v s is = record { txn = is.txn; op = is.op; start = is.start; read = is.read; own = is.own; later = is.later; from = same_source v s.source is.from; missed = same_missed T.start (version_of s.source) s.missed is.missed }
 
   same_read : (T : Part) (i : ℕ) (v : Option Value) → IsRead Q T i v → IsRead R T i v
   same_read T i v r = record { part = to T r.part; committed = r.committed; returned = r.returned }

@@ -147,14 +147,14 @@ module _ (Q : OnKey) (h : IsOfHistory Q) where
 
   pub sight_is : (T : Part) (i : ℕ) (v : Option Value) → IsSight Q T i v (sight_of Q T i v)
   unfolding sight_of missed_at
-  sight_is T i v = record { txn = refl; op = refl; start = refl; read = refl; own = refl; later = refl; from = source_is v; next = missed_of_is T.start (version_of (source_of Q v)) }
+  sight_is T i v = record { txn = refl; op = refl; start = refl; read = refl; own = refl; later = refl; from = source_is v; missed = missed_of_is T.start (version_of (source_of Q v)) }
 
   pub same_sight : (T : Part) (i : ℕ) (v : Option Value) (s : Sight) → IsSight Q T i v s → s ≡ sight_of Q T i v
   unfolding sight_of missed_at
   same_sight T i v s is =
       let from = same_source v s.source is.from in
-      let next = same_missed T.start (version_of s.source) s.next is.next ∙ ap (λ r. missed_of Q.parts T.start (version_of r)) from in
-      λ j. record { txn = is.txn j; op = is.op j; start = is.start j; read = is.read j; own = is.own j; later = is.later j; source = from j; next = next j }
+      let missed = same_missed T.start (version_of s.source) s.missed is.missed ∙ ap (λ r. missed_of Q.parts T.start (version_of r)) from in
+      λ j. record { txn = is.txn j; op = is.op j; start = is.start j; read = is.read j; own = is.own j; later = is.later j; source = from j; missed = missed j }
 
   pub sight_exact : (T : Part) (i : ℕ) (v : Option Value) (s : Sight) → IsSight Q T i v s ↔ (s ≡ sight_of Q T i v)
   sight_exact T i v s = (same_sight T i v s, λ e. subst (IsSight Q T i v) (sym e) (sight_is T i v))

@@ -108,7 +108,7 @@ pub record IsSight (Q : OnKey) (T : Part) (i : ℕ) (v : Option Value) (s : Sigh
   pub own : s.own ≡ own_value T i
   pub later : s.later ≡ writes_later T i v
   pub from : IsSource Q v s.source
-  pub next : IsMissedOf Q T.start (version_of s.source) s.next
+  pub missed : IsMissedOf Q T.start (version_of s.source) s.missed
 
 -- ---- the same as functions
 
@@ -156,7 +156,7 @@ sight_of Q T i v = record {
   own = own_value T i;
   later = writes_later T i v;
   source = source_of Q v;
-  next = missed_at Q.parts T.start (source_of Q v);
+  missed = missed_at Q.parts T.start (source_of Q v);
 }
 
 -- ---- the kind of a read, by cases in their order
@@ -173,8 +173,8 @@ judged_by_source s source.Missing = Some (kind.Unknown s.txn s.op s.read)
 judged_by_source s (source.InDoubt u) = Some (kind.Doubt s.txn s.op s.read u)
 judged_by_source s (source.Aborted u) = Some (kind.Aborted s.txn s.op s.read u)
 judged_by_source s (source.Earlier u) = Some (kind.Intermediate s.txn s.op s.read u)
-judged_by_source s (source.Installed u c) = if nat_lt s.start.0 c.0 then Some (kind.Future s.txn s.op s.read u) else judged_by_next s s.next
-judged_by_source s source.Initial = judged_by_next s s.next
+judged_by_source s (source.Installed u c) = if nat_lt s.start.0 c.0 then Some (kind.Future s.txn s.op s.read u) else judged_by_next s s.missed
+judged_by_source s source.Initial = judged_by_next s s.missed
 
 -- the reader's own value is returned where there is one, and else no value that the reader itself writes later: the thesis's
 -- conditions that a transaction reads its own writes, and that no read precedes the write of its value

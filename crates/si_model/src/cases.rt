@@ -64,9 +64,9 @@ fn by_source(sight: &Sight) -> Option<Kind>
 }
 
 fn by_next(sight: &Sight) -> Option<Kind>
-    ensures { result ≡ judged_by_next sight.now sight.now.next }
+    ensures { result ≡ judged_by_next sight.now sight.now.missed }
 {
-    let missed = sight.next?.txn;
+    let missed = sight.missed?.txn;
     Some(Kind::Stale {
         txn: sight.txn,
         op: sight.op,

@@ -23,7 +23,7 @@ pub fn sight_of(on_key: &OnKey, part: &Part, op: usize, read: Option<Value>) -> 
         own: own_value(part, op),
         later: writes_later(part, op, read),
         source,
-        next: missed_at(on_key.parts.as_slice(), part.start, source),
+        missed: missed_at(on_key.parts.as_slice(), part.start, source),
     }
 }
 

@@ -51,5 +51,5 @@ pub struct Sight {
     pub later: bool,
     pub source: Source,
     /// The version that was missed: installed next after the one read, and before the reader's start.
-    pub next: Option<Installer>,
+    pub missed: Option<Installer>,
 }

@@ -13,7 +13,7 @@ fn seen(source: Source) -> Sight {
         own: None,
         later: false,
         source,
-        next: None,
+        missed: None,
     }
 }
 
