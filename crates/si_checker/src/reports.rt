@@ -1,4 +1,6 @@
 //! What is reported, and why it isn't.
+ghost use Rattle.std.specs.Prelude.{◌≡◌};
+ghost use Rattle.si_checker.specs.Calls.{report_fault_code};
 
 use si_model::{Finding, Key, Txn, Value};
 use std::alloc::AllocError;
@@ -46,6 +48,18 @@ pub enum ReportFault {
     /// The growth of some memory was refused.
     #[error("out of memory")]
     OutOfMemory,
+}
+
+impl ReportFault {
+    /// The number of the fault, where it has one.
+    pub fn code(&self) -> Option<u64>
+        ensures { result ≡ report_fault_code self.now }
+    {
+        match self {
+            ReportFault::Spoiled(_) => Some(41),
+            ReportFault::OutOfMemory => None,
+        }
+    }
 }
 
 impl From<AllocError> for ReportFault {

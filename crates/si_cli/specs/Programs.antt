@@ -6,6 +6,8 @@ use Rattle.clap.specs.declared.error.kind.ErrorKind.TheVariants.{DisplayHelp, Di
 use Rattle.clap.specs.Words.{HasKind, Text, fault_of, kind_of}
 use Rattle.si_model.specs.declared.edits.TheConstants.{MOST_EDITS}
 use Rattle.si_cli.specs.declared.settings.TheConstants.{MOST_FILES}
+use Rattle.si_cli.specs.declared.settings.SettingsFault.{SettingsFault}
+use Rattle.si_cli.specs.declared.settings.SettingsFault.TheVariants as unsettled
 use Rattle.si_run.specs.declared.statuses.ExitStatus.{ExitStatus}
 use Rattle.si_run.specs.declared.faults.RunFault.{RunFault}
 use Rattle.si_run.specs.declared.faults.RunFault.TheVariants as fault
@@ -34,6 +36,9 @@ output_line = codes "sicheck: cannot write\n"
 
 abbrev pub files_line : List ℕ
 files_line = codes "sicheck: too many files\n"
+
+abbrev pub key_line : List ℕ
+key_line = codes "sicheck: no random bytes for the hash maps\n"
 
 -- something can't be done with the source of that number
 abbrev pub source_line : List ℕ → ℕ → List ℕ
@@ -88,6 +93,11 @@ EndsLine error out err result =
     ⊎ ((out.failed ≡ true) × AppendsBeginning out.before out.after text × Fails err output_line result)))
     ⊎ (IsUntouched out × (Fails err memory_line result ⊎ (IsFaultOfWords error × (text : List ℕ) × Fails err text result)))
 
+-- why the words ask for no check is told
+abbrev pub EndsUnsettled : SettingsFault → Device → Device → ℕ → Type 0
+EndsUnsettled (unsettled.Line error) out err result = EndsLine error out err result
+EndsUnsettled unsettled.TooManyFiles out err result = IsUntouched out × Fails err files_line result
+
 -- what the words say of the text
 abbrev pub terms_given : List Text → Terms
 terms_given words = record { limit = MOST_EDITS; every = every_given (rows_given words); explain = explain_given (rows_given words) }
@@ -106,3 +116,12 @@ EndsProgram words Input Files out err result =
     × (((MOST_FILES < length (files_given (rows_given words))) × IsUntouched out × Fails err files_line result)
     ⊎ ((length (files_given (rows_given words)) ≤ MOST_FILES)
     × EndsNamed (files_given (rows_given words)) (Input (terms_given words)) (Files (terms_given words)))))
+
+-- with no secret key: clap tells something of the words, or want of memory; or it has no fault to tell, and they name too many files, or ask for a check,
+-- which couldn't be made
+abbrev pub EndsWithoutKey : List Text → Device → Device → ℕ → Type 0
+EndsWithoutKey words out err result =
+    ((error : Error) × HasKind (fault_of sicheck_app words) error × EndsLine error out err result)
+    ⊎ ((fault_of sicheck_app words ≡ [])
+    × (((MOST_FILES < length (files_given (rows_given words))) × IsUntouched out × Fails err files_line result)
+    ⊎ ((length (files_given (rows_given words)) ≤ MOST_FILES) × IsUntouched out × Fails err key_line result)))

@@ -10,6 +10,6 @@ pub mod programs;
 pub mod settings;
 
 pub use files::{CannotOpen, NamedFiles, StdFiles};
-pub use programs::main_with;
+pub use programs::{main_with, main_without_key};
 pub use settings::{Settings, SettingsFault, settings_of};
 pub use si_run::{ExitStatus, Gate, Options, Place, RunFault, run, run_gated};

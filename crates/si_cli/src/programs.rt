@@ -3,7 +3,7 @@ ghost use Rattle.std.specs.Io.KnownBytes.{Appends};
 ghost use Rattle.std.specs.Mem.{FitsInMemory};
 ghost use Rattle.si_cli.specs.declared.settings.TheConstants.{MOST_FILES};
 ghost use Rattle.si_cli.specs.Openings.{AreKept, IsNotOpened};
-ghost use Rattle.si_cli.specs.Programs.{EndsCheck, EndsFiles, EndsLine, EndsNamed, EndsProgram, Fails, fault_line, source_line};
+ghost use Rattle.si_cli.specs.Programs.{EndsCheck, EndsFiles, EndsLine, EndsNamed, EndsProgram, EndsUnsettled, EndsWithoutKey, Fails, fault_line, source_line};
 ghost use Rattle.si_run.specs.Runs.{IsRunnable, terms_by};
 ghost use Rattle.si_run.specs.Takings.{device};
 
@@ -70,8 +70,43 @@ pub fn main_with<
             err,
             settings.options,
         ),
-        Err(SettingsFault::Line(error)) => tell_line(alloc, out, err, &error),
-        Err(SettingsFault::TooManyFiles) => tell(err, b"sicheck: too many files\n"),
+        Err(fault) => tell_unsettled(alloc, out, err, &fault),
+    }
+}
+
+/// The whole program where no secret key for the hash maps could be drawn: what the words ask for beside a check is told as by
+/// [`main_with`], and so is their fault; a check isn't made, which is told on `err`.
+pub fn main_without_key<S: AsStr, O: ByteSink, E: ByteSink>(
+    alloc: Global,
+    words: &[S],
+    out: &mut O,
+    err: &mut E,
+) -> u8
+    requires out { O.failed out.old ≡ false }
+    ensures { EndsWithoutKey (map S.text words.now)
+        (device (O.written out.old) (O.written out.new) (O.failed out.new))
+        (device (E.written err.old) (E.written err.new) (E.failed err.new)) result }
+{
+    match settings_of(alloc, words) {
+        Ok(_) => tell(err, b"sicheck: no random bytes for the hash maps\n"),
+        Err(fault) => tell_unsettled(alloc, out, err, &fault),
+    }
+}
+
+/// Tells why the words ask for no check.
+fn tell_unsettled<O: ByteSink, E: ByteSink>(
+    alloc: Global,
+    out: &mut O,
+    err: &mut E,
+    fault: &SettingsFault,
+) -> u8
+    requires out { O.failed out.old ≡ false }
+    ensures { EndsUnsettled fault.now (device (O.written out.old) (O.written out.new) (O.failed out.new))
+        (device (E.written err.old) (E.written err.new) (E.failed err.new)) result }
+{
+    match fault {
+        SettingsFault::Line(error) => tell_line(alloc, out, err, error),
+        SettingsFault::TooManyFiles => tell(err, b"sicheck: too many files\n"),
     }
 }
 

@@ -76,3 +76,9 @@ abbrev pub IsFaultOf : Machine → WorldFault → Type 0
 IsFaultOf M (fault.Spoiled k) = IsLeastSpoiled M k
 IsFaultOf M (fault.Unsettled position) = IsLeastPosition M position
 IsFaultOf M fault.OutOfMemory = IsSettled M
+
+-- the number of a fault, if it has one
+abbrev pub world_fault_code : WorldFault → Option ℕ
+world_fault_code (fault.Spoiled k) = Some 41
+world_fault_code (fault.Unsettled position) = Some 42
+world_fault_code fault.OutOfMemory = None

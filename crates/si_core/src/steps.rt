@@ -1,5 +1,8 @@
 //! The steps of the core's machine and the replies that they get.
 
+ghost use Rattle.std.specs.Prelude.{◌≡◌};
+ghost use Rattle.si_core.specs.Worlds.{world_fault_code};
+
 use si_model::{Edit, Number, Refusal};
 use thiserror::Error;
 
@@ -45,4 +48,17 @@ pub enum WorldFault {
     /// The growth of some memory was refused.
     #[error("out of memory")]
     OutOfMemory,
+}
+
+impl WorldFault {
+    /// The number of the fault, where it has one.
+    pub fn code(&self) -> Option<u64>
+        ensures { result ≡ world_fault_code self.now }
+    {
+        match self {
+            WorldFault::Spoiled(_) => Some(41),
+            WorldFault::Unsettled(_) => Some(42),
+            WorldFault::OutOfMemory => None,
+        }
+    }
 }

@@ -1,5 +1,5 @@
 -- What is known of the state of a key, and what an edit makes of it. All of it is this project's choice.
-use Rattle.std.specs.Prelude.{◌≡◌, ℕ, Bool, true, false, List}
+use Rattle.std.specs.Prelude.{◌≡◌, ℕ, Bool, true, false, List, None, Option, Some}
 use Rattle.std.specs.List.{Contains}
 use Rattle.si_model.specs.declared.numbers.TxnId.{TxnId}
 use Rattle.si_model.specs.declared.transactions.Status.TheVariants as status
@@ -7,6 +7,8 @@ use Rattle.si_model.specs.declared.parts.Part.{Part}
 use Rattle.si_model.specs.declared.parts.OnKey.{OnKey}
 use Rattle.si_model.specs.History.{IsOfHistory}
 use Rattle.si_model.specs.Laws.{HaveSame}
+use Rattle.si_judge.specs.declared.states.KeyFault.{KeyFault}
+use Rattle.si_judge.specs.declared.states.KeyFault.TheVariants as fault
 use Rattle.si_judge.specs.Touched.{IsBoundedBy}
 use Rattle.si_judge.specs.Mending.{risen}
 
@@ -44,3 +46,8 @@ pub record IsMended (IsTouchedRead : TxnId × ℕ → Type 0) (asked : OnKey) (o
 -- a state that wanted memory is spoiled for good
 abbrev pub IsSpoiledBy : State → State → Type 0
 IsSpoiledBy old new = (new.key ≡ old.key) × (new.spoiled ≡ true)
+
+-- the number of a key's fault, if it has one
+abbrev pub key_fault_code : KeyFault → Option ℕ
+key_fault_code fault.Spoiled = Some 41
+key_fault_code fault.OutOfMemory = None

@@ -10,7 +10,7 @@ ghost use Rattle.si_model.specs.KeyEdits.{arrived_on, resolved_on, set_up_on, wi
 ghost use Rattle.si_model.specs.Versions.{Writes};
 ghost use Rattle.si_judge.specs.declared.states.KeyFault.TheVariants as fault;
 ghost use Rattle.si_judge.specs.Touched.{IsTouched, IsTouchedBySetUp};
-ghost use Rattle.si_judge.specs.States.{HasDoubt, HasPart, IsMended, IsSpoiledBy};
+ghost use Rattle.si_judge.specs.States.{HasDoubt, HasPart, IsMended, IsSpoiledBy, key_fault_code};
 ghost use Rattle.si_judge.specs.declared.reads.Reader.{Reader};
 ghost use Rattle.si_judge.specs.Indexes.{AreIndexes, AreReadsBefore, AreTouchedReads, Fits, Joins, present_in, reads_in, version_of, writes_of};
 ghost use Rattle.si_judge.specs.Mending.{IsJudgedWith, IsJudgedWithout, found_by};
@@ -35,6 +35,18 @@ pub enum KeyFault {
     /// The growth of some memory was refused. An edit that answers this has spoiled the state; `findings` leaves it as it was.
     #[error("out of memory")]
     OutOfMemory,
+}
+
+impl KeyFault {
+    /// The number of the fault, where it has one.
+    pub fn code(&self) -> Option<u64>
+        ensures { result ≡ key_fault_code self.now }
+    {
+        match self {
+            KeyFault::Spoiled => Some(41),
+            KeyFault::OutOfMemory => None,
+        }
+    }
 }
 
 impl From<AllocError> for KeyFault {
