@@ -1,6 +1,6 @@
 //! Reads and writes that fail at each place.
 
-use super::{DOUBT, RunEnd, Host, PLAIN, RESOLUTION, RESOLVED, UNRESOLVED};
+use super::{DOUBT, Host, PLAIN, RESOLUTION, RESOLVED, RunEnd, UNRESOLVED};
 use si_run::{ExitStatus, RunFault, run};
 use si_text::memory::{FailingSink, FailingSource, MemorySink, MemorySource};
 use std::hash::RandomState;
