@@ -47,6 +47,16 @@ fn bytes_of(rt: &impl Host, text: &str) -> Vec<u8> {
     Vec::from_slice(rt.alloc(), text.as_bytes()).expect(rt, "memory")
 }
 
+/// What was written, which is text.
+fn text_of<'a>(rt: &impl Host, written: &'a [u8]) -> &'a str {
+    str::from_utf8(written).expect(rt, "text")
+}
+
+/// This text was written.
+fn is_text(rt: &impl Host, written: &[u8], text: &str) {
+    assert_eq!(rt; text_of(rt, written), text);
+}
+
 /// The part so many times.
 fn repeated(rt: &impl Host, part: &str, count: usize) -> String {
     let mut text = String::new(rt.alloc());
@@ -84,6 +94,7 @@ fn ended<H: Host, S: ByteSource + Send, W: ByteSink>(
     sink: &mut W,
     options: Options,
 ) -> Result<ExitStatus, RunFault>
+    requires size { FitsInMemory S.row }
     requires source { S.failed source.old ≡ false }
     requires sink { W.failed sink.old ≡ false }
 {
@@ -106,7 +117,7 @@ fn check_text(
     let mut sink = MemorySink::new(rt.alloc(), piece);
     let ended = ended(rt, &mut source, &mut sink, options);
     assert_eq!(rt; ended.ok(), Some(status));
-    assert_eq!(rt; sink.as_slice(), output.as_bytes());
+    is_text(rt, sink.as_slice(), output);
 }
 
 /// The same, by bytes one at a time, and all at once with any number of shards.
@@ -166,6 +177,6 @@ fn writes<H: Host, F: NamedFiles>(
 ) {
     let outcome = outcome(rt, files, words, input);
     assert_eq!(rt; outcome.status, status);
-    assert_eq!(rt; outcome.out.as_slice(), output.as_bytes());
-    assert_eq!(rt; outcome.err.as_slice(), complaint.as_bytes());
+    is_text(rt, outcome.out.as_slice(), output);
+    is_text(rt, outcome.err.as_slice(), complaint);
 }

@@ -1,6 +1,6 @@
 //! Devices over those of std: what is interrupted is tried again and nothing else is, and a large text goes through them whole.
 
-use super::Host;
+use super::{Host, is_text};
 use si_text::{ByteSink, ByteSource, DeviceFailed, StdSink, StdSource};
 use std::io;
 use std::io::{ErrorKind, Read, Write};
@@ -81,7 +81,7 @@ fn interrupted_calls(rt: HostRuntime) {
         assert_eq!(rt; sink.write(&[byte, b'z']), Ok(1));
     }
     assert_eq!(rt; device.calls, 12);
-    assert_eq!(rt; device.written.as_slice(), b"xy".as_slice());
+    is_text(&rt, device.written.as_slice(), "xy");
 }
 
 const OTHER_KINDS: [ErrorKind; 11] = [
@@ -139,9 +139,9 @@ fn many_bytes(rt: &impl Host) -> Vec<u8> {
 /// Moves a byte from the one to the other, and compares it.
 fn moves_byte<H: Host, S: ByteSource, W: ByteSink>(rt: &H, source: &mut S, sink: &mut W, byte: u8) {
     let mut buffer = [0u8; 1];
-    assert_eq!(rt; source.read(buffer.as_mut_slice()), Ok(1));
-    assert_eq!(rt; buffer[0], byte);
-    assert_eq!(rt; sink.write(buffer.as_slice()), Ok(1));
+    let read = source.read(buffer.as_mut_slice());
+    let written = sink.write(buffer.as_slice());
+    assert_eq!(rt; (read, buffer[0], written), (Ok(1), byte, Ok(1)));
 }
 
 #[test]

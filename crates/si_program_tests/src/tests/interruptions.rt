@@ -1,6 +1,6 @@
 //! Reads and writes that a signal interrupts are tried again.
 
-use super::{PLAIN, ended};
+use super::{PLAIN, ended, is_text};
 use si_cli::ExitStatus;
 use si_text::{StdSink, StdSource};
 use std::io;
@@ -62,5 +62,5 @@ fn interrupted_calls_are_tried_again(rt: HostRuntime) {
     assert_eq!(rt; ended.ok(), Some(ExitStatus::Open));
     let expected =
         "refused source=0 line=1 code=3 reason=not-object\ntransactions=0 findings=0 refused=1 verdict=clean\n";
-    assert_eq!(rt; writer.bytes.as_slice(), expected.as_bytes());
+    is_text(&rt, writer.bytes.as_slice(), expected);
 }

@@ -60,57 +60,37 @@ fn thousands_of_transactions(rt: HostRuntime) {
     check_text(&rt, 4096, sharded, longer.as_str(), stale, Violation);
 }
 
-/// The answer to a text that has all lines twice.
-fn refusals(rt: &impl Host) -> String {
-    let mut output = String::new(rt.alloc());
-    for line in COUNT + 1..COUNT * 2 + 1 {
-        let refused = format!(in rt.alloc();
-            "refused source=0 line={line} code=12 reason=id-present\n"
-        ).expect(rt, "memory");
-        output.push_str(refused.as_str()).expect(rt, "memory");
+/// The line once for each number of the range, which stands in place of each `#`, and the last line.
+fn numbered(rt: &impl Host, line: &str, (first, end): (u32, u32), last: &str) -> String {
+    let mut text = String::new(rt.alloc());
+    for number in first..end {
+        let number = format!(in rt.alloc(); "{number}").expect(rt, "memory");
+        let line = line
+            .replace(rt.alloc(), "#", number.as_str())
+            .expect(rt, "memory");
+        text.push_str(line.as_str()).expect(rt, "memory");
     }
-    let last = "transactions=5000 findings=0 refused=5000 verdict=clean\n";
-    output.push_str(last).expect(rt, "memory");
-    output
+    text.push_str(last).expect(rt, "memory");
+    text
 }
 
 #[test]
 fn thousands_of_refused_lines(rt: HostRuntime) {
     let once = lines(&rt);
     let twice = format!(in rt.alloc(); "{once}{once}").expect(&rt, "memory");
-    let output = refusals(&rt);
+    let refused = "refused source=0 line=# code=12 reason=id-present\n";
+    let last = "transactions=5000 findings=0 refused=5000 verdict=clean\n";
+    let output = numbered(&rt, refused, (COUNT + 1, COUNT * 2 + 1), last);
     check_text(&rt, 4096, PLAIN, twice.as_str(), output.as_str(), Open);
-}
-
-/// Lines that read what nobody wrote.
-fn reads(rt: &impl Host) -> String {
-    let mut input = String::new(rt.alloc());
-    for id in 1000..1000 + COUNT {
-        let line = format!(in rt.alloc();
-            "{{\"do\":\"txn\",\"id\":{id},\"start\":{id},\"status\":\"committed\",\"commit\":{id},\"ops\":[[\"r\",\"x\",{id}]]}}\n"
-        ).expect(rt, "memory");
-        input.push_str(line.as_str()).expect(rt, "memory");
-    }
-    input
-}
-
-/// The answer to them.
-fn findings(rt: &impl Host) -> String {
-    let mut output = String::new(rt.alloc());
-    for id in 1000..1000 + COUNT {
-        let found = format!(in rt.alloc(); "unknown key=\"x\" txn={id} op=0 read={id}\n").expect(
-            rt, "memory",
-        );
-        output.push_str(found.as_str()).expect(rt, "memory");
-    }
-    let last = "transactions=5000 findings=5000 refused=0 verdict=open\n";
-    output.push_str(last).expect(rt, "memory");
-    output
 }
 
 #[test]
 fn thousands_of_findings(rt: HostRuntime) {
-    let input = reads(&rt);
-    let output = findings(&rt);
+    let read =
+        "{\"do\":\"txn\",\"id\":#,\"start\":#,\"status\":\"committed\",\"commit\":#,\"ops\":[[\"r\",\"x\",#]]}\n";
+    let input = numbered(&rt, read, (1000, 1000 + COUNT), "");
+    let found = "unknown key=\"x\" txn=# op=0 read=#\n";
+    let last = "transactions=5000 findings=5000 refused=0 verdict=open\n";
+    let output = numbered(&rt, found, (1000, 1000 + COUNT), last);
     check_text(&rt, 4096, PLAIN, input.as_str(), output.as_str(), Open);
 }

@@ -3,7 +3,7 @@
 ghost use Rattle.std.specs.Prelude.{Some, not};
 ghost use Rattle.std.specs.Str.{bytes_eq};
 
-use super::{Host, outcome, words_of, writes};
+use super::{Host, is_text, outcome, words_of, writes};
 use si_cli::{CannotOpen, NamedFiles};
 use si_text::StdSource;
 use si_text::memory::FailingSource;
@@ -112,8 +112,13 @@ fn one_twice_is_two(rt: &impl Host) {
     let second =
         "refused source=1 line=1 code=12 reason=id-present\ntransactions=1 findings=0 refused=1 verdict=clean\n";
     let out = outcome.out.as_slice();
-    assert!(rt; out == first.as_bytes() || out == second.as_bytes());
-    assert!(rt; outcome.err.as_slice().is_empty());
+    let text = if out == first.as_bytes() {
+        first
+    } else {
+        second
+    };
+    is_text(rt, out, text);
+    is_text(rt, outcome.err.as_slice(), "");
 }
 
 #[test]

@@ -2,7 +2,9 @@
 
 ghost use Rattle.std.specs.Prelude.{◌≡◌, false};
 
-use super::{Host, PLAIN, ProgramEnd, answer, bytes_of, ended, halves, outcome, words_of, writes};
+use super::{
+    Host, PLAIN, ProgramEnd, answer, bytes_of, ended, halves, is_text, outcome, words_of, writes,
+};
 use si_cli::{ExitStatus, NamedFiles, Options, RunFault, SettingsFault, StdFiles, settings_of};
 use si_text::ByteSource;
 use si_text::memory::{FailingSink, FailingSource, MemorySink, MemorySource};
@@ -168,7 +170,7 @@ fn a_run_cannot_read(rt: &impl Host) {
     let mut out = MemorySink::new(rt.alloc(), 4096);
     let ended = ended(rt, &mut input, &mut out, PLAIN);
     assert_eq!(rt; ended.err(), Some(RunFault::Input(0)));
-    assert!(rt; out.as_slice().is_empty());
+    is_text(rt, out.as_slice(), "");
 }
 
 /// A run whose first write fails tells that.
@@ -193,10 +195,7 @@ fn the_program_cannot_read<H: Host, F: NamedFiles>(rt: &H, files: &F) {
     let mut err = MemorySink::new(rt.alloc(), 4096);
     let status = answer(rt, files, CHECK.as_slice(), &mut input, &mut out, &mut err);
     assert_eq!(rt; status, 2);
-    assert_eq!(rt;
-        err.as_slice(),
-        b"sicheck: cannot read source 0\n".as_slice()
-    );
+    is_text(rt, err.as_slice(), "sicheck: cannot read source 0\n");
 }
 
 fn the_program_cannot_write<H: Host, F: NamedFiles>(rt: &H, files: &F) {
@@ -205,7 +204,7 @@ fn the_program_cannot_write<H: Host, F: NamedFiles>(rt: &H, files: &F) {
     let mut err = MemorySink::new(rt.alloc(), 4096);
     let status = answer(rt, files, CHECK.as_slice(), &mut input, &mut out, &mut err);
     assert_eq!(rt; status, 2);
-    assert_eq!(rt; err.as_slice(), b"sicheck: cannot write\n".as_slice());
+    is_text(rt, err.as_slice(), "sicheck: cannot write\n");
 }
 
 #[test]

@@ -1,4 +1,4 @@
-use super::Host;
+use super::{Host, is_text};
 use si_model::{
     Edge, Evidence, Finding, Key, Kind, Label, Refusal, Stamp, TxnId, Value, Walk, findings_of,
     is_history,
@@ -8,19 +8,13 @@ use si_text::{
     Field, LineFault, Reason, Verdict, print_evidence, print_finding, print_refusal, print_report,
 };
 
-/// This text was printed.
-fn is_printed(rt: &impl Host, printed: Vec<u8>, text: &str) {
-    let printed = String::from_utf8(printed).ok().expect(rt, "text");
-    assert_eq!(rt; printed.as_str(), text);
-}
-
 /// The finding on the key is printed so.
 fn prints(rt: &impl Host, key: &str, kind: Kind, text: &str) {
     assert!(rt; Key::fits(key));
     let key = Key::new(rt.alloc(), key).expect(rt, "memory");
     let mut out = Vec::new(rt.alloc());
     print_finding(rt.alloc(), &mut out, &Finding { key, kind }).expect(rt, "memory");
-    is_printed(rt, out, text);
+    is_text(rt, out.as_slice(), text);
 }
 
 #[test]
@@ -127,7 +121,7 @@ fn check_refusal(rt: &impl Host, line: u64, reason: Reason, text: &str) {
     let wanted = format!(in rt.alloc();
         "before\nrefused source=3 line={line} code={text}\n"
     ).expect(rt, "memory");
-    is_printed(rt, out, wanted.as_str());
+    is_text(rt, out.as_slice(), wanted.as_str());
 }
 
 #[test]
@@ -218,7 +212,7 @@ fn reports_so(rt: &impl Host, lines: &str, refused: u64, explain: bool, text: &s
     let verdict = print_report(alloc, &mut out, txns.len(), &findings, refused, explain).expect(
         rt, "memory",
     );
-    is_printed(rt, out, text);
+    is_text(rt, out.as_slice(), text);
     assert_eq!(rt; verdict, Verdict::of(&findings));
 }
 
@@ -262,7 +256,7 @@ fn lines_of_evidence(rt: HostRuntime) {
     for (evidence, text) in &rows {
         let mut out = Vec::new(rt.alloc());
         print_evidence(rt.alloc(), &mut out, evidence).expect(&rt, "memory");
-        is_printed(&rt, out, text);
+        is_text(&rt, out.as_slice(), text);
     }
 }
 
