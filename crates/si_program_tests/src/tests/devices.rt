@@ -76,7 +76,7 @@ fn interrupted_calls(rt: HostRuntime) {
     let mut device = device_failing_from(&rt, u64::MAX, ErrorKind::Other);
     for byte in [b'x', b'y'] {
         let read = read_of(&mut StdSource::new(&mut device));
-        assert_eq!(rt; read, (Ok(1), [b'a', 0, 0, 0]));
+        assert!(rt; read == (Ok(1), [b'a', 0, 0, 0]));
         let mut sink = StdSink::new(&mut device);
         assert_eq!(rt; sink.write(&[byte, b'z']), Ok(1));
     }

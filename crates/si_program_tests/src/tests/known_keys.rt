@@ -3,13 +3,21 @@ use si_model::Key;
 use si_text::KnownKeys;
 use std::hash::RandomState;
 
+/// The key has this text.
+fn is_key(rt: &impl Host, key: &Key, text: &str) {
+    assert!(rt; Key::fits(text));
+    assert_eq!(rt; key.as_str(), text);
+    let wanted = Key::new(rt.alloc(), text).expect(rt, "memory");
+    assert!(rt; *key == wanted);
+}
+
 /// The keys of these texts are given, and after each so many are known.
 fn gives(rt: &impl Host, keys: &mut KnownKeys, rows: &[(&str, usize)]) {
     for (text, known) in rows {
         assert!(rt; Key::fits(text));
         let key = keys.key(text).expect(rt, "memory");
-        assert!(rt; key == Key::new(rt.alloc(), text).expect(rt, "memory"));
-        assert_eq!(rt; (key.as_str(), keys.len()), (*text, *known));
+        is_key(rt, &key, text);
+        assert_eq!(rt; keys.len(), *known);
     }
 }
 

@@ -1,6 +1,6 @@
 //! Runs of thousands of lines.
 
-use super::{Host, PLAIN, check_text};
+use super::{Host, PLAIN, check_text, repeated};
 use si_cli::ExitStatus::{Clean, Open, Violation};
 use si_cli::Options;
 
@@ -30,14 +30,15 @@ fn line_at(rt: &impl Host, turn: u32) -> String {
     .expect(rt, "memory")
 }
 
-/// The lines of all transactions.
-fn lines(rt: &impl Host) -> String {
+/// The lines of all transactions, and the last line.
+fn lines(rt: &impl Host, last: &str) -> String {
     let mut input = String::new(rt.alloc());
     for turn in 0..COUNT {
         input
             .push_str(line_at(rt, turn).as_str())
             .expect(rt, "memory");
     }
+    input.push_str(last).expect(rt, "memory");
     input
 }
 
@@ -47,10 +48,10 @@ const LATE: &str =
 
 #[test]
 fn thousands_of_transactions(rt: HostRuntime) {
-    let input = lines(&rt);
+    let input = lines(&rt, "");
     let clean = "transactions=5000 findings=0 refused=0 verdict=clean\n";
     check_text(&rt, 4096, PLAIN, input.as_str(), clean, Clean);
-    let longer = format!(in rt.alloc(); "{input}{LATE}").expect(&rt, "memory");
+    let longer = lines(&rt, LATE);
     let stale =
         "stale key=\"k7\" txn=5000 op=0 read=7 missed=57\ntransactions=5001 findings=1 refused=0 verdict=violation\n";
     let sharded = Options {
@@ -76,8 +77,8 @@ fn numbered(rt: &impl Host, line: &str, (first, end): (u32, u32), last: &str) ->
 
 #[test]
 fn thousands_of_refused_lines(rt: HostRuntime) {
-    let once = lines(&rt);
-    let twice = format!(in rt.alloc(); "{once}{once}").expect(&rt, "memory");
+    let once = lines(&rt, "");
+    let twice = repeated(&rt, once.as_str(), 2);
     let refused = "refused source=0 line=# code=12 reason=id-present\n";
     let last = "transactions=5000 findings=0 refused=5000 verdict=clean\n";
     let output = numbered(&rt, refused, (COUNT + 1, COUNT * 2 + 1), last);

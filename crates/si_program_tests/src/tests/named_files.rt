@@ -7,7 +7,6 @@ use super::{Host, is_text, outcome, words_of, writes};
 use si_cli::{CannotOpen, NamedFiles};
 use si_text::StdSource;
 use si_text::memory::FailingSource;
-use std::test::Fail;
 
 /// One file, whose first `reads` reads don't fail.
 #[derive(Clone, Copy)]
@@ -43,11 +42,21 @@ const STALE: &str =
 
 const REFUSED: &str = "refused source=0 line=3 code=15 reason=stamp-order\n";
 
-const FINDING: &str = "stale key=\"x\" txn=3 op=0 read=1 missed=2\n";
-
-const EVIDENCE: &str = "  G-SI(b) 3-rw->2 2-st->3\n";
-
-const SUMMARY: &str = "transactions=3 findings=1 refused=1 verdict=violation\n";
+/// Command lines, and what is written for them.
+const CHECKED: [(&str, &str); 3] = [
+    (
+        "check a",
+        "refused source=0 line=3 code=15 reason=stamp-order\nstale key=\"x\" txn=3 op=0 read=1 missed=2\ntransactions=3 findings=1 refused=1 verdict=violation\n",
+    ),
+    (
+        "check --explain a",
+        "refused source=0 line=3 code=15 reason=stamp-order\nstale key=\"x\" txn=3 op=0 read=1 missed=2\n  G-SI(b) 3-rw->2 2-st->3\ntransactions=3 findings=1 refused=1 verdict=violation\n",
+    ),
+    (
+        "check a --explain --every=2",
+        "transactions=2 findings=0 refused=0 verdict=clean\nrefused source=0 line=3 code=15 reason=stamp-order\nstale key=\"x\" txn=3 op=0 read=1 missed=2\n  G-SI(b) 3-rw->2 2-st->3\ntransactions=3 findings=1 refused=1 verdict=violation\nstale key=\"x\" txn=3 op=0 read=1 missed=2\n  G-SI(b) 3-rw->2 2-st->3\ntransactions=3 findings=1 refused=1 verdict=violation\n",
+    ),
+];
 
 /// The file `a` of those bytes with so many good reads, checked by the words of this line, gives this on both devices, and the
 /// status. Standard input has a line that is refused.
@@ -61,22 +70,10 @@ fn answers(rt: &impl Host, reads: u64, line: &str, told: (&str, &str, u8)) {
 }
 
 #[test]
-fn a_file_is_checked_by_the_options(rt: HostRuntime) -> Result<(), Fail> {
-    let alloc = rt.alloc();
-    let plain = format!(in alloc; "{REFUSED}{FINDING}{SUMMARY}")?;
-    answers(&rt, 100, "check a", (plain.as_str(), "", 20));
-    let explained = format!(in alloc; "{REFUSED}{FINDING}{EVIDENCE}{SUMMARY}")?;
-    answers(&rt, 100, "check --explain a", (explained.as_str(), "", 20));
-    let on_the_way = format!(in alloc;
-        "transactions=2 findings=0 refused=0 verdict=clean\n{REFUSED}{FINDING}{EVIDENCE}{SUMMARY}{FINDING}{EVIDENCE}{SUMMARY}"
-    )?;
-    answers(
-        &rt,
-        100,
-        "check a --explain --every=2",
-        (on_the_way.as_str(), "", 20),
-    );
-    Ok(())
+fn a_file_is_checked_by_the_options(rt: HostRuntime) {
+    for (line, output) in CHECKED {
+        answers(&rt, 100, line, (output, "", 20));
+    }
 }
 
 /// Of a file whose second read fails the lines of the first read are decided, and no report comes.
