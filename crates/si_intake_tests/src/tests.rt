@@ -48,30 +48,43 @@ fn room_that_no_memory_has_is_refused(rt: HostRuntime) {
     assert!(rt; open(rt.alloc(), 1, usize::MAX).is_err());
 }
 
-#[test]
-fn one_source_by_turns(rt: HostRuntime) -> Result<(), Fail> {
-    let (mut ends, mut accepter) = open(rt.alloc(), 1, 2)?;
-    sources_append();
+/// The accepter takes this.
+fn takes(rt: &(impl Wait + Abort), accepter: &mut Accepter, wanted: Option<Item>) {
+    assert_eq!(rt; accepter.take(rt), wanted);
+}
+
+/// The source puts two lines, and its last item once the first line was taken.
+fn take_by_turns(rt: &(impl Wait + Abort), end: &mut SourceEnd, accepter: &mut Accepter)
+    requires source { end.old.source ≡ 0 }
+    requires unended { has_last end.old.put ≡ false }
+{
     lasts_append();
-    lone_source_is_whole();
-    let mut end = ends.pop().ok_or("an end")?;
-    assert_eq!(rt; end.source(), 0);
-    assert_eq!(rt; accepter.sources(), 1);
-    let edit = Edit::Withdraw(TxnId(5));
-    end.put(&rt, line(7, Ok(edit)));
-    end.put(&rt, line(9, Err(LineFault::NotJson)));
-    let first = accepter.take(&rt);
-    assert_eq!(rt; first, Some(line(7, Ok(Edit::Withdraw(TxnId(5))))));
+    end.put(rt, line(7, Ok(Edit::Withdraw(TxnId(5)))));
+    end.put(rt, line(9, Err(LineFault::NotJson)));
+    takes(rt, accepter, Some(line(7, Ok(Edit::Withdraw(TxnId(5))))));
     let last = Item {
         source: 0,
         what: What::End,
     };
-    end.put(&rt, last);
-    let second = accepter.take(&rt);
-    assert_eq!(rt; second, Some(line(9, Err(LineFault::NotJson))));
-    let third = accepter.take(&rt).ok_or("a third item")?;
-    assert_eq!(rt; third.what, What::End);
-    assert_eq!(rt; accepter.take(&rt), None);
+    end.put(rt, last);
+    takes(rt, accepter, Some(line(9, Err(LineFault::NotJson))));
+    let last = Item {
+        source: 0,
+        what: What::End,
+    };
+    takes(rt, accepter, Some(last));
+    takes(rt, accepter, None);
+}
+
+#[test]
+fn one_source_by_turns(rt: HostRuntime) -> Result<(), Fail> {
+    let (mut ends, mut accepter) = open(rt.alloc(), 1, 2)?;
+    sources_append();
+    lone_source_is_whole();
+    let mut end = ends.pop().expect(&rt, "an end");
+    assert_eq!(rt; end.source(), 0);
+    assert_eq!(rt; accepter.sources(), 1);
+    take_by_turns(&rt, &mut end, &mut accepter);
     ends.push(end)?;
     Ok(())
 }

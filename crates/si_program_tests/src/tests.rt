@@ -1,5 +1,8 @@
 //! What lines say, what is written, and how runs and the whole program end.
 
+ghost use Rattle.std.specs.Prelude.{◌≡◌, false};
+ghost use Rattle.std.specs.Mem.{FitsInMemory};
+
 mod devices;
 mod evidence;
 mod files;
@@ -15,15 +18,15 @@ mod rows;
 mod set_ups;
 mod texts;
 
-use si_cli::{ExitStatus, Options, run};
+use si_cli::{ExitStatus, NamedFiles, Options, RunFault, main_with, run};
 use si_text::memory::{MemorySink, MemorySource};
-use std::alloc::Global;
+use si_text::{ByteSink, ByteSource};
+use std::alloc::AllocGlobal;
 use std::hash::RandomState;
 use std::process::Abort;
 use std::random::RandomSource;
 use std::slice;
 use std::sync::Wait;
-use std::test::Fail;
 use std::thread::Threads;
 
 /// What the tests run with, where they say nothing else.
@@ -34,60 +37,146 @@ const PLAIN: Options = Options {
     limit: 16_777_216,
 };
 
+/// What the tests and their helpers need.
+trait Host: AllocGlobal + Abort + RandomSource + Threads + Wait + Sync {}
+
+impl<R: AllocGlobal + Abort + RandomSource + Threads + Wait + Sync> Host for R {}
+
+/// The bytes of the text.
+fn bytes_of(rt: &impl Host, text: &str) -> Vec<u8> {
+    Vec::from_slice(rt.alloc(), text.as_bytes()).expect(rt, "memory")
+}
+
+/// What was written, which is text.
+fn text_of<'a>(rt: &impl Host, written: &'a [u8]) -> &'a str {
+    str::from_utf8(written).expect(rt, "text")
+}
+
+/// This text was written.
+fn is_text(rt: &impl Host, written: &[u8], text: &str) {
+    assert_eq!(rt; text_of(rt, written), text);
+}
+
+/// The part so many times.
+fn repeated(rt: &impl Host, part: &str, count: usize) -> String {
+    let mut text = String::new(rt.alloc());
+    for _ in 0..count {
+        text.push_str(part).expect(rt, "memory");
+    }
+    text
+}
+
+/// What stands before the bar, and behind it.
+fn halves<'a>(rt: &impl Host, row: &'a str) -> (&'a str, &'a str) {
+    let (before, behind) = row.split_once('|').expect(rt, "a bar");
+    (before.trim(), behind.trim())
+}
+
+/// The program's name, and the words of the line.
+fn words_of<'a>(rt: &impl Host, line: &'a str) -> Vec<&'a str> {
+    let mut words = Vec::new(rt.alloc());
+    words.push("sicheck").expect(rt, "memory");
+    for word in line.split_ascii_whitespace() {
+        words.push(word).expect(rt, "memory");
+    }
+    words
+}
+
+/// Whether a run may have these options.
+fn is_in_range(options: Options) -> bool {
+    1 <= options.shards && options.shards <= 16 && 1 <= options.limit && options.limit <= 16_777_216
+}
+
+/// How a run over the source ends.
+fn ended<H: Host, S: ByteSource + Send, W: ByteSink>(
+    rt: &H,
+    source: &mut S,
+    sink: &mut W,
+    options: Options,
+) -> Result<ExitStatus, RunFault>
+    requires size { FitsInMemory S.row }
+    requires source { S.failed source.old ≡ false }
+    requires sink { W.failed sink.old ≡ false }
+{
+    let hash = RandomState::new(rt).expect(rt, "a secret key");
+    run(rt, rt.alloc(), hash, slice::from_mut(source), sink, options)
+}
+
 /// A run over the input, which gives and takes so many bytes at once, writes the output and has that status.
 fn check_text(
-    rt: &(impl Abort + RandomSource + Threads + Wait + Sync),
-    alloc: Global,
+    rt: &impl Host,
     piece: usize,
     options: Options,
     input: &str,
     output: &str,
     status: ExitStatus,
-) -> Result<(), Fail> {
+) {
     assert!(rt; 1 <= piece);
-    let mut source = MemorySource::new(Vec::from_slice(alloc, input.as_bytes())?, piece);
-    let mut sink = MemorySink::new(alloc, piece);
-    assert!(rt; 1 <= options.shards && options.shards <= 16);
-    assert!(rt; 1 <= options.limit && options.limit <= 16_777_216);
-    let ended = run(
-        rt,
-        alloc,
-        RandomState::new(rt)?,
-        slice::from_mut(&mut source),
-        &mut sink,
-        options,
-    )
-    .ok();
-    assert_eq!(rt; ended, Some(status));
-    assert_eq!(rt; sink.as_slice(), output.as_bytes());
-    Ok(())
+    assert!(rt; is_in_range(options));
+    let mut source = MemorySource::new(bytes_of(rt, input), piece);
+    let mut sink = MemorySink::new(rt.alloc(), piece);
+    let ended = ended(rt, &mut source, &mut sink, options);
+    assert_eq!(rt; ended.ok(), Some(status));
+    is_text(rt, sink.as_slice(), output);
 }
 
 /// The same, by bytes one at a time, and all at once with any number of shards.
-fn check_with(
-    rt: &(impl Abort + RandomSource + Threads + Wait + Sync),
-    alloc: Global,
-    options: Options,
-    input: &str,
-    output: &str,
-    status: ExitStatus,
-) -> Result<(), Fail> {
-    check_text(rt, alloc, 1, options, input, output, status)?;
-    for shards in [1, 4, 16] {
+fn check_with(rt: &impl Host, options: Options, input: &str, output: &str, status: ExitStatus) {
+    for (piece, shards) in [(1, options.shards), (65536, 1), (65536, 4), (65536, 16)] {
         let sharded = Options { shards, ..options };
-        check_text(rt, alloc, 65536, sharded, input, output, status)?;
+        check_text(rt, piece, sharded, input, output, status);
     }
-    Ok(())
 }
 
 /// The same, with reports after each so many lines.
-fn check(
-    rt: &(impl Abort + RandomSource + Threads + Wait + Sync),
-    alloc: Global,
-    every: Option<u64>,
+fn check(rt: &impl Host, every: Option<u64>, input: &str, output: &str, status: ExitStatus) {
+    check_with(rt, Options { every, ..PLAIN }, input, output, status);
+}
+
+/// What the program answers on these words over these devices.
+fn answer<H: Host, F: NamedFiles, I: ByteSource + Send, O: ByteSink, E: ByteSink>(
+    rt: &H,
+    files: &F,
+    words: &[&str],
+    input: &mut I,
+    out: &mut O,
+    err: &mut E,
+) -> u8
+    requires size { FitsInMemory I.row }
+    requires input { I.failed input.old ≡ false }
+    requires out { O.failed out.old ≡ false }
+{
+    let hash = RandomState::new(rt).expect(rt, "a secret key");
+    main_with(rt, files, rt.alloc(), hash, words, input, out, err)
+}
+
+/// What the program wrote to both devices, and its status.
+#[derive(Drop)]
+struct ProgramEnd {
+    out: MemorySink,
+    err: MemorySink,
+    status: u8,
+}
+
+/// What the program does on these words, with this on standard input.
+fn outcome<H: Host, F: NamedFiles>(rt: &H, files: &F, words: &[&str], input: &str) -> ProgramEnd {
+    let mut input = MemorySource::new(bytes_of(rt, input), 4096);
+    let mut out = MemorySink::new(rt.alloc(), 4096);
+    let mut err = MemorySink::new(rt.alloc(), 4096);
+    let status = answer(rt, files, words, &mut input, &mut out, &mut err);
+    ProgramEnd { out, err, status }
+}
+
+/// The program on these words, with this on standard input, writes this to both devices and ends with the status.
+fn writes<H: Host, F: NamedFiles>(
+    rt: &H,
+    files: &F,
+    words: &[&str],
     input: &str,
-    output: &str,
-    status: ExitStatus,
-) -> Result<(), Fail> {
-    check_with(rt, alloc, Options { every, ..PLAIN }, input, output, status)
+    (output, complaint, status): (&str, &str, u8),
+) {
+    let outcome = outcome(rt, files, words, input);
+    assert_eq!(rt; outcome.status, status);
+    is_text(rt, outcome.out.as_slice(), output);
+    is_text(rt, outcome.err.as_slice(), complaint);
 }

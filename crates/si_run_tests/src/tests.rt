@@ -6,10 +6,14 @@ mod gates;
 mod orders;
 mod sources;
 
-use si_run::Options;
-use si_text::memory::MemorySource;
-use std::alloc::Global;
-use std::test::Fail;
+use si_run::{ExitStatus, Gate, Options, RunFault, run, run_gated};
+use si_text::memory::{MemorySink, MemorySource};
+use std::alloc::AllocGlobal;
+use std::hash::RandomState;
+use std::process::Abort;
+use std::random::RandomSource;
+use std::sync::Wait;
+use std::thread::Threads;
 
 /// What the tests run with, where they say nothing else.
 const PLAIN: Options = Options {
@@ -37,12 +41,64 @@ doubt key=\"x\" txn=3 op=0 read=1 writer=1
 transactions=2 findings=1 refused=1 verdict=open
 ";
 
+/// What runs need.
+trait Host: AllocGlobal + Abort + RandomSource + Threads + Wait + Sync {}
+
+impl<R: AllocGlobal + Abort + RandomSource + Threads + Wait + Sync> Host for R {}
+
+/// How a run ended, and what it wrote.
+#[derive(Drop)]
+struct RunEnd {
+    status: Result<ExitStatus, RunFault>,
+    out: MemorySink,
+}
+
 /// A source of each text, which gives so many bytes at once.
-fn sources_of(alloc: Global, texts: &[&str], piece: usize) -> Result<Vec<MemorySource>, Fail> {
-    let mut sources = Vec::new(alloc);
+fn sources_of(rt: &impl Host, texts: &[&str], piece: usize) -> Vec<MemorySource> {
+    let mut sources = Vec::new(rt.alloc());
     for text in texts {
-        let bytes = Vec::from_slice(alloc, text.as_bytes())?;
-        sources.push(MemorySource::new(bytes, piece.max(1)))?;
+        let bytes = Vec::from_slice(rt.alloc(), text.as_bytes()).expect(rt, "memory");
+        let source = MemorySource::new(bytes, piece.max(1));
+        sources.push(source).expect(rt, "memory");
     }
-    Ok(sources)
+    assert_eq!(rt; sources.len(), texts.len());
+    sources
+}
+
+/// How a run over these texts ends, of which so many bytes are given and taken at once.
+fn ended(rt: &impl Host, texts: &[&str], piece: (usize, usize), options: Options) -> RunEnd {
+    let mut inputs = sources_of(rt, texts, piece.0);
+    assert!(rt; 1 <= inputs.len() && inputs.len() <= 8);
+    let mut out = MemorySink::new(rt.alloc(), piece.1.max(1));
+    let hash = RandomState::new(rt).expect(rt, "a secret key");
+    let inputs = inputs.as_mut_slice();
+    let status = run(rt, rt.alloc(), hash, inputs, &mut out, options);
+    RunEnd { status, out }
+}
+
+/// The same, where threads tell the gate where they are.
+fn ended_gated<R: Host, G: Gate + Sync>(
+    rt: &R,
+    texts: &[&str],
+    piece: (usize, usize),
+    options: Options,
+    gate: &G,
+) -> RunEnd {
+    let mut inputs = sources_of(rt, texts, piece.0);
+    assert!(rt; 1 <= inputs.len() && inputs.len() <= 8);
+    let mut out = MemorySink::new(rt.alloc(), piece.1.max(1));
+    let hash = RandomState::new(rt).expect(rt, "a secret key");
+    let inputs = inputs.as_mut_slice();
+    let status = run_gated(rt, rt.alloc(), hash, inputs, &mut out, options, gate);
+    RunEnd { status, out }
+}
+
+/// The resolution came after the transaction, or before.
+fn is_resolved_or_not(rt: &impl Host, ended: &RunEnd) {
+    let text = match ended.status {
+        Ok(ExitStatus::Clean) => RESOLVED,
+        Ok(ExitStatus::Open) => UNRESOLVED,
+        _ => panic!(rt; "the run ends otherwise"),
+    };
+    assert_eq!(rt; ended.out.as_slice(), text.as_bytes());
 }

@@ -1,10 +1,9 @@
 //! Devices over those of std: what is interrupted is tried again and nothing else is, and a large text goes through them whole.
 
+use super::{Host, is_text};
 use si_text::{ByteSink, ByteSource, DeviceFailed, StdSink, StdSource};
-use std::alloc::Global;
 use std::io;
 use std::io::{ErrorKind, Read, Write};
-use std::test::Fail;
 
 /// A device that gives or takes a byte at each third call, and whose other calls are interrupted. From one call on each fails.
 #[derive(Drop)]
@@ -56,105 +55,129 @@ impl Write for Halting {
     }
 }
 
-fn device_failing_from(alloc: Global, last: u64, kind: ErrorKind) -> Halting {
+fn device_failing_from(rt: &impl Host, last: u64, kind: ErrorKind) -> Halting {
     Halting {
         calls: 0,
         last,
         kind,
-        written: Vec::new(alloc),
+        written: Vec::new(rt.alloc()),
     }
 }
 
+/// What a read with room for four bytes answers, and what the room has then.
+fn read_of<S: ByteSource>(source: &mut S) -> (Result<usize, DeviceFailed>, [u8; 4]) {
+    let mut buffer = [0u8; 4];
+    let count = source.read(buffer.as_mut_slice());
+    (count, buffer)
+}
+
 #[test]
-fn interrupted_calls(rt: HostRuntime) -> Result<(), Fail> {
-    let mut device = device_failing_from(rt.alloc(), u64::MAX, ErrorKind::Other);
+fn interrupted_calls(rt: HostRuntime) {
+    let mut device = device_failing_from(&rt, u64::MAX, ErrorKind::Other);
     for byte in [b'x', b'y'] {
-        let mut buffer = [0u8; 4];
-        let mut source = StdSource::new(&mut device);
-        assert_eq!(rt; source.read(buffer.as_mut_slice()), Ok(1));
-        assert_eq!(rt; buffer, [b'a', 0, 0, 0]);
+        let read = read_of(&mut StdSource::new(&mut device));
+        assert!(rt; read == (Ok(1), [b'a', 0, 0, 0]));
         let mut sink = StdSink::new(&mut device);
         assert_eq!(rt; sink.write(&[byte, b'z']), Ok(1));
     }
     assert_eq!(rt; device.calls, 12);
-    assert_eq!(rt; device.written.as_slice(), b"xy".as_slice());
-    Ok(())
+    is_text(&rt, device.written.as_slice(), "xy");
+}
+
+const OTHER_KINDS: [ErrorKind; 11] = [
+    ErrorKind::NotFound,
+    ErrorKind::PermissionDenied,
+    ErrorKind::ConnectionReset,
+    ErrorKind::BrokenPipe,
+    ErrorKind::WouldBlock,
+    ErrorKind::TimedOut,
+    ErrorKind::WriteZero,
+    ErrorKind::StorageFull,
+    ErrorKind::UnexpectedEof,
+    ErrorKind::OutOfMemory,
+    ErrorKind::Other,
+];
+
+/// How a read ends that fails at that call, and how many calls there were.
+fn failing_read(rt: &impl Host, last: u64, kind: ErrorKind) -> (Result<usize, DeviceFailed>, u64) {
+    let mut device = device_failing_from(rt, last, kind);
+    let (read, _) = read_of(&mut StdSource::new(&mut device));
+    (read, device.calls)
+}
+
+/// The same of a write.
+fn failing_write(rt: &impl Host, last: u64, kind: ErrorKind) -> (Result<usize, DeviceFailed>, u64) {
+    let mut device = device_failing_from(rt, last, kind);
+    let mut sink = StdSink::new(&mut device);
+    let written = sink.write(b"a");
+    (written, device.calls)
 }
 
 /// A call that fails otherwise is the last one, also behind an interrupted one.
 #[test]
-fn calls_that_fail(rt: HostRuntime) -> Result<(), Fail> {
-    for kind in [
-        ErrorKind::NotFound,
-        ErrorKind::PermissionDenied,
-        ErrorKind::ConnectionReset,
-        ErrorKind::BrokenPipe,
-        ErrorKind::WouldBlock,
-        ErrorKind::TimedOut,
-        ErrorKind::WriteZero,
-        ErrorKind::StorageFull,
-        ErrorKind::UnexpectedEof,
-        ErrorKind::OutOfMemory,
-        ErrorKind::Other,
-    ] {
+fn calls_that_fail(rt: HostRuntime) {
+    for kind in OTHER_KINDS {
         for last in 1..3 {
-            let mut device = device_failing_from(rt.alloc(), last, kind);
-            let mut buffer = [0u8; 4];
-            let mut source = StdSource::new(&mut device);
-            assert_eq!(rt; source.read(buffer.as_mut_slice()), Err(DeviceFailed));
-            assert_eq!(rt; device.calls, last);
-
-            let mut device = device_failing_from(rt.alloc(), last, kind);
-            let mut sink = StdSink::new(&mut device);
-            assert_eq!(rt; sink.write(b"a"), Err(DeviceFailed));
-            assert_eq!(rt; device.calls, last);
+            let wanted = (Err(DeviceFailed), last);
+            assert_eq!(rt; failing_read(&rt, last, kind), wanted);
+            assert_eq!(rt; failing_write(&rt, last, kind), wanted);
         }
     }
-    Ok(())
 }
 
 /// Bytes of which no piece of a power of two is like the next.
-fn many_bytes(alloc: Global) -> Result<Vec<u8>, Fail> {
-    let mut bytes = Vec::new(alloc);
+fn many_bytes(rt: &impl Host) -> Vec<u8> {
+    let mut bytes = Vec::new(rt.alloc());
     for _ in 0..800 {
         for byte in 0..250 {
-            bytes.push(byte)?;
+            bytes.push(byte).expect(rt, "memory");
         }
     }
-    Ok(bytes)
+    bytes
+}
+
+/// Moves a byte from the one to the other, and compares it.
+fn moves_byte<H: Host, S: ByteSource, W: ByteSink>(rt: &H, source: &mut S, sink: &mut W, byte: u8) {
+    let mut buffer = [0u8; 1];
+    let read = source.read(buffer.as_mut_slice());
+    let written = sink.write(buffer.as_slice());
+    assert_eq!(rt; (read, buffer[0], written), (Ok(1), byte, Ok(1)));
 }
 
 #[test]
-fn large_texts_byte_by_byte(rt: HostRuntime) -> Result<(), Fail> {
-    let bytes = many_bytes(rt.alloc())?;
+fn large_texts_byte_by_byte(rt: HostRuntime) {
+    let bytes = many_bytes(&rt);
     let mut source = StdSource::new(bytes.as_slice());
     let mut taken = Vec::new(rt.alloc());
     let mut sink = StdSink::new(&mut taken);
     for byte in &bytes {
-        let mut buffer = [0u8; 1];
-        assert_eq!(rt; source.read(buffer.as_mut_slice()), Ok(1));
-        assert_eq!(rt; buffer[0], *byte);
-        assert_eq!(rt; sink.write(buffer.as_slice()), Ok(1));
+        moves_byte(&rt, &mut source, &mut sink, *byte);
     }
     assert_eq!(rt; source.read(&mut [0u8; 1]), Ok(0));
     assert!(rt; taken == bytes);
-    Ok(())
+}
+
+/// A read of all gives these bytes.
+fn gives_at_once(rt: &impl Host, bytes: &[u8]) {
+    let mut source = StdSource::new(bytes);
+    let mut buffer = vec![in rt.alloc(); 0u8; 300_000].expect(rt, "memory");
+    assert_eq!(rt; source.read(buffer.as_mut_slice()), Ok(200_000));
+    buffer.truncate(200_000);
+    assert!(rt; buffer.as_slice() == bytes);
+}
+
+/// A write of all takes them.
+fn takes_at_once(rt: &impl Host, bytes: &[u8]) {
+    assert!(rt; !bytes.is_empty());
+    let mut taken = Vec::new(rt.alloc());
+    let mut sink = StdSink::new(&mut taken);
+    assert_eq!(rt; sink.write(bytes), Ok(200_000));
+    assert!(rt; taken.as_slice() == bytes);
 }
 
 #[test]
-fn large_texts_at_once(rt: HostRuntime) -> Result<(), Fail> {
-    let bytes = many_bytes(rt.alloc())?;
-    let mut source = StdSource::new(bytes.as_slice());
-    let mut buffer = vec![in rt.alloc(); 0u8; 300_000]?;
-    assert_eq!(rt; source.read(buffer.as_mut_slice()), Ok(200_000));
-    buffer.truncate(200_000);
-    assert!(rt; buffer == bytes);
-    if bytes.is_empty() {
-        return Err(Fail::from("there are bytes"));
-    }
-    let mut taken = Vec::new(rt.alloc());
-    let mut sink = StdSink::new(&mut taken);
-    assert_eq!(rt; sink.write(bytes.as_slice()), Ok(200_000));
-    assert!(rt; taken == bytes);
-    Ok(())
+fn large_texts_at_once(rt: HostRuntime) {
+    let bytes = many_bytes(&rt);
+    gives_at_once(&rt, bytes.as_slice());
+    takes_at_once(&rt, bytes.as_slice());
 }

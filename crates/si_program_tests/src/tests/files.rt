@@ -1,49 +1,9 @@
 //! The program over files.
 
-use si_cli::{StdFiles, main_with};
-use si_text::memory::{MemorySink, MemorySource};
-use std::alloc::Global;
-use std::hash::RandomState;
-use std::process::Abort;
-use std::random::RandomSource;
-use std::rt::Files;
-use std::sync::Wait;
+use super::{Host, words_of, writes};
+use si_cli::{NamedFiles, StdFiles};
 use std::test::Fail;
-use std::thread::Threads;
 use std::{env, fs, process};
-
-/// The program on these words, with nothing on standard input, writes this to both devices and ends with the status.
-fn writes<R: Abort + Files + RandomSource + Threads + Wait + Sync>(
-    rt: &R,
-    alloc: Global,
-    words: &[&str],
-    output: &str,
-    complaint: &str,
-    status: u8,
-) -> Result<(), Fail>
-where
-    R::File: Send,
-{
-    let mut input = MemorySource::new(Vec::new(alloc), 1);
-    let mut out = MemorySink::new(alloc, 4096);
-    let mut err = MemorySink::new(alloc, 4096);
-    assert_eq!(rt;
-        main_with(
-            rt,
-            &StdFiles::new(rt),
-            alloc,
-            RandomState::new(rt)?,
-            words,
-            &mut input,
-            &mut out,
-            &mut err
-        ),
-        status
-    );
-    assert_eq!(rt; out.as_slice(), output.as_bytes());
-    assert_eq!(rt; err.as_slice(), complaint.as_bytes());
-    Ok(())
-}
 
 const STALE: &str =
     "{\"do\":\"txn\",\"id\":1,\"start\":1,\"status\":\"committed\",\"commit\":2,\"ops\":[[\"w\",\"x\",1]]}
@@ -53,71 +13,60 @@ const STALE: &str =
 const LAST_REPORT: &str =
     "stale key=\"x\" txn=3 op=0 read=1 missed=2\ntransactions=3 findings=1 refused=0 verdict=violation\n";
 
+const BOTH_REPORTS: &str =
+    "transactions=2 findings=0 refused=0 verdict=clean\nstale key=\"x\" txn=3 op=0 read=1 missed=2\ntransactions=3 findings=1 refused=0 verdict=violation\n";
+
+/// The program on the words of this line, with nothing on standard input, writes this to both devices and
+/// ends with the status.
+fn answers<H: Host, F: NamedFiles>(rt: &H, files: &F, line: &str, told: (&str, &str, u8)) {
+    writes(rt, files, words_of(rt, line).as_slice(), "", told);
+}
+
+/// The same on the words of this line and the path.
+fn answers_on<H: Host, F: NamedFiles>(
+    rt: &H,
+    files: &F,
+    line: &str,
+    path: &str,
+    told: (&str, &str, u8),
+) {
+    let mut words = words_of(rt, line);
+    words.push(path).expect(rt, "memory");
+    writes(rt, files, words.as_slice(), "", told);
+}
+
+const CANNOT_OPEN: &str = "sicheck: cannot open source 0\n";
+
 #[test]
 fn a_file_is_read(rt: HostRuntime) -> Result<(), Fail> {
-    let alloc = rt.alloc();
-    let name = format!(in alloc; "sicheck-test-{}", process::id(rt.process()))?;
-    let path = env::temp_dir(&rt)?.join(alloc, name.as_str())?;
+    let files = StdFiles::new(&rt);
+    let name = format!(in rt.alloc(); "sicheck-test-{}", process::id(rt.process()))?;
+    let path = env::temp_dir(&rt)?.join(rt.alloc(), name.as_str())?;
     fs::write(&rt, path.as_path(), STALE.as_bytes())?;
-    let words = ["sicheck", "check", path.as_str()];
-    writes(&rt, alloc, words.as_slice(), LAST_REPORT, "", 20)?;
-    let on_the_way = format!(in alloc;
-        "transactions=2 findings=0 refused=0 verdict=clean\n{LAST_REPORT}"
-    )?;
-    let words = ["sicheck", "check", "--every", "2", path.as_str()];
-    writes(&rt, alloc, words.as_slice(), on_the_way.as_str(), "", 20)?;
-    fs::remove_file(&rt, path.as_path())?;
-    let gone = ["sicheck", "check", path.as_str()];
-    writes(
+    answers_on(&rt, &files, "check", path.as_str(), (LAST_REPORT, "", 20));
+    answers_on(
         &rt,
-        alloc,
-        gone.as_slice(),
-        "",
-        "sicheck: cannot open source 0\n",
-        2,
-    )
+        &files,
+        "check --every 2",
+        path.as_str(),
+        (BOTH_REPORTS, "", 20),
+    );
+    fs::remove_file(&rt, path.as_path())?;
+    answers_on(&rt, &files, "check", path.as_str(), ("", CANNOT_OPEN, 2));
+    Ok(())
 }
 
 #[test]
-fn files_that_cannot_be_read(rt: HostRuntime) -> Result<(), Fail> {
-    let alloc = rt.alloc();
-    let missing = ["sicheck", "check", "no/such/file.jsonl"];
-    writes(
-        &rt,
-        alloc,
-        missing.as_slice(),
-        "",
-        "sicheck: cannot open source 0\n",
-        2,
-    )?;
-    let folder = ["sicheck", "check", "."];
-    writes(
-        &rt,
-        alloc,
-        folder.as_slice(),
-        "",
-        "sicheck: cannot read source 0\n",
-        2,
-    )?;
-    let nine = [
-        "sicheck",
-        "check",
-        ".",
-        ".",
-        ".",
-        ".",
-        ".",
-        ".",
-        ".",
-        ".",
-        "no/such/file.jsonl",
-    ];
-    writes(
-        &rt,
-        alloc,
-        nine.as_slice(),
-        "",
-        "sicheck: too many files\n",
-        2,
-    )
+fn files_that_cannot_be_read(rt: HostRuntime) {
+    let files = StdFiles::new(&rt);
+    for (line, complaint) in [
+        ("check no/such/file.jsonl", CANNOT_OPEN),
+        ("check .", "sicheck: cannot read source 0\n"),
+        (
+            "check . . . . . . . . no/such/file.jsonl",
+            "sicheck: too many files\n",
+        ),
+    ] {
+        answers(&rt, &files, line, ("", complaint, 2));
+    }
 }

@@ -1,12 +1,10 @@
 //! Reads and writes that a signal interrupts are tried again.
 
-use super::PLAIN;
-use si_cli::{ExitStatus, run};
+use super::{PLAIN, ended, is_text};
+use si_cli::ExitStatus;
 use si_text::{StdSink, StdSource};
-use std::hash::RandomState;
+use std::io;
 use std::io::{ErrorKind, Read, Write};
-use std::test::Fail;
-use std::{io, slice};
 
 /// A reader whose reads are interrupted twice before each that gives bytes.
 #[derive(Drop)]
@@ -50,29 +48,19 @@ impl Write for Halting {
 }
 
 #[test]
-fn interrupted_calls_are_tried_again(rt: HostRuntime) -> Result<(), Fail> {
-    let alloc = rt.alloc();
+fn interrupted_calls_are_tried_again(rt: HostRuntime) {
     let mut source = StdSource::new(Interrupted {
         bytes: b"[]\n",
         turn: 0,
     });
     let mut writer = Halting {
-        bytes: Vec::new(alloc),
+        bytes: Vec::new(rt.alloc()),
         halts: false,
     };
     let mut sink = StdSink::new(&mut writer);
-    let ended = run(
-        &rt,
-        alloc,
-        RandomState::new(&rt)?,
-        slice::from_mut(&mut source),
-        &mut sink,
-        PLAIN,
-    )
-    .ok();
-    assert_eq!(rt; ended, Some(ExitStatus::Open));
+    let ended = ended(&rt, &mut source, &mut sink, PLAIN);
+    assert_eq!(rt; ended.ok(), Some(ExitStatus::Open));
     let expected =
         "refused source=0 line=1 code=3 reason=not-object\ntransactions=0 findings=0 refused=1 verdict=clean\n";
-    assert_eq!(rt; writer.bytes.as_slice(), expected.as_bytes());
-    Ok(())
+    is_text(&rt, writer.bytes.as_slice(), expected);
 }

@@ -1,117 +1,52 @@
 //! Command lines, and devices that fail.
 
-use super::PLAIN;
-use si_cli::{ExitStatus, Options, RunFault, SettingsFault, StdFiles, main_with, run, settings_of};
+ghost use Rattle.std.specs.Prelude.{◌≡◌, false};
+
+use super::{
+    Host, PLAIN, ProgramEnd, answer, bytes_of, ended, halves, is_text, outcome, words_of, writes,
+};
+use si_cli::{ExitStatus, NamedFiles, Options, RunFault, SettingsFault, StdFiles, settings_of};
+use si_text::ByteSource;
 use si_text::memory::{FailingSink, FailingSource, MemorySink, MemorySource};
-use std::alloc::Global;
-use std::hash::RandomState;
-use std::process::Abort;
-use std::random::RandomSource;
-use std::rt::Files;
-use std::slice;
-use std::sync::Wait;
-use std::test::Fail;
-use std::thread::Threads;
 
 const LOST_UPDATE: &str =
     "{\"do\":\"txn\",\"id\":1,\"start\":1,\"status\":\"committed\",\"commit\":5,\"ops\":[[\"r\",\"x\",null],[\"w\",\"x\",1]]}\n{\"do\":\"txn\",\"id\":2,\"start\":2,\"status\":\"committed\",\"commit\":6,\"ops\":[[\"r\",\"x\",null],[\"w\",\"x\",2]]}";
 
-fn source(alloc: Global) -> Result<MemorySource, Fail> {
-    Ok(MemorySource::new(Vec::from_slice(alloc, LOST_UPDATE.as_bytes())?, 4096))
-}
-
-/// The program on these words ends with the status, and writes to both devices only where that is said.
-fn ends<R: Abort + Files + RandomSource + Threads + Wait + Sync>(
-    rt: &R,
-    alloc: Global,
-    words: &[&str],
-    status: u8,
-    writes: bool,
-    complains: bool,
-) -> Result<(), Fail>
-where
-    R::File: Send,
-{
-    let mut input = source(alloc)?;
-    let mut out = MemorySink::new(alloc, 4096);
-    let mut err = MemorySink::new(alloc, 4096);
-    assert_eq!(rt;
-        main_with(
-            rt,
-            &StdFiles::new(rt),
-            alloc,
-            RandomState::new(rt)?,
-            words,
-            &mut input,
-            &mut out,
-            &mut err
-        ),
-        status
-    );
-    assert_eq!(rt; !out.as_slice().is_empty(), writes);
-    assert_eq!(rt; !err.as_slice().is_empty(), complains);
-    Ok(())
-}
-
 #[test]
-fn versions(rt: HostRuntime) -> Result<(), Fail> {
-    let alloc = rt.alloc();
+fn versions(rt: HostRuntime) {
     for option in ["--version", "-V"] {
-        let mut input = source(alloc)?;
-        let mut out = MemorySink::new(alloc, 4096);
-        let mut err = MemorySink::new(alloc, 4096);
         let words = ["sicheck", option];
-        assert_eq!(&rt;
-            main_with(
-                &rt,
-                &StdFiles::new(&rt),
-                alloc,
-                RandomState::new(&rt)?,
-                words.as_slice(),
-                &mut input,
-                &mut out,
-                &mut err
-            ),
-            0
+        writes(
+            &rt,
+            &StdFiles::new(&rt),
+            words.as_slice(),
+            LOST_UPDATE,
+            ("sicheck 0.1.0\n", "", 0),
         );
-        assert_eq!(&rt; out.as_slice(), "sicheck 0.1.0\n".as_bytes());
-        assert!(&rt; err.as_slice().is_empty());
     }
-    Ok(())
 }
 
-/// The program's name, and the words of the line.
-fn words_of(alloc: Global, line: &str) -> Result<Vec<&str>, Fail> {
-    let mut words = Vec::new(alloc);
-    words.push("sicheck")?;
-    for word in line.split_ascii_whitespace() {
-        words.push(word)?;
-    }
-    Ok(words)
+/// The status, and to which device something was written.
+fn told(rt: &impl Host, outcome: &ProgramEnd) -> String {
+    let silent = (
+        outcome.out.as_slice().is_empty(),
+        outcome.err.as_slice().is_empty(),
+    );
+    let device = match silent {
+        (false, true) => "writes",
+        (true, false) => "complains",
+        (true, true) => "does neither",
+        (false, false) => "does both",
+    };
+    format!(in rt.alloc(); "{} {device}", outcome.status).expect(rt, "memory")
 }
 
 /// On the words before the bar the program ends with the status behind it, and `writes` its output or `complains`.
-fn ends_so<R: Abort + Files + RandomSource + Threads + Wait + Sync>(
-    rt: &R,
-    alloc: Global,
-    line: &str,
-) -> Result<(), Fail>
-where
-    R::File: Send,
-{
-    let (words, wanted) = line.split_once('|').ok_or("an end is wanted")?;
-    let (status, device) = wanted.trim().split_once(' ').ok_or("a device is wanted")?;
-    let words = words_of(alloc, words)?;
-    let writes = device == "writes";
-    assert!(rt; writes || device == "complains", "at {line}");
-    ends(
-        rt,
-        alloc,
-        words.as_slice(),
-        status.parse::<u8>()?,
-        writes,
-        !writes,
-    )
+fn ends_so<H: Host, F: NamedFiles>(rt: &H, files: &F, row: &str) {
+    let (line, wanted) = halves(rt, row);
+    let words = words_of(rt, line);
+    let outcome = outcome(rt, files, words.as_slice(), LOST_UPDATE);
+    assert_eq!(rt; told(rt, &outcome).as_str(), wanted, "at {row}");
 }
 
 const COMMAND_LINES: &str = "
@@ -138,55 +73,44 @@ const COMMAND_LINES: &str = "
     check --version | 2 complains";
 
 #[test]
-fn command_lines(rt: HostRuntime) -> Result<(), Fail> {
-    for line in COMMAND_LINES.trim().lines() {
-        ends_so(&rt, rt.alloc(), line)?;
+fn command_lines(rt: HostRuntime) {
+    let files = StdFiles::new(&rt);
+    for row in COMMAND_LINES.trim().lines() {
+        ends_so(&rt, &files, row);
     }
-    Ok(())
-}
-
-/// A number, or `-` for none.
-fn number_or_none(word: &str) -> Result<Option<u64>, Fail> {
-    Ok(match word {
-        "-" => None,
-        number => Some(number.parse::<u64>()?),
-    })
 }
 
 /// `4 - plain`: how many shards, after how many lines a report comes, and whether its findings are `explained`.
-fn options_of(rt: &impl Abort, text: &str) -> Result<Options, Fail> {
-    let (shards, rest) = text.split_once(' ').ok_or("a number is wanted")?;
-    let (every, explained) = rest.split_once(' ').ok_or("a number is wanted")?;
-    let explain = explained == "explained";
-    assert!(rt; explain || explained == "plain");
-    Ok(Options {
-        shards: shards.parse::<usize>()?,
-        every: number_or_none(every)?,
-        explain,
-        ..PLAIN
-    })
+fn options_told(rt: &impl Host, options: Options) -> String {
+    let every = match options.every {
+        None => String::from_str(rt.alloc(), "-"),
+        Some(every) => format!(in rt.alloc(); "{every}"),
+    };
+    let every = every.expect(rt, "memory");
+    let explained = if options.explain {
+        "explained"
+    } else {
+        "plain"
+    };
+    format!(in rt.alloc(); "{} {every} {explained}", options.shards).expect(rt, "memory")
 }
 
-/// The words before the bar ask for the options behind it, and for the file behind the second bar, if one stands there.
-fn asks_so(rt: &impl Abort, alloc: Global, line: &str) -> Result<(), Fail> {
-    let (words, wanted) = line.split_once('|').ok_or("options are wanted")?;
-    let (options, file) = wanted.split_once('|').ok_or("a file is wanted")?;
-    let words = words_of(alloc, words)?;
-    let settings = settings_of(alloc, words.as_slice())?;
+/// The words before the bar ask for the options behind it, and for the files behind the second bar.
+fn asks_so(rt: &impl Host, row: &str) {
+    let (line, wanted) = halves(rt, row);
+    let (options, files) = halves(rt, wanted);
+    let words = words_of(rt, line);
+    let settings = settings_of(rt.alloc(), words.as_slice())
+        .ok()
+        .expect(rt, "settings");
+    assert_eq!(rt; settings.options.limit, PLAIN.limit);
     assert_eq!(rt;
-        settings.options,
-        options_of(rt, options.trim())?,
-        "at {line}"
+        options_told(rt, settings.options).as_str(),
+        options,
+        "at {row}"
     );
-    assert!(rt;
-        settings
-            .files
-            .iter()
-            .copied()
-            .eq(file.split_ascii_whitespace()),
-        "at {line}"
-    );
-    Ok(())
+    let named = settings.files.iter().copied();
+    assert!(rt; named.eq(files.split_ascii_whitespace()), "at {row}");
 }
 
 const ASKED: &str = "
@@ -204,112 +128,88 @@ const ASKED: &str = "
     check --shards=16 | 16 - plain |";
 
 #[test]
-fn what_words_ask_for(rt: HostRuntime) -> Result<(), Fail> {
-    for line in ASKED.trim().lines() {
-        asks_so(&rt, rt.alloc(), line)?;
+fn what_words_ask_for(rt: HostRuntime) {
+    for row in ASKED.trim().lines() {
+        asks_so(&rt, row);
     }
-    Ok(())
 }
 
 #[test]
 fn nine_files_are_too_many(rt: HostRuntime) {
-    let words = [
-        "sicheck", "check", "a", "b", "c", "d", "e", "f", "g", "h", "a",
-    ];
+    let words = words_of(&rt, "check a b c d e f g h a");
     let nine = settings_of(rt.alloc(), words.as_slice());
     assert!(rt; matches!(nine, Err(SettingsFault::TooManyFiles)));
 }
 
 #[test]
-fn a_fault_of_words_is_printed(rt: HostRuntime) -> Result<(), Fail> {
-    let alloc = rt.alloc();
-    let text = format!(in alloc; "{}", SettingsFault::TooManyFiles)?;
+fn a_fault_of_words_is_printed(rt: HostRuntime) {
+    let text = format!(in rt.alloc(); "{}", SettingsFault::TooManyFiles).expect(&rt, "memory");
     assert_eq!(rt; text.as_str(), "too many files");
-    Ok(())
 }
 
 #[test]
 fn statuses(rt: HostRuntime) {
-    assert_eq!(rt; ExitStatus::Clean.code(), 0);
-    assert_eq!(rt; ExitStatus::Open.code(), 10);
-    assert_eq!(rt; ExitStatus::Violation.code(), 20);
+    let codes = [
+        ExitStatus::Clean.code(),
+        ExitStatus::Open.code(),
+        ExitStatus::Violation.code(),
+    ];
+    assert_eq!(rt; codes, [0, 10, 20]);
+}
+
+/// Lines that are read whole.
+fn source(rt: &impl Host) -> MemorySource
+    ensures { ⟦<MemorySource as ByteSource>⟧.failed result ≡ false }
+{
+    MemorySource::new(bytes_of(rt, LOST_UPDATE), 4096)
+}
+
+/// A run whose first read fails tells that, and writes nothing.
+fn a_run_cannot_read(rt: &impl Host) {
+    let mut input = FailingSource::new(source(rt), 0);
+    let mut out = MemorySink::new(rt.alloc(), 4096);
+    let ended = ended(rt, &mut input, &mut out, PLAIN);
+    assert_eq!(rt; ended.err(), Some(RunFault::Input(0)));
+    is_text(rt, out.as_slice(), "");
+}
+
+/// A run whose first write fails tells that.
+fn a_run_cannot_write(rt: &impl Host) {
+    let mut input = source(rt);
+    let mut out = FailingSink::new(MemorySink::new(rt.alloc(), 4096), 0);
+    let ended = ended(rt, &mut input, &mut out, PLAIN);
+    assert_eq!(rt; ended.err(), Some(RunFault::Output));
 }
 
 #[test]
-fn failing_devices(rt: HostRuntime) -> Result<(), Fail> {
-    let alloc = rt.alloc();
-    let mut input = FailingSource::new(source(alloc)?, 0);
-    let mut out = MemorySink::new(alloc, 4096);
-    assert_eq!(rt;
-        run(
-            &rt,
-            alloc,
-            RandomState::new(&rt)?,
-            slice::from_mut(&mut input),
-            &mut out,
-            PLAIN
-        )
-        .err(),
-        Some(RunFault::Input(0))
-    );
-    assert!(rt; out.as_slice().is_empty());
-    let mut input = source(alloc)?;
-    let mut out = FailingSink::new(MemorySink::new(alloc, 4096), 0);
-    assert_eq!(rt;
-        run(
-            &rt,
-            alloc,
-            RandomState::new(&rt)?,
-            slice::from_mut(&mut input),
-            &mut out,
-            PLAIN
-        )
-        .err(),
-        Some(RunFault::Output)
-    );
-    Ok(())
+fn failing_devices(rt: HostRuntime) {
+    a_run_cannot_read(&rt);
+    a_run_cannot_write(&rt);
+}
+
+const CHECK: [&str; 2] = ["sicheck", "check"];
+
+fn the_program_cannot_read<H: Host, F: NamedFiles>(rt: &H, files: &F) {
+    let mut input = FailingSource::new(source(rt), 0);
+    let mut out = MemorySink::new(rt.alloc(), 4096);
+    let mut err = MemorySink::new(rt.alloc(), 4096);
+    let status = answer(rt, files, CHECK.as_slice(), &mut input, &mut out, &mut err);
+    assert_eq!(rt; status, 2);
+    is_text(rt, err.as_slice(), "sicheck: cannot read source 0\n");
+}
+
+fn the_program_cannot_write<H: Host, F: NamedFiles>(rt: &H, files: &F) {
+    let mut input = source(rt);
+    let mut out = FailingSink::new(MemorySink::new(rt.alloc(), 4096), 0);
+    let mut err = MemorySink::new(rt.alloc(), 4096);
+    let status = answer(rt, files, CHECK.as_slice(), &mut input, &mut out, &mut err);
+    assert_eq!(rt; status, 2);
+    is_text(rt, err.as_slice(), "sicheck: cannot write\n");
 }
 
 #[test]
-fn faults_in_words(rt: HostRuntime) -> Result<(), Fail> {
-    let alloc = rt.alloc();
-    let mut input = FailingSource::new(source(alloc)?, 0);
-    let mut out = MemorySink::new(alloc, 4096);
-    let mut err = MemorySink::new(alloc, 4096);
-    let words = ["sicheck", "check"];
-    assert_eq!(rt;
-        main_with(
-            &rt,
-            &StdFiles::new(&rt),
-            alloc,
-            RandomState::new(&rt)?,
-            words.as_slice(),
-            &mut input,
-            &mut out,
-            &mut err
-        ),
-        2
-    );
-    assert_eq!(rt;
-        err.as_slice(),
-        b"sicheck: cannot read source 0\n".as_slice()
-    );
-    let mut input = source(alloc)?;
-    let mut out = FailingSink::new(MemorySink::new(alloc, 4096), 0);
-    let mut err = MemorySink::new(alloc, 4096);
-    assert_eq!(rt;
-        main_with(
-            &rt,
-            &StdFiles::new(&rt),
-            alloc,
-            RandomState::new(&rt)?,
-            words.as_slice(),
-            &mut input,
-            &mut out,
-            &mut err
-        ),
-        2
-    );
-    assert_eq!(rt; err.as_slice(), b"sicheck: cannot write\n".as_slice());
-    Ok(())
+fn faults_in_words(rt: HostRuntime) {
+    let files = StdFiles::new(&rt);
+    the_program_cannot_read(&rt, &files);
+    the_program_cannot_write(&rt, &files);
 }

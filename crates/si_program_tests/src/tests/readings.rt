@@ -1,71 +1,52 @@
-use si_model::{Edit, Key, Op, Ops, Outcome, Stamp, Status, Txn, TxnId, Value};
+use super::{Host, bytes_of, halves, repeated};
+use si_model::{Edit, TxnId};
+use si_scripts::edit_of;
 use si_text::{Field, LineFault, read_edit};
-use std::alloc::{AllocError, Global};
-use std::process::Abort;
-use std::test::Fail;
 
 /// A transaction that reads x before any write of it and writes 5.
 const LINE: &str =
     "{\"do\":\"txn\",\"id\":7,\"start\":10,\"status\":\"committed\",\"commit\":20,\"ops\":[[\"r\",\"x\",null],[\"w\",\"x\",5]]}";
 
-/// The edit of that line.
-fn line_edit(alloc: Global) -> Result<Edit, AllocError> {
-    let mut ops = Vec::new(alloc);
-    ops.push(Op::Read(Key::new(alloc, "x")?, None))?;
-    ops.push(Op::Write(Key::new(alloc, "x")?, Value(5)))?;
-    Ok(Edit::Arrive(Txn {
-        id: TxnId(7),
-        start: Stamp(10),
-        status: Status::Committed(Stamp(20)),
-        ops: Ops::from_vec(ops)?,
-    }))
-}
+/// The edit of that line, in words.
+const LINE_EDIT: &str = "arrive 7 10 20 x?null x=5";
 
 /// A line whose transaction has these operations alone.
-fn with_ops(alloc: Global, ops: &str) -> Result<String, AllocError> {
-    format!(in alloc;
+fn with_ops(rt: &impl Host, ops: &str) -> String {
+    format!(in rt.alloc();
         "{{\"do\":\"txn\",\"id\":1,\"start\":2,\"status\":\"aborted\",\"ops\":[{ops}]}}"
-    )
+    ).expect(rt, "memory")
 }
 
+/// The line says the edit of these words.
+fn says(rt: &impl Host, line: &[u8], words: &str) {
+    let wanted = edit_of(rt, words).ok().expect(rt, "an edit in words");
+    assert!(rt; read_edit(rt.alloc(), line) == Ok(wanted), "{words}");
+}
+
+/// The line has this fault, as its variant stands in code.
+fn lacks(rt: &impl Host, line: &[u8], wanted: &str) {
+    let fault = read_edit(rt.alloc(), line).err().expect(rt, "a fault");
+    let told = format!(in rt.alloc(); "{fault:?}").expect(rt, "memory");
+    assert_eq!(rt; told.as_str(), wanted, "of {} bytes", line.len());
+}
+
+const EDITS: &str = "
+    {\"do\":\"withdraw\",\"id\":7,\"note\":1.5} | withdraw 7
+    {\"do\":\"withdraw\",\"id\":7,\"note\":[[[[[[[[[[]]]]]]]]]]} | withdraw 7
+    {\"do\":\"resolve\",\"id\":1,\"status\":\"committed\",\"commit\":3} | resolve 1 3
+    {\"do\":\"resolve\",\"id\":1,\"status\":\"aborted\",\"commit\":\"never\"} | resolve 1 aborted
+    {\"do\":\"setup\",\"key\":\"x\",\"value\":5} | setup x=5
+    {\"value\":0,\"id\":1,\"key\":\"\\u0041\",\"do\":\"setup\"} | setup A=0";
+
 #[test]
-fn lines_that_are_edits(rt: HostRuntime) -> Result<(), Fail> {
-    let alloc = rt.alloc();
-    assert_eq!(rt; read_edit(alloc, LINE.as_bytes()), Ok(line_edit(alloc)?));
-    let rows = [
-        (
-            "{\"do\":\"withdraw\",\"id\":7,\"note\":1.5}",
-            Edit::Withdraw(TxnId(7)),
-        ),
-        (
-            "{\"do\":\"withdraw\",\"id\":7,\"note\":[[[[[[[[[[]]]]]]]]]]}",
-            Edit::Withdraw(TxnId(7)),
-        ),
-        (
-            "{\"do\":\"withdraw\",\"id\":18446744073709551615}\r",
-            Edit::Withdraw(TxnId(18_446_744_073_709_551_615)),
-        ),
-        (
-            "{\"do\":\"resolve\",\"id\":1,\"status\":\"committed\",\"commit\":3}",
-            Edit::Resolve(TxnId(1), Outcome::Committed(Stamp(3))),
-        ),
-        (
-            "{\"do\":\"resolve\",\"id\":1,\"status\":\"aborted\",\"commit\":\"never\"}",
-            Edit::Resolve(TxnId(1), Outcome::Aborted),
-        ),
-        (
-            "{\"do\":\"setup\",\"key\":\"x\",\"value\":5}",
-            Edit::SetUp(Key::new(alloc, "x")?, Value(5)),
-        ),
-        (
-            "{\"value\":0,\"id\":1,\"key\":\"\\u0041\",\"do\":\"setup\"}",
-            Edit::SetUp(Key::new(alloc, "A")?, Value(0)),
-        ),
-    ];
-    for (line, edit) in rows {
-        assert_eq!(rt; read_edit(alloc, line.as_bytes()), Ok(edit), "{line}");
+fn lines_that_are_edits(rt: HostRuntime) {
+    says(&rt, LINE.as_bytes(), LINE_EDIT);
+    for row in EDITS.trim().lines() {
+        let (line, words) = halves(&rt, row);
+        says(&rt, line.as_bytes(), words);
     }
-    Ok(())
+    let line = b"{\"do\":\"withdraw\",\"id\":18446744073709551615}\r";
+    says(&rt, line, "withdraw 18446744073709551615");
 }
 
 /// Lines, and the fault of each as its variant stands in code.
@@ -92,119 +73,101 @@ const FAULTY: &str = "
     {\"do\":\"setup\",\"key\":\"x\"} | BadField(Value)
     {\"do\":\"setup\",\"key\":\"x\",\"value\":null} | BadField(Value)";
 
-fn is_faulty(rt: &impl Abort, alloc: Global, row: &str) -> Result<(), Fail> {
-    let (line, wanted) = row.split_once('|').ok_or("a fault is wanted")?;
-    match read_edit(alloc, line.trim().as_bytes()) {
-        Ok(_) => panic!(rt; "no fault: {row}"),
-        Err(fault) => {
-            let told = format!(in alloc; "{fault:?}")?;
-            assert_eq!(rt; told.as_str(), wanted.trim(), "at {row}");
-        }
-    }
-    Ok(())
-}
-
 #[test]
-fn lines_that_are_faulty(rt: HostRuntime) -> Result<(), Fail> {
+fn lines_that_are_faulty(rt: HostRuntime) {
     for row in FAULTY.trim().lines() {
-        is_faulty(&rt, rt.alloc(), row)?;
+        let (line, wanted) = halves(&rt, row);
+        lacks(&rt, line.as_bytes(), wanted);
     }
-    Ok(())
 }
 
+/// Operations, and the fault of their line.
+const FAULTY_OPS: &str = "
+    [\"r\",\"x\",null],[\"w\",\"x\",null] | BadOp(1)
+    [\"r\",\"\",null] | BadOp(0)
+    [\"r\",\"x\",1,2] | BadOp(0)
+    [\"r\",\"x\"] | BadOp(0)
+    [\"r\",\"x\",-1] | BadOp(0)
+    [\"w\",\"x\",1],[\"w\",\"y\",1],[\"d\",\"x\",1] | BadOp(2)
+    7 | BadOp(0)";
+
 #[test]
-fn operations_that_are_faulty(rt: HostRuntime) -> Result<(), Fail> {
-    let alloc = rt.alloc();
-    let rows = [
-        ("[\"r\",\"x\",null],[\"w\",\"x\",null]", 1),
-        ("[\"r\",\"\",null]", 0),
-        ("[\"r\",\"x\",1,2]", 0),
-        ("[\"r\",\"x\"]", 0),
-        ("[\"r\",\"x\",-1]", 0),
-        ("[\"w\",\"x\",1],[\"w\",\"y\",1],[\"d\",\"x\",1]", 2),
-        ("7", 0),
-    ];
-    for (ops, index) in rows {
-        let line = with_ops(alloc, ops)?;
-        assert_eq!(rt;
-            read_edit(alloc, line.as_bytes()),
-            Err(LineFault::BadOp(index)),
-            "{ops}"
-        );
+fn operations_that_are_faulty(rt: HostRuntime) {
+    for row in FAULTY_OPS.trim().lines() {
+        let (ops, wanted) = halves(&rt, row);
+        lacks(&rt, with_ops(&rt, ops).as_bytes(), wanted);
     }
     let utf8 =
         b"{\"do\":\"txn\",\"id\":1,\"start\":2,\"status\":\"aborted\",\"ops\":[[\"r\",\"\xff\",null]]}";
-    assert_eq!(rt; read_edit(alloc, utf8), Err(LineFault::NotJson));
-    Ok(())
+    lacks(&rt, utf8, "NotJson");
 }
 
 /// Each beginning of a line that is shorter than the line is no JSON.
 #[test]
 fn lines_that_are_cut_short(rt: HostRuntime) {
     for (end, _) in LINE.as_bytes().iter().enumerate() {
-        let line = &LINE.as_bytes()[..end];
-        assert_eq!(rt;
-            read_edit(rt.alloc(), line),
-            Err(LineFault::NotJson),
-            "at {end}"
-        );
+        lacks(&rt, &LINE.as_bytes()[..end], "NotJson");
     }
 }
 
-#[test]
-fn lengths_at_their_limits(rt: HostRuntime) -> Result<(), Fail> {
-    let alloc = rt.alloc();
-    let mut line = Vec::from_slice(alloc, LINE.as_bytes())?;
-    line.resize(1_048_576, b' ')?;
-    assert_eq!(rt; read_edit(alloc, &line), Ok(line_edit(alloc)?));
-    line.push(b' ')?;
-    assert_eq!(rt; read_edit(alloc, &line), Err(LineFault::TooLong));
+/// A line as long as a line may be, and one that is longer.
+fn long_lines(rt: &impl Host) {
+    let mut line = bytes_of(rt, LINE);
+    line.resize(1_048_576, b' ').expect(rt, "memory");
+    says(rt, line.as_slice(), LINE_EDIT);
+    line.push(b' ').expect(rt, "memory");
+    lacks(rt, line.as_slice(), "TooLong");
+}
 
-    let mut key = String::new(alloc);
-    for _ in 0..128 {
-        key.push('k')?;
-    }
-    let longest = format!(in alloc; "[\"w\",\"{key}\",1]")?;
-    assert!(rt; read_edit(alloc, with_ops(alloc, &longest)?.as_bytes()).is_ok());
-    let longer = format!(in alloc; "[\"w\",\"{key}k\",1]")?;
-    assert_eq!(rt;
-        read_edit(alloc, with_ops(alloc, &longer)?.as_bytes()),
-        Err(LineFault::BadOp(0))
-    );
-    Ok(())
+/// A line that writes the key.
+fn with_key(rt: &impl Host, key: &str) -> String {
+    let ops = format!(in rt.alloc(); "[\"w\",\"{key}\",1]").expect(rt, "memory");
+    with_ops(rt, ops.as_str())
+}
+
+/// Whether the line says an edit.
+fn is_edit(rt: &impl Host, line: &str) -> bool {
+    read_edit(rt.alloc(), line.as_bytes()).is_ok()
 }
 
 #[test]
-fn numbers_of_operations_at_their_limit(rt: HostRuntime) -> Result<(), Fail> {
-    let alloc = rt.alloc();
-    let mut ops = String::from_str(alloc, "[\"r\",\"x\",null]")?;
-    for _ in 1..4096 {
-        ops.push_str(",[\"r\",\"x\",null]")?;
-    }
-    assert!(rt; read_edit(alloc, with_ops(alloc, &ops)?.as_bytes()).is_ok());
-    ops.push_str(",7")?;
-    assert_eq!(rt;
-        read_edit(alloc, with_ops(alloc, &ops)?.as_bytes()),
-        Err(LineFault::TooManyOps)
-    );
-    Ok(())
+fn lengths_at_their_limits(rt: HostRuntime) {
+    long_lines(&rt);
+    let longest = with_key(&rt, repeated(&rt, "k", 128).as_str());
+    assert!(rt; is_edit(&rt, longest.as_str()));
+    let longer = with_key(&rt, repeated(&rt, "k", 129).as_str());
+    lacks(&rt, longer.as_bytes(), "BadOp(0)");
+}
+
+/// A line of so many reads, and something behind them.
+fn with_reads(rt: &impl Host, count: usize, end: &str) -> String {
+    let first = repeated(rt, "[\"r\",\"x\",null],", count);
+    let ops = format!(in rt.alloc(); "{first}{end}").expect(rt, "memory");
+    with_ops(rt, ops.as_str())
+}
+
+#[test]
+fn numbers_of_operations_at_their_limit(rt: HostRuntime) {
+    let most = with_reads(&rt, 4095, "[\"r\",\"x\",null]");
+    assert!(rt; is_edit(&rt, most.as_str()));
+    let more = with_reads(&rt, 4096, "7");
+    lacks(&rt, more.as_bytes(), "TooManyOps");
 }
 
 /// A value that nests deeper than is read is no JSON.
 #[test]
-fn values_that_nest_deep(rt: HostRuntime) -> Result<(), Fail> {
-    let alloc = rt.alloc();
-    let mut line = String::from_str(alloc, "{\"do\":\"withdraw\",\"id\":7,\"note\":")?;
-    for _ in 0..200 {
-        line.push('[')?;
-    }
-    for _ in 0..200 {
-        line.push(']')?;
-    }
-    line.push('}')?;
-    let answer = read_edit(alloc, line.as_bytes());
-    assert!(rt; answer == Err(LineFault::NotJson) || answer == Ok(Edit::Withdraw(TxnId(7))));
-    Ok(())
+fn values_that_nest_deep(rt: HostRuntime) {
+    let (open, close) = (repeated(&rt, "[", 200), repeated(&rt, "]", 200));
+    let line = format!(in rt.alloc();
+        "{{\"do\":\"withdraw\",\"id\":7,\"note\":{open}{close}}}"
+    ).expect(&rt, "memory");
+    let answer = read_edit(rt.alloc(), line.as_bytes());
+    assert!(rt;
+        matches!(
+            answer,
+            Err(LineFault::NotJson) | Ok(Edit::Withdraw(TxnId(7)))
+        )
+    );
 }
 
 #[test]

@@ -1,16 +1,16 @@
 //! Reads and writes that fail at each place.
 
-use super::{DOUBT, PLAIN, RESOLUTION, RESOLVED, UNRESOLVED};
+use super::{DOUBT, Host, PLAIN, RESOLUTION, RESOLVED, RunEnd, UNRESOLVED};
 use si_run::{ExitStatus, RunFault, run};
 use si_text::memory::{FailingSink, FailingSource, MemorySink, MemorySource};
-use std::alloc::Global;
 use std::hash::RandomState;
-use std::process::Abort;
-use std::random::RandomSource;
 use std::slice;
-use std::sync::Wait;
-use std::test::Fail;
-use std::thread::Threads;
+
+/// The bytes of the text, in pieces of that size.
+fn source(rt: &impl Host, text: &str, piece: usize) -> MemorySource {
+    let bytes = Vec::from_slice(rt.alloc(), text.as_bytes()).expect(rt, "memory");
+    MemorySource::new(bytes, piece.max(1))
+}
 
 /// A value that is written twice, with a withdrawal between.
 const AGAIN: &str =
@@ -23,55 +23,51 @@ const AGAIN: &str =
 const AGAIN_TEXT: &str =
     "refused source=0 line=2 code=18 reason=value-taken op=0 holder=1\ntransactions=1 findings=0 refused=1 verdict=clean\n";
 
-#[test]
-fn each_write_fails(rt: HostRuntime) -> Result<(), Fail> {
-    let alloc = rt.alloc();
-    let text = AGAIN_TEXT.as_bytes();
-    for writes in 0..text.len() {
-        let bytes = Vec::from_slice(alloc, AGAIN.as_bytes())?;
-        let mut input = MemorySource::new(bytes, 4096);
-        let mut out = MemorySink::new(alloc, 1);
-        let mut failing = FailingSink::new(&mut out, writes as u64);
-        let hash = RandomState::new(&rt)?;
-        let inputs = slice::from_mut(&mut input);
-        let ended = run(&rt, alloc, hash, inputs, &mut failing, PLAIN);
-        assert_eq!(rt; ended, Err(RunFault::Output));
-        assert_eq!(rt; Some(out.as_slice()), text.get(..writes));
-    }
-    Ok(())
+/// How a run ends that writes a byte at once, of which so many writes don't fail.
+fn ended_writing(rt: &impl Host, writes: usize) -> RunEnd {
+    let mut input = source(rt, AGAIN, 4096);
+    let mut out = MemorySink::new(rt.alloc(), 1);
+    let mut failing = FailingSink::new(&mut out, writes as u64);
+    let hash = RandomState::new(rt).expect(rt, "a secret key");
+    let inputs = slice::from_mut(&mut input);
+    let status = run(rt, rt.alloc(), hash, inputs, &mut failing, PLAIN);
+    RunEnd { status, out }
 }
 
-/// How a run over the two texts ends, which are given by a byte a read, the second one by so many good reads, with what it wrote.
-fn ended<R: Abort + RandomSource + Threads + Wait + Sync>(
-    rt: &R,
-    alloc: Global,
-    reads: u64,
-) -> Result<(Result<ExitStatus, RunFault>, MemorySink), Fail> {
-    let first = MemorySource::new(Vec::from_slice(alloc, DOUBT.as_bytes())?, 1);
-    let second = MemorySource::new(Vec::from_slice(alloc, RESOLUTION.as_bytes())?, 1);
+#[test]
+fn each_write_fails(rt: HostRuntime) {
+    let text = AGAIN_TEXT.as_bytes();
+    for writes in 0..text.len() {
+        let ended = ended_writing(&rt, writes);
+        assert_eq!(rt; ended.status, Err(RunFault::Output));
+        assert_eq!(rt; Some(ended.out.as_slice()), text.get(..writes));
+    }
+}
+
+/// How a run over the two texts ends, which are given by a byte a read, the second one by so many good reads.
+fn ended_reading(rt: &impl Host, reads: usize) -> RunEnd {
     let mut inputs = [
-        FailingSource::new(first, u64::MAX),
-        FailingSource::new(second, reads),
+        FailingSource::new(source(rt, DOUBT, 1), u64::MAX),
+        FailingSource::new(source(rt, RESOLUTION, 1), reads as u64),
     ];
-    let mut out = MemorySink::new(alloc, 4096);
-    let hash = RandomState::new(rt)?;
-    let ended = run(rt, alloc, hash, inputs.as_mut_slice(), &mut out, PLAIN);
-    Ok((ended, out))
+    let mut out = MemorySink::new(rt.alloc(), 4096);
+    let hash = RandomState::new(rt).expect(rt, "a secret key");
+    let inputs = inputs.as_mut_slice();
+    let status = run(rt, rt.alloc(), hash, inputs, &mut out, PLAIN);
+    RunEnd { status, out }
 }
 
 /// One read finds the end.
 #[test]
-fn each_read_of_the_second_source_fails(rt: HostRuntime) -> Result<(), Fail> {
-    let alloc = rt.alloc();
+fn each_read_of_the_second_source_fails(rt: HostRuntime) {
     for reads in 0..RESOLUTION.len() {
-        let (ended, out) = ended(&rt, alloc, reads as u64)?;
-        assert_eq!(rt; ended, Err(RunFault::Input(1)));
-        let text = out.as_slice();
+        let ended = ended_reading(&rt, reads);
+        assert_eq!(rt; ended.status, Err(RunFault::Input(1)));
+        let text = ended.out.as_slice();
         assert!(rt;
             RESOLVED.as_bytes().starts_with(text) || UNRESOLVED.as_bytes().starts_with(text)
         );
     }
-    let (ended, _out) = ended(&rt, alloc, 1_000)?;
-    assert!(rt; ended == Ok(ExitStatus::Clean) || ended == Ok(ExitStatus::Open));
-    Ok(())
+    let status = ended_reading(&rt, 1_000).status;
+    assert!(rt; status == Ok(ExitStatus::Clean) || status == Ok(ExitStatus::Open));
 }

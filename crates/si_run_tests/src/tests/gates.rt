@@ -1,18 +1,10 @@
 //! Threads that are held until others have come somewhere: each is a thread of its own.
 
-use super::{DOUBT, PLAIN, RESOLUTION, RESOLVED, UNRESOLVED, sources_of};
+use super::{DOUBT, Host, PLAIN, RESOLUTION, ended_gated, is_resolved_or_not};
 use si_model::Number;
-use si_run::{ExitStatus, Gate, Options, Place, RunFault, run_gated};
-use si_text::memory::MemorySink;
-use std::alloc::Global;
-use std::hash::RandomState;
-use std::process::Abort;
-use std::random::RandomSource;
-use std::sync::Wait;
+use si_run::{ExitStatus, Gate, Options, Place};
 use std::sync::atomic::{AtomicU64, Ordering};
-use std::test::Fail;
 use std::thread;
-use std::thread::Threads;
 
 /// How often a held thread looks before it gives up.
 const MOST_TURNS: u64 = 1_000_000;
@@ -103,45 +95,19 @@ impl Gate for OnePublished {
     }
 }
 
-/// How a run over these texts ends, with what it wrote.
-fn ended<R: Abort + RandomSource + Threads + Wait + Sync, G: Gate + Sync>(
-    rt: &R,
-    alloc: Global,
-    texts: &[&str],
-    options: Options,
-    gate: &G,
-) -> Result<(Result<ExitStatus, RunFault>, MemorySink), Fail> {
-    let mut inputs = sources_of(alloc, texts, 4096)?;
-    assert!(rt; 1 <= inputs.len() && inputs.len() <= 8);
-    let mut out = MemorySink::new(alloc, 4096);
-    let hash = RandomState::new(rt)?;
-    let ended = run_gated(
-        rt,
-        alloc,
-        hash,
-        inputs.as_mut_slice(),
-        &mut out,
-        options,
-        gate,
-    );
-    Ok((ended, out))
+/// Nobody gave up, and that was told.
+fn was_told(rt: &impl Host, told: &Told, word: &AtomicU64) {
+    assert_eq!(rt; told.gave_up.load(Ordering::SeqCst), 0);
+    assert_eq!(rt; word.load(Ordering::SeqCst), 1);
 }
 
 #[test]
-fn both_sources_are_held(rt: HostRuntime) -> Result<(), Fail> {
+fn both_sources_are_held(rt: HostRuntime) {
     let gate = BothPut(Told::new());
     let texts = [DOUBT, RESOLUTION];
-    let (ended, out) = ended(&rt, rt.alloc(), texts.as_slice(), PLAIN, &gate)?;
-    assert_eq!(rt; gate.0.gave_up.load(Ordering::SeqCst), 0);
-    assert_eq!(rt; gate.0.first.load(Ordering::SeqCst), 1);
-    let text = if ended == Ok(ExitStatus::Clean) {
-        RESOLVED
-    } else {
-        UNRESOLVED
-    };
-    assert!(rt; ended == Ok(ExitStatus::Clean) || ended == Ok(ExitStatus::Open));
-    assert_eq!(rt; out.as_slice(), text.as_bytes());
-    Ok(())
+    let ended = ended_gated(&rt, texts.as_slice(), (4096, 4096), PLAIN, &gate);
+    was_told(&rt, &gate.0, &gate.0.first);
+    is_resolved_or_not(&rt, &ended);
 }
 
 const PAIR: &str =
@@ -149,34 +115,33 @@ const PAIR: &str =
 {\"do\":\"txn\",\"id\":2,\"start\":3,\"status\":\"committed\",\"commit\":4,\"ops\":[[\"r\",\"x\",1]]}
 ";
 
+/// A run over the pair is clean, and writes this text.
+fn is_clean<R: Host, G: Gate + Sync>(rt: &R, options: Options, gate: &G, text: &str) {
+    let ended = ended_gated(rt, [PAIR].as_slice(), (4096, 4096), options, gate);
+    assert_eq!(rt; ended.status, Ok(ExitStatus::Clean));
+    assert_eq!(rt; ended.out.as_slice(), text.as_bytes());
+}
+
 const CLEAN: &str = "transactions=2 findings=0 refused=0 verdict=clean\n";
 
 #[test]
-fn both_workers_are_held(rt: HostRuntime) -> Result<(), Fail> {
+fn both_workers_are_held(rt: HostRuntime) {
     let gate = BothApply(Told::new());
-    let options = Options { shards: 2, ..PLAIN };
-    let (ended, out) = ended(&rt, rt.alloc(), [PAIR].as_slice(), options, &gate)?;
-    assert_eq!(rt; gate.0.gave_up.load(Ordering::SeqCst), 0);
-    assert_eq!(rt; gate.0.second.load(Ordering::SeqCst), 1);
-    assert_eq!(rt; ended, Ok(ExitStatus::Clean));
-    assert_eq!(rt; out.as_slice(), CLEAN.as_bytes());
-    Ok(())
+    is_clean(&rt, Options { shards: 2, ..PLAIN }, &gate, CLEAN);
+    was_told(&rt, &gate.0, &gate.0.second);
 }
 
+const TWICE: &str =
+    "transactions=2 findings=0 refused=0 verdict=clean\ntransactions=2 findings=0 refused=0 verdict=clean\n";
+
 #[test]
-fn workers_run_beside_reports_on_the_way(rt: HostRuntime) -> Result<(), Fail> {
-    let alloc = rt.alloc();
+fn workers_run_beside_reports_on_the_way(rt: HostRuntime) {
     let gate = OnePublished(Told::new());
     let options = Options {
         shards: 1,
         every: Some(2),
         ..PLAIN
     };
-    let (ended, out) = ended(&rt, alloc, [PAIR].as_slice(), options, &gate)?;
-    assert_eq!(rt; gate.0.gave_up.load(Ordering::SeqCst), 0);
-    assert_eq!(rt; gate.0.first.load(Ordering::SeqCst), 1);
-    assert_eq!(rt; ended, Ok(ExitStatus::Clean));
-    let twice = format!(in alloc; "{CLEAN}{CLEAN}")?;
-    assert_eq!(rt; out.as_slice(), twice.as_bytes());
-    Ok(())
+    is_clean(&rt, options, &gate, TWICE);
+    was_told(&rt, &gate.0, &gate.0.first);
 }

@@ -1,16 +1,10 @@
 //! The order in which items are decided, as the gate tells it, and the text of one source that has their lines in that order.
 
-use super::sources_of;
-use si_run::{Gate, Options, Place, run, run_gated};
-use si_text::memory::{MemorySink, MemorySource};
-use std::alloc::Global;
-use std::hash::RandomState;
-use std::process::Abort;
-use std::random::RandomSource;
+use super::{Host, ended, ended_gated};
+use si_run::{Gate, Options, Place};
+use si_text::memory::MemorySink;
+use std::mem;
 use std::sync::{Mutex, Wait};
-use std::test::Fail;
-use std::thread::Threads;
-use std::{mem, slice};
 
 /// The source and the line of an item.
 type Decided = (usize, u64);
@@ -41,39 +35,26 @@ impl<'a, R: Wait> Gate for Noting<'a, R> {
     }
 }
 
-/// The text of a run over these texts, and the order in which their lines were decided.
-fn run_noted<R: Abort + RandomSource + Threads + Wait + Sync>(
-    rt: &R,
-    alloc: Global,
-    texts: &[&str],
-    options: Options,
-) -> Result<(MemorySink, Vec<Decided>), Fail> {
-    let mut inputs = sources_of(alloc, texts, 50)?;
-    assert!(rt; 1 <= inputs.len() && inputs.len() <= 8);
-    let mut out = MemorySink::new(alloc, 100);
-    let hash = RandomState::new(rt)?;
-    let gate = Noting {
-        rt,
-        noted: Mutex::new(Noted {
-            items: Vec::new(alloc),
-            is_whole: true,
-        }),
-    };
-    let ended = run_gated(
-        rt,
-        alloc,
-        hash,
-        inputs.as_mut_slice(),
-        &mut out,
-        options,
-        &gate,
-    );
-    assert!(rt; ended.is_ok());
+/// What was noted, of all items.
+fn order_of<R: Host>(rt: &R, gate: &Noting<'_, R>) -> Vec<Decided> {
     let mut guard = gate.noted.lock(rt);
     let noted = &mut *guard;
     assert!(rt; noted.is_whole);
-    let order = mem::replace(&mut noted.items, Vec::new(alloc));
-    Ok((out, order))
+    mem::replace(&mut noted.items, Vec::new(rt.alloc()))
+}
+
+/// The text of a run over these texts, and the order in which their lines were decided.
+fn run_noted<R: Host>(rt: &R, texts: &[&str], options: Options) -> (MemorySink, Vec<Decided>) {
+    let gate = Noting {
+        rt,
+        noted: Mutex::new(Noted {
+            items: Vec::new(rt.alloc()),
+            is_whole: true,
+        }),
+    };
+    let ended = ended_gated(rt, texts, (50, 100), options, &gate);
+    assert!(rt; ended.status.is_ok());
+    (ended.out, order_of(rt, &gate))
 }
 
 /// The line of that number, counted from 1.
@@ -87,96 +68,76 @@ fn line_at(text: &str, number: u64) -> Option<&str> {
 }
 
 /// The lines in that order, as one text.
-fn in_order(alloc: Global, texts: &[&str], order: &[Decided]) -> Result<String, Fail> {
-    let mut all = String::new(alloc);
+fn in_order(rt: &impl Host, texts: &[&str], order: &[Decided]) -> String {
+    let mut all = String::new(rt.alloc());
     for (source, number) in order {
-        let text = texts.get(*source).ok_or("the source is one of them")?;
-        let line = line_at(text, *number).ok_or("the line is one of the source")?;
-        all.push_str(line)?;
-        all.push_str("\n")?;
+        let text = texts.get(*source).expect(rt, "a source");
+        let line = line_at(text, *number).expect(rt, "a line of the source");
+        all.push_str(line).expect(rt, "memory");
+        all.push('\n').expect(rt, "memory");
     }
-    Ok(all)
+    all
 }
 
-/// The text of a run over these lines in that order, as those of one source.
-fn run_one<R: Abort + RandomSource + Threads + Wait + Sync>(
-    rt: &R,
-    alloc: Global,
-    lines: &str,
-    options: Options,
-) -> Result<MemorySink, Fail> {
-    let bytes = Vec::from_slice(alloc, lines.as_bytes())?;
-    let mut input = MemorySource::new(bytes, 4096);
-    let mut out = MemorySink::new(alloc, 4096);
-    let hash = RandomState::new(rt)?;
-    let inputs = slice::from_mut(&mut input);
-    let ended = run(rt, alloc, hash, inputs, &mut out, options);
-    assert!(rt; ended.is_ok());
-    Ok(out)
+/// The line with the source and line of a refused item in place of the place that it has in that order.
+fn row_put_back(rt: &impl Host, row: &str, order: &[Decided]) -> String {
+    let Some(told) = row.strip_prefix("refused source=0 line=") else {
+        return format!(in rt.alloc(); "{row}\n").expect(rt, "memory");
+    };
+    let (place, reason) = told.split_once(' ').expect(rt, "a reason");
+    let place = place.parse::<usize>().ok().expect(rt, "a number");
+    let (source, line) = order
+        .get(place.wrapping_sub(1))
+        .expect(rt, "one of the lines");
+    format!(in rt.alloc(); "refused source={source} line={line} {reason}\n").expect(rt, "memory")
 }
 
-/// The text with the source and line of each refused item in place of the place that it has in that order.
-fn put_back(alloc: Global, text: &str, order: &[Decided]) -> Result<String, Fail> {
-    let mut all = String::new(alloc);
+/// The text with each line put back.
+fn put_back(rt: &impl Host, text: &str, order: &[Decided]) -> String {
+    let mut all = String::new(rt.alloc());
     for row in text.lines() {
-        if let Some(told) = row.strip_prefix("refused source=0 line=") {
-            let (place, reason) = told.split_once(' ').ok_or("a reason is told")?;
-            let place = place.parse::<usize>()?;
-            let (source, line) = order
-                .get(place.wrapping_sub(1))
-                .ok_or("the line is one of them")?;
-            let row = format!(in alloc; "refused source={source} line={line} {reason}\n")?;
-            all.push_str(row.as_str())?;
-        } else {
-            all.push_str(row)?;
-            all.push_str("\n")?;
-        }
+        let row = row_put_back(rt, row, order);
+        all.push_str(row.as_str()).expect(rt, "memory");
     }
-    Ok(all)
+    all
 }
 
-/// The lines of the source were decided in their order, each once; blank ones are left out.
-fn takes_all<R: Abort>(
-    rt: &R,
-    alloc: Global,
-    order: &[Decided],
-    source: usize,
-    text: &str,
-) -> Result<(), Fail> {
-    let mut taken = Vec::new(alloc);
+/// The lines of the source in the order in which they were decided.
+fn lines_decided(rt: &impl Host, order: &[Decided], source: usize) -> Vec<u64> {
+    let mut taken = Vec::new(rt.alloc());
     for (from, line) in order {
         if *from == source {
-            taken.push(*line)?;
+            taken.push(*line).expect(rt, "memory");
         }
     }
-    let mut wanted = Vec::new(alloc);
-    for (at, line) in text.lines().enumerate() {
-        if !line.is_empty() {
-            wanted.push((at as u64).wrapping_add(1))?;
-        }
-    }
-    assert_eq!(rt; taken.as_slice(), wanted.as_slice());
-    Ok(())
+    taken
 }
 
-/// A run over these texts, in which blank lines are empty, decides all their lines, and writes what one source would give that has
-/// them in the order in which they were decided.
-pub fn check_order<R: Abort + RandomSource + Threads + Wait + Sync>(
-    rt: &R,
-    alloc: Global,
-    texts: &[&str],
-    options: Options,
-) -> Result<(), Fail> {
-    let (out, order) = run_noted(rt, alloc, texts, options)?;
-    for (source, text) in texts.iter().enumerate() {
-        takes_all(rt, alloc, order.as_slice(), source, text)?;
+/// The numbers of the lines that aren't blank.
+fn lines_given(rt: &impl Host, text: &str) -> Vec<u64> {
+    let mut wanted = Vec::new(rt.alloc());
+    for (at, line) in text.lines().enumerate() {
+        if !line.is_empty() {
+            wanted
+                .push((at as u64).wrapping_add(1))
+                .expect(rt, "memory");
+        }
     }
-    let lines = in_order(alloc, texts, order.as_slice())?;
-    let one = run_one(rt, alloc, lines.as_str(), options)?;
-    let Ok(text) = str::from_utf8(one.as_slice()) else {
-        return Err(Fail::from("the output is text"));
-    };
-    let wanted = put_back(alloc, text, order.as_slice())?;
+    wanted
+}
+
+/// A run over these texts, in which blank lines are empty, decides all their lines, each once and those of a source in their order,
+/// and writes what one source would give that has them in the order in which they were decided.
+pub fn check_order(rt: &impl Host, texts: &[&str], options: Options) {
+    let (out, order) = run_noted(rt, texts, options);
+    for (source, text) in texts.iter().enumerate() {
+        let decided = lines_decided(rt, order.as_slice(), source);
+        assert_eq!(rt; decided, lines_given(rt, text));
+    }
+    let lines = in_order(rt, texts, order.as_slice());
+    let one = ended(rt, [lines.as_str()].as_slice(), (4096, 4096), options);
+    assert!(rt; one.status.is_ok());
+    let text = str::from_utf8(one.out.as_slice()).expect(rt, "the output is text");
+    let wanted = put_back(rt, text, order.as_slice());
     assert_eq!(rt; out.as_slice(), wanted.as_bytes());
-    Ok(())
 }
