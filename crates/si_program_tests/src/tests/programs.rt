@@ -3,9 +3,13 @@
 ghost use Rattle.std.specs.Prelude.{◌≡◌, false};
 
 use super::{
-    Host, PLAIN, ProgramEnd, answer, bytes_of, ended, halves, is_text, outcome, words_of, writes,
+    Host, PLAIN, ProgramEnd, answer, bytes_of, ended, halves, is_text, outcome, text_of, words_of,
+    writes,
 };
-use si_cli::{ExitStatus, NamedFiles, Options, RunFault, SettingsFault, StdFiles, settings_of};
+use si_cli::{
+    ExitStatus, NamedFiles, Options, RunFault, SettingsFault, StdFiles, main_without_key,
+    settings_of,
+};
 use si_text::ByteSource;
 use si_text::memory::{FailingSink, FailingSource, MemorySink, MemorySource};
 
@@ -212,4 +216,33 @@ fn faults_in_words(rt: HostRuntime) {
     let files = StdFiles::new(&rt);
     the_program_cannot_read(&rt, &files);
     the_program_cannot_write(&rt, &files);
+}
+
+/// With no secret key for the hash maps the program on the words before the bar writes the output behind it, or complains so.
+fn ends_without_key(rt: &impl Host, row: &str) {
+    let (line, wanted) = halves(rt, row);
+    let words = words_of(rt, line);
+    let mut out = MemorySink::new(rt.alloc(), 4096);
+    let mut err = MemorySink::new(rt.alloc(), 4096);
+    let status = main_without_key(rt.alloc(), words.as_slice(), &mut out, &mut err);
+    let said = format!(in rt.alloc();
+        "{status} {}{}",
+        text_of(rt, out.as_slice()),
+        text_of(rt, err.as_slice())
+    )
+    .expect(rt, "memory");
+    assert_eq!(rt; said.as_str().trim(), wanted, "at {row}");
+}
+
+const WITHOUT_KEY: &str = "
+    --version | 0 sicheck 0.1.0
+    check | 2 sicheck: no random bytes for the hash maps
+    check a b | 2 sicheck: no random bytes for the hash maps
+    check a b c d e f g h a | 2 sicheck: too many files";
+
+#[test]
+fn without_a_secret_key(rt: HostRuntime) {
+    for row in WITHOUT_KEY.trim().lines() {
+        ends_without_key(&rt, row);
+    }
 }
