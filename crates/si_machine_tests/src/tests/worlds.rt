@@ -1,6 +1,8 @@
 //! The machine, step by step.
 
 mod drawn;
+mod large;
+mod refused_memory;
 mod rows;
 
 use super::*;

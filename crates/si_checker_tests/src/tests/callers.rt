@@ -1,0 +1,277 @@
+//! Passes, each with its checker.
+//!
+//! The contracts of a checker's calls are long, and each call in a test costs a proof. So each is called here once, by methods
+//! that have no clause: tests look at what they return.
+ghost use Rattle.std.specs.Prelude.{◌≡◌, All};
+
+use super::each_growth::{by_report, by_turns};
+use super::large::{many_edits, many_reads, most_of_all};
+use super::long_runs::long_run;
+use super::threads::{held_shard, left};
+use super::turns::{elsewhere, turns};
+use si_checker::{
+    AcceptFault, Checker, Gate, Name, Parts, Pass, Report, ReportFault, ShardReport, Worked, open,
+};
+use si_model::{Edit, Finding, Kind, Number, OutOfMemory};
+use si_scripts::edit_of;
+use std::alloc::AllocGlobal;
+use std::hash::RandomState;
+use std::marker::Brand;
+use std::process::Abort;
+use std::random::RandomSource;
+use std::sync::Wait;
+use std::thread::Threads;
+
+/// A pass and its checker.
+#[derive(Drop)]
+pub(super) struct Caller<'a, N: Name> {
+    checker: &'a Checker<N>,
+    pass: Pass,
+    ghost own: { pass.table ≡ N.board.table },
+}
+
+impl<'a, N: Name> Caller<'a, N> {
+    fn new(checker: &'a Checker<N>, pass: Pass) -> Self
+        requires { pass.table ≡ N.board.table }
+    {
+        Caller { checker, pass }
+    }
+
+    pub(super) fn checker(&self) -> &'a Checker<N> {
+        self.checker
+    }
+
+    pub(super) fn submit<R: Wait>(&mut self, rt: &R, edit: Edit) -> Result<Number, AcceptFault> {
+        self.checker.submit(rt, &mut self.pass, edit)
+    }
+
+    pub(super) fn settled<R: Wait>(&mut self, rt: &R) -> Result<Report, ReportFault> {
+        self.checker.settled_report(rt, &mut self.pass)
+    }
+
+    /// The edit is accepted, and has this number.
+    pub(super) fn submits<R: Wait + Abort>(&mut self, rt: &R, edit: Edit, number: u64) {
+        match self.submit(rt, edit) {
+            Ok(given) => assert_eq!(rt; given.0, number),
+            Err(_) => panic!(rt; "the edit of number {number} is refused"),
+        }
+    }
+
+    /// The settled report is of so many edits, transactions and set-up values, and finds these.
+    pub(super) fn look<R: Wait + Abort>(
+        &mut self,
+        rt: &R,
+        counts: (u64, usize, usize),
+        kinds: &[Kind],
+    ) {
+        let report = self.settled(rt).expect(rt, "a report");
+        assert_report(rt, &report, counts, kinds);
+    }
+
+    /// The shard's report is of so many edits, and finds these.
+    pub(super) fn look_at_shard<R: Wait + Abort>(
+        &mut self,
+        rt: &R,
+        shard: usize,
+        position: u64,
+        kinds: &[Kind],
+    ) {
+        let report = self.of_shard(rt, shard).expect(rt, "a report");
+        assert_eq!(rt; report.position, position);
+        assert_kinds(rt, &report.findings, kinds);
+    }
+
+    /// Why there is no settled report, if there is none.
+    pub(super) fn fault<R: Wait>(&mut self, rt: &R) -> Option<ReportFault> {
+        match self.settled(rt) {
+            Ok(_) => None,
+            Err(fault) => Some(fault),
+        }
+    }
+
+    pub(super) fn of_shard<R: Wait + Abort>(
+        &mut self,
+        rt: &R,
+        shard: usize,
+    ) -> Result<ShardReport, ReportFault> {
+        assert!(rt; shard < self.checker.shards());
+        self.checker.shard_report(rt, &mut self.pass, shard)
+    }
+
+    pub(super) fn rebuild<R: Wait + Abort>(&self, rt: &R, shard: usize) -> Result<(), OutOfMemory> {
+        assert!(rt; shard < self.checker.shards());
+        self.checker.rebuild(rt, shard)
+    }
+
+    pub(super) fn work_one<R: Wait + Abort, G: Gate>(
+        &self,
+        rt: &R,
+        shard: usize,
+        gate: &G,
+    ) -> Worked {
+        assert!(rt; shard < self.checker.shards());
+        self.checker.work_one(rt, shard, gate)
+    }
+
+    pub(super) fn close<R: Wait>(&mut self, rt: &R) {
+        self.checker.close(rt, &mut self.pass);
+    }
+
+    pub(super) fn issued(&mut self) -> u64 {
+        self.checker.issued(&mut self.pass)
+    }
+
+    pub(super) fn watermark(&mut self) -> u64 {
+        self.checker.watermark(&mut self.pass)
+    }
+
+    pub(super) fn shard_mark<R: Abort>(&mut self, rt: &R, shard: usize) -> u64 {
+        assert!(rt; shard < self.checker.shards());
+        self.checker.shard_mark(&mut self.pass, shard)
+    }
+
+    pub(super) fn is_closed(&mut self) -> bool {
+        self.checker.is_closed(&mut self.pass)
+    }
+}
+
+/// The report is of so many edits, transactions and set-up values, and finds these.
+///
+/// A report is a fat value, and a proof looks at it anew in each call, so this is the one place that compares it.
+pub(super) fn assert_report(
+    rt: &impl Abort,
+    report: &Report,
+    counts: (u64, usize, usize),
+    kinds: &[Kind],
+) {
+    let shown = (report.number, report.present.len(), report.initial.len());
+    assert_eq!(rt; shown, counts);
+    assert_kinds(rt, &report.findings, kinds);
+}
+
+/// The findings are of these kinds, in order.
+pub(super) fn assert_kinds(rt: &impl Abort, findings: &[Finding], kinds: &[Kind]) {
+    assert_eq!(rt; findings.len(), kinds.len());
+    for (finding, kind) in findings.iter().zip(kinds) {
+        assert!(rt; finding.kind == *kind);
+    }
+}
+
+/// A test on a checker that was opened for it.
+#[derive(Clone, Copy)]
+pub(super) enum Row {
+    Turns,
+    Elsewhere,
+    HeldShard,
+    Left,
+    ByReport,
+    ByTurns,
+    ManyEdits,
+    ManyReads,
+    MostOfAll,
+    LongRun,
+}
+
+/// Plays the row on a new checker of so many shards and passes, whose journal takes so many edits.
+///
+/// Where memory is refused before the row begins, another checker is opened.
+pub(super) fn play<R: Threads + Wait + Abort + AllocGlobal + RandomSource + Print + Sync>(
+    rt: &R,
+    counts: (usize, usize, usize),
+    row: Row,
+) {
+    if !was_played(rt, counts, row) {
+        assert!(rt; was_played(rt, counts, row));
+    }
+}
+
+fn was_played<R: Threads + Wait + Abort + AllocGlobal + RandomSource + Print + Sync>(
+    rt: &R,
+    counts: (usize, usize, usize),
+    row: Row,
+) -> bool {
+    let (shards, passes, limit) = counts;
+    let hash = RandomState::new(rt).expect(rt, "random bytes");
+    match open(rt.alloc(), hash, shards, passes, limit) {
+        Ok((parts, passes)) => play_on::<Brand, _>(rt, parts, passes, row),
+        Err(_) => false,
+    }
+}
+
+/// Plays the row on the checker of these parts.
+fn play_on<N: Name + Send + Sync, R: Threads + Wait + Abort + AllocGlobal + Print + Sync>(
+    rt: &R,
+    parts: Parts,
+    passes: Vec<Pass>,
+    row: Row,
+) -> bool
+    requires board { parts.board ≡ N.board }
+    requires limit { parts.limit ≡ N.limit }
+    requires own { All (λ p. p.table ≡ N.board.table) passes.items }
+{
+    let Ok(checker) = Checker::<N>::new(rt.alloc(), parts) else {
+        return false;
+    };
+    match callers_of(rt, &checker, passes) {
+        Some(callers) => {
+            play_with(rt, callers, row);
+            true
+        }
+        None => false,
+    }
+}
+
+fn play_with<N: Name + Send + Sync, R: Threads + Wait + Abort + AllocGlobal + Print + Sync>(
+    rt: &R,
+    callers: Vec<Caller<'_, N>>,
+    row: Row,
+) {
+    match row {
+        Row::Turns => turns(rt, callers),
+        Row::Elsewhere => elsewhere(rt, callers),
+        Row::HeldShard => held_shard(rt, callers),
+        Row::Left => left(rt, callers),
+        Row::ByReport => by_report(rt, callers),
+        Row::ByTurns => by_turns(rt, callers),
+        Row::ManyEdits => many_edits(rt, callers),
+        Row::ManyReads => many_reads(rt, callers),
+        Row::MostOfAll => most_of_all(rt, callers),
+        Row::LongRun => long_run(rt, callers),
+    }
+}
+
+/// A caller for each pass, the last one first, if there is memory for them.
+fn callers_of<'a, N: Name, R: AllocGlobal>(
+    rt: &R,
+    checker: &'a Checker<N>,
+    mut passes: Vec<Pass>,
+) -> Option<Vec<Caller<'a, N>>>
+    requires own { All (λ p. p.table ≡ N.board.table) passes.items }
+{
+    let mut callers = Vec::new(rt.alloc());
+    for _ in 0..passes.len() {
+        let Some(pass) = passes.pop() else {
+            break;
+        };
+        if callers.push(Caller::new(checker, pass)).is_err() {
+            return None;
+        }
+    }
+    Some(callers)
+}
+
+/// The next caller. The first is that of the first pass.
+pub(super) fn next<'a, N: Name, R: Abort>(
+    rt: &R,
+    callers: &mut Vec<Caller<'a, N>>,
+) -> Caller<'a, N> {
+    callers.pop().expect(rt, "a caller")
+}
+
+/// The edit that the words say. Where memory is refused they are read again.
+pub(super) fn edit(rt: &(impl Abort + AllocGlobal), words: &str) -> Edit {
+    match edit_of(rt, words) {
+        Ok(edit) => edit,
+        Err(_) => edit_of(rt, words).expect(rt, "an edit"),
+    }
+}

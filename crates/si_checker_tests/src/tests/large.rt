@@ -1,0 +1,134 @@
+//! More edits, reads, shards and passes than a body that gives up beyond some number would stand.
+
+use super::turns::numbered;
+use super::*;
+
+/// How many edits are applied and then rebuilt.
+const MANY: u64 = 5_000;
+
+/// A transaction of this id that writes to one of 50 keys, and reads there what the one 50 ids before wrote.
+///
+/// The last one reads nothing, though many have written by then.
+fn link(rt: &(impl Abort + AllocGlobal), id: u64) -> Edit {
+    let read = match id {
+        1..=50 | MANY => format!(in rt.alloc(); "null"),
+        _ => format!(in rt.alloc(); "{}", id.saturating_sub(50)),
+    };
+    let read = read.expect(rt, "memory");
+    let key = id % 50;
+    let start = id.saturating_mul(2);
+    let commit = start.saturating_add(1);
+    let words = format!(in rt.alloc(); "arrive {id} {start} {commit} k{key}?{read} k{key}={id}");
+    edit(rt, words.expect(rt, "memory").as_str())
+}
+
+/// The last transaction missed the first version of its key, which 50 wrote.
+fn missed() -> Kind {
+    Kind::Stale {
+        txn: TxnId(MANY),
+        op: 0,
+        read: None,
+        missed: TxnId(50),
+    }
+}
+
+/// Many edits are applied, and rebuilt.
+pub(super) fn many_edits<N: Name, R: Wait + Abort + AllocGlobal>(
+    rt: &R,
+    mut callers: Vec<Caller<'_, N>>,
+) {
+    let mut caller = next(rt, &mut callers);
+    for id in 1..=MANY {
+        caller.submits(rt, link(rt, id), id);
+    }
+    caller.look(rt, (MANY, 5_000, 0), &[missed()]);
+    caller.rebuild(rt, 0).expect(rt, "memory");
+    caller.look(rt, (MANY, 5_000, 0), &[missed()]);
+    caller.submits(rt, edit(rt, "withdraw 5000"), MANY + 1);
+    let worked = caller.work_one(rt, 0, &Open);
+    assert_eq!(rt; worked, Worked::Applied(MANY + 1));
+    caller.look(rt, (MANY + 1, 4_999, 0), &[]);
+}
+
+#[test]
+fn many_edits_are_applied_and_rebuilt(rt: HostRuntime) {
+    play(&rt, (1, 1, 10_000), Row::ManyEdits);
+}
+
+/// A transaction 2 that reads nothing from `x`, 4,000 times.
+fn submit_reads<N: Name, R: Wait + Abort + AllocGlobal>(rt: &R, caller: &mut Caller<'_, N>) {
+    let mut words = String::new(rt.alloc());
+    words.push_str("arrive 2 3 4").expect(rt, "memory");
+    for _ in 0..4_000u64 {
+        words.push_str(" x?null").expect(rt, "memory");
+    }
+    caller.submits(rt, edit(rt, words.as_str()), 2);
+}
+
+/// The stale reads, in order.
+fn stale_reads<R: Abort + AllocGlobal>(rt: &R) -> Vec<Kind> {
+    let mut kinds = Vec::new(rt.alloc());
+    for op in 0..4_000usize {
+        let kind = Kind::Stale {
+            txn: TxnId(2),
+            op,
+            read: None,
+            missed: TxnId(1),
+        };
+        kinds.push(kind).expect(rt, "memory");
+    }
+    kinds
+}
+
+/// Many reads of one key come and go, and so does what they missed.
+pub(super) fn many_reads<N: Name, R: Wait + Abort + AllocGlobal>(
+    rt: &R,
+    mut callers: Vec<Caller<'_, N>>,
+) {
+    let mut caller = next(rt, &mut callers);
+    let stale = stale_reads(rt);
+    caller.submits(rt, edit(rt, "arrive 1 1 2 x=1"), 1);
+    submit_reads(rt, &mut caller);
+    caller.look(rt, (2, 2, 0), &stale);
+    caller.submits(rt, edit(rt, "withdraw 1"), 3);
+    caller.look(rt, (3, 1, 0), &[]);
+    caller.submits(rt, edit(rt, "arrive 1 1 2 x=1"), 4);
+    caller.look(rt, (4, 2, 0), &stale);
+    caller.submits(rt, edit(rt, "withdraw 2"), 5);
+    caller.look(rt, (5, 1, 0), &[]);
+}
+
+#[test]
+fn many_reads_of_one_key_come_and_go(rt: HostRuntime) {
+    play(&rt, (2, 1, 100), Row::ManyReads);
+}
+
+/// As many shards and passes as there may be.
+pub(super) fn most_of_all<N: Name, R: Wait + Abort + AllocGlobal>(
+    rt: &R,
+    mut callers: Vec<Caller<'_, N>>,
+) {
+    assert_eq!(rt; callers.len(), 16);
+    for (caller, id) in callers.iter_mut().zip(1u64..) {
+        caller.submits(rt, numbered(rt, id), id);
+    }
+    let mut first = next(rt, &mut callers);
+    first.look(rt, (16, 16, 0), &[]);
+    for caller in callers.iter_mut() {
+        look_at_words(rt, caller);
+    }
+}
+
+/// Every word says that all 16 edits are issued and applied.
+fn look_at_words<N: Name, R: Wait + Abort>(rt: &R, caller: &mut Caller<'_, N>) {
+    assert!(rt; caller.issued() == 16);
+    assert!(rt; caller.watermark() == 16);
+    for shard in 0..16usize {
+        assert!(rt; caller.shard_mark(rt, shard) == 16);
+    }
+}
+
+#[test]
+fn sixteen_passes_share_sixteen_shards(rt: HostRuntime) {
+    play(&rt, (16, 16, 100), Row::MostOfAll);
+}

@@ -1,0 +1,69 @@
+//! What one caller after another is told.
+
+use super::*;
+
+/// The turns of one worker: what was left for it, 64 edits at a time.
+pub(super) fn turns<N: Name, R: Wait + Abort + AllocGlobal>(
+    rt: &R,
+    mut callers: Vec<Caller<'_, N>>,
+) {
+    let mut caller = next(rt, &mut callers);
+    assert_eq!(rt; caller.work_one(rt, 0, &Open), Worked::Idle);
+    submit_seventy(rt, &mut caller);
+    for wanted in [Worked::Applied(64), Worked::Applied(70), Worked::Idle] {
+        assert_eq!(rt; caller.work_one(rt, 0, &Open), wanted);
+    }
+    caller.close(rt);
+    assert_eq!(rt; caller.work_one(rt, 0, &Open), Worked::Closed);
+}
+
+/// The edit of this id: a transaction that starts at twice the id, commits one stamp later and writes the id to `x`.
+pub(super) fn numbered(rt: &(impl Abort + AllocGlobal), id: u64) -> Edit {
+    let start = id.saturating_mul(2);
+    let words = format!(in rt.alloc(); "arrive {id} {start} {} x={id}", start.saturating_add(1));
+    edit(rt, words.expect(rt, "memory").as_str())
+}
+
+fn submit_seventy<N: Name, R: Wait + Abort + AllocGlobal>(rt: &R, caller: &mut Caller<'_, N>) {
+    for id in 0..70 {
+        caller.submits(rt, numbered(rt, id), id.saturating_add(1));
+    }
+}
+
+#[test]
+fn one_worker_turns_by_turns(rt: HostRuntime) {
+    play(&rt, (1, 1, 100), Row::Turns);
+}
+
+/// A report shows what another thread submitted.
+pub(super) fn elsewhere<N: Name + Send + Sync, R: Threads + Wait + Abort + AllocGlobal + Sync>(
+    rt: &R,
+    mut callers: Vec<Caller<'_, N>>,
+) {
+    let first = next(rt, &mut callers);
+    let mut second = next(rt, &mut callers);
+    submit_elsewhere(rt, first);
+    assert_eq!(rt; second.issued(), 1);
+    let report = second.settled(rt).expect(rt, "a report");
+    assert_eq!(rt; report.present.first().map(|txn| txn.id), Some(TxnId(1)));
+    assert_report(rt, &report, (1, 1, 0), &[]);
+    second.rebuild(rt, 0).expect(rt, "memory");
+    second.look_at_shard(rt, 0, 1, &[]);
+}
+
+/// The edit is accepted on a thread of its own.
+fn submit_elsewhere<N: Name + Send + Sync, R: Threads + Wait + Abort + AllocGlobal + Sync>(
+    rt: &R,
+    caller: Caller<'_, N>,
+) {
+    join(rt, move || submit_one(rt, caller), || ());
+}
+
+fn submit_one<N: Name, R: Wait + Abort + AllocGlobal>(rt: &R, mut caller: Caller<'_, N>) {
+    caller.submits(rt, edit(rt, "arrive 1 1 2 x=1"), 1);
+}
+
+#[test]
+fn a_report_shows_what_another_thread_submitted(rt: HostRuntime) {
+    play(&rt, (1, 2, 10), Row::Elsewhere);
+}

@@ -1,0 +1,57 @@
+//! More edits than a body that gives up beyond some number would stand.
+
+use super::*;
+use si_model::{Kind, Number, TxnId, Value};
+
+/// The edit is accepted, as the one of this number.
+fn accept(rt: &(impl Abort + AllocGlobal), world: &mut World, words: &str, number: u64) {
+    let edit = edit_of(rt, words).expect(rt, "an edit");
+    let reply = stepped(world, Step::Accept(edit));
+    assert_eq!(rt; reply, Reply::Accepted(Number(number)));
+}
+
+#[test]
+fn many_keys_are_set_up(rt: HostRuntime) -> Result<(), Fail> {
+    let mut world = new_world(&rt, 2, 10_000)?;
+    for key in 0..2_000u64 {
+        let words = format!(in rt.alloc(); "setup k{key}={key}")?;
+        accept(&rt, &mut world, words.as_str(), key + 1);
+    }
+    accept(
+        &rt,
+        &mut world,
+        "arrive 1 5 6 k0?0 k1999?1999 k1999?7",
+        2_001,
+    );
+    assert_eq!(rt; stepped(&mut world, Step::Settle), Reply::Settled(2_001));
+    assert_eq!(rt; world.initial()?.len(), 2_000);
+    let found = world.findings()?;
+    assert_eq!(rt; found.len(), 1);
+    let unknown = Kind::Unknown {
+        txn: TxnId(1),
+        op: 2,
+        read: Some(Value(7)),
+    };
+    assert_eq!(rt; found[0].kind, unknown);
+    Ok(())
+}
+
+#[test]
+fn many_edits_are_left_and_applied(rt: HostRuntime) -> Result<(), Fail> {
+    let mut world = new_world(&rt, 1, 10_000)?;
+    for id in 1..=5_000u64 {
+        let start = id.saturating_mul(2);
+        let words = format!(in rt.alloc();
+            "arrive {id} {start} {} x={id}",
+            start.saturating_add(1)
+        )?;
+        accept(&rt, &mut world, words.as_str(), id);
+    }
+    let reply = many_applied(&rt, &mut world, 0, 4_000);
+    assert_eq!(rt; reply, Reply::Applied(4_000));
+    assert_eq!(rt; fault_of(&world), Some(WorldFault::Unsettled(4_000)));
+    let reply = many_applied(&rt, &mut world, 0, 4_000);
+    assert_eq!(rt; reply, Reply::Applied(5_000));
+    assert_eq!(rt; world.findings()?.len(), 0);
+    Ok(())
+}

@@ -1,0 +1,259 @@
+//! What a machine answers after the growth of some memory was refused inside a call.
+//!
+//! A plain run refuses no memory. `.ci/refused_allocations` runs each of these tests once for each of its allocations, which is
+//! refused in that run. What wanted it is told, and asked again, after a rebuild where a shard was spoiled. The end is the same
+//! whatever was refused.
+
+use super::*;
+use si_model::{Edit, Finding, Kind, Number, Refusal, TxnId, Value};
+
+/// What stays is that 6 read what was set up after 5 had written, and that 7 and 8 both wrote `w` at one time.
+const EDITS: &str = "
+    arrive 1 1 2 x=1
+    arrive 2 3 4 x?null
+    arrive 3 5 indoubt y=3
+    arrive 4 7 8 y?3
+    setup z=5
+    arrive 5 9 10 z?5 z=6
+    arrive 6 11 12 z?5
+    arrive 7 13 16 w=7
+    arrive 8 14 15 w=8
+    resolve 3 6
+    withdraw 2";
+
+const SHARDS: usize = 2;
+
+fn told(rt: &(impl Abort + Print), what: &str) {
+    println!(rt; "refused: {what}").expect(rt, "output");
+}
+
+/// The edit that the words say. Where memory is refused they are read again.
+fn edit(rt: &(impl Abort + AllocGlobal), words: &str) -> Edit {
+    match edit_of(rt, words) {
+        Ok(edit) => edit,
+        Err(_) => edit_of(rt, words).expect(rt, "an edit"),
+    }
+}
+
+/// A machine, and how many edits it should have accepted.
+#[derive(Drop)]
+struct Pressed {
+    world: World,
+    accepted: u64,
+}
+
+impl Pressed {
+    fn new(rt: &(impl Abort + AllocGlobal + RandomSource)) -> Pressed {
+        let hash = RandomState::new(rt).expect(rt, "random bytes");
+        let world = match World::new(rt.alloc(), hash, SHARDS, 100) {
+            Ok(world) => world,
+            Err(_) => World::new(rt.alloc(), hash, SHARDS, 100).expect(rt, "memory"),
+        };
+        Pressed { world, accepted: 0 }
+    }
+
+    /// Accepts the edit. Where memory is refused it was not accepted, and is given again.
+    fn accept(&mut self, rt: &(impl Abort + AllocGlobal + Print), words: &str) {
+        let mut reply = stepped(&mut self.world, Step::Accept(edit(rt, words)));
+        if reply == Reply::NoMemory {
+            told(rt, "an acceptance");
+            reply = stepped(&mut self.world, Step::Accept(edit(rt, words)));
+        }
+        self.accepted = self.accepted.saturating_add(1);
+        assert_eq!(rt; reply, Reply::Accepted(Number(self.accepted)));
+    }
+
+    /// Rebuilds the shard, which stays as it was where memory is refused.
+    fn rebuild(&mut self, rt: &(impl Abort + Print), shard: usize) {
+        if !is_rebuilt(rt, &mut self.world, shard) {
+            told(rt, "a rebuild");
+            assert!(rt; is_rebuilt(rt, &mut self.world, shard));
+        }
+    }
+
+    /// Nothing but a rebuild mends a spoiled shard. Meanwhile edits are accepted, and the shard stays where it was.
+    fn mend(&mut self, rt: &(impl Abort + AllocGlobal + Print), shard: usize) {
+        told(rt, "an application");
+        let position = self.world.position(shard);
+        assert_eq!(rt; fault_of(&self.world), Some(WorldFault::Spoiled(shard)));
+        let spoiled = Reply::Spoiled(shard);
+        assert_eq!(rt; stepped(&mut self.world, Step::Apply(shard)), spoiled);
+        assert_eq!(rt; many_applied(rt, &mut self.world, shard, 9), spoiled);
+        let refused = stepped(&mut self.world, Step::Accept(edit(rt, "withdraw 77")));
+        assert_eq!(rt; refused, Reply::Refused(Refusal::NoSuch));
+        self.accept(rt, "arrive 9 17 aborted");
+        self.rebuild(rt, shard);
+        assert_eq!(rt; self.world.position(shard), position);
+    }
+
+    /// The shard applies all that is left, so many edits at a time.
+    fn apply(&mut self, rt: &(impl Abort + AllocGlobal + Print), shard: usize, most: u64) {
+        for _ in 0..20u64 {
+            let position = self.world.position(shard);
+            match many_applied(rt, &mut self.world, shard, most) {
+                Reply::Idle => return,
+                Reply::Applied(_) => {}
+                Reply::NoMemory => {
+                    told(rt, "a copy");
+                    assert_eq!(rt; self.world.position(shard), position);
+                }
+                reply => {
+                    assert_eq!(rt; reply, Reply::Spoiled(shard));
+                    self.mend(rt, shard);
+                }
+            }
+        }
+        panic!(rt; "the shard has to come to an end");
+    }
+
+    /// One step of its own shard at a time.
+    fn apply_one(&mut self, rt: &(impl Abort + AllocGlobal + Print), shard: usize) {
+        match stepped(&mut self.world, Step::Apply(shard)) {
+            Reply::NoMemory => {
+                told(rt, "a copy");
+                self.apply_one_again(rt, shard);
+            }
+            Reply::Spoiled(spoiled) => {
+                assert_eq!(rt; spoiled, shard);
+                self.mend(rt, shard);
+                self.apply_one_again(rt, shard);
+            }
+            reply => assert_eq!(rt; Some(reply), self.world.position(shard).map(Reply::Applied)),
+        }
+    }
+
+    fn apply_one_again(&mut self, rt: &impl Abort, shard: usize) {
+        let reply = stepped(&mut self.world, Step::Apply(shard));
+        assert_eq!(rt; Some(reply), self.world.position(shard).map(Reply::Applied));
+    }
+
+    /// Settles, after a rebuild of the shard that was spoiled.
+    fn settle(&mut self, rt: &(impl Abort + AllocGlobal + Print)) {
+        let mut reply = stepped(&mut self.world, Step::Settle);
+        match reply {
+            Reply::Spoiled(shard) => {
+                self.mend(rt, shard);
+                reply = stepped(&mut self.world, Step::Settle);
+            }
+            Reply::NoMemory => {
+                told(rt, "a copy");
+                reply = stepped(&mut self.world, Step::Settle);
+            }
+            _ => {}
+        }
+        assert_eq!(rt; reply, Reply::Settled(self.accepted));
+    }
+
+    /// The findings, which are had after a second call where memory is refused.
+    fn findings(&self, rt: &(impl Abort + Print)) -> Vec<Finding> {
+        match self.world.findings() {
+            Ok(found) => found,
+            Err(fault) => {
+                assert_eq!(rt; fault, WorldFault::OutOfMemory);
+                told(rt, "a list of findings");
+                self.world.findings().expect(rt, "findings")
+            }
+        }
+    }
+
+    /// The settled machine finds what was worked out by hand, and so it does after a rebuild of each shard.
+    fn look(&mut self, rt: &(impl Abort + AllocGlobal + Print)) {
+        self.settle(rt);
+        assert_found(rt, &self.findings(rt));
+        for shard in 0..SHARDS {
+            self.rebuild(rt, shard);
+        }
+        assert_found(rt, &self.findings(rt));
+    }
+}
+
+/// Rebuilds the shard, if there is memory for it.
+fn is_rebuilt(rt: &impl Abort, world: &mut World, shard: usize) -> bool {
+    assert!(rt; shard < world.shards());
+    world.rebuild(shard).is_ok()
+}
+
+fn assert_found(rt: &impl Abort, found: &[Finding]) {
+    let overlap = Kind::Overlap {
+        first: TxnId(8),
+        second: TxnId(7),
+    };
+    let stale = Kind::Stale {
+        txn: TxnId(6),
+        op: 0,
+        read: Some(Value(5)),
+        missed: TxnId(5),
+    };
+    assert_eq!(rt; found.len(), 2);
+    assert_eq!(rt; found[0].kind, overlap);
+    assert_eq!(rt; found[1].kind, stale);
+}
+
+#[test]
+fn steps_are_made_in_the_end(rt: HostRuntime) {
+    let mut pressed = Pressed::new(&rt);
+    for words in EDITS.trim().lines() {
+        pressed.accept(&rt, words.trim());
+        for shard in 0..SHARDS {
+            pressed.apply_one(&rt, shard);
+        }
+    }
+    pressed.look(&rt);
+}
+
+#[test]
+fn many_edits_are_applied_in_the_end(rt: HostRuntime) {
+    let mut pressed = Pressed::new(&rt);
+    for words in EDITS.trim().lines() {
+        pressed.accept(&rt, words.trim());
+    }
+    for shard in 0..SHARDS {
+        pressed.apply(&rt, shard, 4);
+    }
+    pressed.look(&rt);
+}
+
+#[test]
+fn a_machine_is_settled_in_the_end(rt: HostRuntime) {
+    let mut pressed = Pressed::new(&rt);
+    for words in EDITS.trim().lines() {
+        pressed.accept(&rt, words.trim());
+    }
+    pressed.look(&rt);
+}
+
+/// The replies to these steps, if there is memory for them.
+fn replies(world: &mut World, steps: Vec<Step>) -> Option<Vec<Reply>> {
+    match world.run(steps) {
+        Ok(replies) => Some(replies),
+        Err(_) => None,
+    }
+}
+
+/// A run of one step, which accepts the edit. Answers what it is told, and nothing where no step was made.
+fn told_by_run(rt: &(impl Abort + AllocGlobal), world: &mut World, words: &str) -> Option<Reply> {
+    let mut steps = Vec::new(rt.alloc());
+    if steps.push(Step::Accept(edit(rt, words))).is_err() {
+        let step = Step::Accept(edit(rt, words));
+        steps.push(step).expect(rt, "memory");
+    }
+    let replies = replies(world, steps)?;
+    assert_eq!(rt; replies.len(), 1);
+    Some(replies[0])
+}
+
+#[test]
+fn runs_are_made_in_the_end(rt: HostRuntime) {
+    let mut pressed = Pressed::new(&rt);
+    for words in EDITS.trim().lines() {
+        let mut reply = told_by_run(&rt, &mut pressed.world, words.trim());
+        if reply.is_none() || reply == Some(Reply::NoMemory) {
+            told(&rt, "a run");
+            reply = told_by_run(&rt, &mut pressed.world, words.trim());
+        }
+        pressed.accepted = pressed.accepted.saturating_add(1);
+        let wanted = Reply::Accepted(Number(pressed.accepted));
+        assert_eq!(rt; reply, Some(wanted));
+    }
+    pressed.look(&rt);
+}
