@@ -1,4 +1,8 @@
 pub mod OpLemmas
+pub mod NumberLemmas
+pub mod ValueTokens
+pub mod UsualLemmas
+pub mod UsualArrivals
 pub mod ValueLemmas
 pub mod DeviceLemmas
 pub mod PieceLemmas

@@ -1,5 +1,6 @@
 pub mod Faults
 pub mod Lines
+pub mod UsualArrivals
 pub mod Texts
 pub mod Inputs
 pub mod Devices

@@ -7,6 +7,7 @@ ghost use Rattle.std.specs.Prelude.{◌≡◌, ◌⊎◌, ◌∷◌, ◌++◌, [
 ghost use Rattle.si_model.specs.KeyTexts.{IsKeyText};
 
 use indexmap::IndexMap;
+use json::Scratch;
 use si_model::keys::MOST_INLINE_BYTES;
 use si_model::{Key, OutOfMemory};
 use std::alloc::Global;
@@ -16,20 +17,17 @@ use std::marker::Model;
 /// Longer keys that were read, in the order in which each came first. Contracts see the list of their texts.
 #[derive(Drop)]
 pub struct KnownKeys {
-    alloc: Global,
-    /// What a text's hash is computed by; none where no key is to be known.
-    hash: Option<RandomState>,
-    /// The keys by the hashes of their texts, so that a look-up makes no key of its own.
-    known: IndexMap<u64, Key>,
+    pub(crate) shared: SharedKeys,
+    /// The memory by which a line is read token by token, kept from line to line.
+    pub(crate) scratch: Scratch,
 }
 
 impl Model for KnownKeys {
     ghost use Rattle.std.specs.Prelude.{List, ℕ};
-    ghost use Rattle.indexmap.specs.IndexMap.{values};
 
     ghost Value = { List (List ℕ) };
 
-    ghost view = { λ k. values k.known };
+    ghost view = { λ k. k.shared };
 }
 
 impl KnownKeys {
@@ -38,9 +36,8 @@ impl KnownKeys {
         ensures { result ≡ [] }
     {
         KnownKeys {
-            alloc,
-            hash: Some(hash),
-            known: IndexMap::new(alloc),
+            shared: SharedKeys::new(alloc, Some(hash)),
+            scratch: Scratch::new(alloc),
         }
     }
 
@@ -49,9 +46,8 @@ impl KnownKeys {
         ensures { result ≡ [] }
     {
         KnownKeys {
-            alloc,
-            hash: None,
-            known: IndexMap::new(alloc),
+            shared: SharedKeys::new(alloc, None),
+            scratch: Scratch::new(alloc),
         }
     }
 
@@ -62,6 +58,60 @@ impl KnownKeys {
         ensures key { IfOk result (λ key. key ≡ text.now) }
 
         // What is known stays so in its place.
+        ensures known { (self.new ≡ self.old) ⊎ (self.new ≡ self.old ++ text.now ∷ []) }
+    {
+        self.shared.key(text)
+    }
+
+    /// How many keys are known.
+    pub fn len(&self) -> usize
+        ensures { result ≡ length self.now }
+    {
+        self.shared.len()
+    }
+
+    /// Forgets the keys that came after the first so many.
+    pub fn truncate(&mut self, len: usize)
+        ensures { self.new ≡ take len self.old }
+    {
+        self.shared.truncate(len);
+    }
+}
+
+/// The keys themselves, apart from the scratch, which is lent out while a line is read.
+#[derive(Drop)]
+pub(crate) struct SharedKeys {
+    alloc: Global,
+    /// What a text's hash is computed by; none where no key is to be known.
+    hash: Option<RandomState>,
+    /// The keys by the hashes of their texts, so that a look-up makes no key of its own.
+    known: IndexMap<u64, Key>,
+}
+
+impl Model for SharedKeys {
+    ghost use Rattle.std.specs.Prelude.{List, ℕ};
+    ghost use Rattle.indexmap.specs.IndexMap.{values};
+
+    ghost Value = { List (List ℕ) };
+
+    ghost view = { λ k. values k.known };
+}
+
+impl SharedKeys {
+    fn new(alloc: Global, hash: Option<RandomState>) -> Self
+        ensures { result ≡ [] }
+    {
+        SharedKeys {
+            alloc,
+            hash,
+            known: IndexMap::new(alloc),
+        }
+    }
+
+    /// As that of `KnownKeys`.
+    pub(crate) fn key(&mut self, text: &str) -> Result<Key, OutOfMemory>
+        requires { IsKeyText text.now }
+        ensures key { IfOk result (λ key. key ≡ text.now) }
         ensures known { (self.new ≡ self.old) ⊎ (self.new ≡ self.old ++ text.now ∷ []) }
     {
         let Some(builder) = self.hash else {
@@ -81,15 +131,13 @@ impl KnownKeys {
         Ok(key)
     }
 
-    /// How many keys are known.
-    pub fn len(&self) -> usize
+    fn len(&self) -> usize
         ensures { result ≡ length self.now }
     {
         self.known.len()
     }
 
-    /// Forgets the keys that came after the first so many.
-    pub fn truncate(&mut self, len: usize)
+    fn truncate(&mut self, len: usize)
         ensures { self.new ≡ take len self.old }
     {
         self.known.truncate(len);

@@ -2,7 +2,7 @@
 //!
 //! It carries the promise that an edit read from a line is what the line says by its definition, and that what is
 //! printed is exactly the text of its definition. It stands on `si_model` for the types and evidence, on `serde_json` for JSON,
-//! on `indexmap` for keys that came before and on `itoa` for numbers.
+//! on `json` and `fast_float` for the tokens of usual lines, on `indexmap` for keys that came before and on `itoa` for numbers.
 #![tactic(auto)]
 
 pub mod devices;
@@ -20,6 +20,8 @@ pub mod printing;
 pub mod readings;
 pub mod reasons;
 pub mod streams;
+mod tokens;
+mod usual_arrivals;
 pub mod verdicts;
 
 pub use devices::{ByteSink, ByteSource, DeviceFailed};

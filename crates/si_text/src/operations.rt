@@ -28,6 +28,7 @@ fn all_ops(alloc: Global, keys: &mut KnownKeys, items: &[Value]) -> Result<Ops, 
     for (index, item) in items.iter().enumerate() {
         ops.push(op_of(keys, index, item)?)?;
     }
+    ops.shrink_to_fit();
     Ok(Ops::from_vec(ops)?)
 }
 

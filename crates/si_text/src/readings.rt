@@ -4,6 +4,7 @@ ghost use Rattle.si_text.specs.Lines.{Gives, value_of, object_edit, arrival_of, 
 
 use crate::members::{number_at, outcome_of, status_at};
 use crate::operations::ops_of;
+use crate::usual_arrivals::usual_arrival;
 use crate::{Field, KnownKeys, LineFault};
 use serde_json::Value;
 use si_model::{Edit, Key, Stamp, Txn, TxnId};
@@ -32,6 +33,10 @@ pub(crate) fn read_edit_with(
 {
     if line.len() > MOST_LINE_BYTES {
         return Err(LineFault::TooLong);
+    }
+    // Most lines end here.
+    if let Some(edit) = usual_arrival(alloc, &mut keys.shared, &mut keys.scratch, line) {
+        return Ok(edit);
     }
     let value = value_of(alloc, line)?;
     if !value.is_object() {

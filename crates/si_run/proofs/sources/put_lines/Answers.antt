@@ -1,9 +1,9 @@
-use Rattle.std.proofs.Common.{◌≡◌, ◌++◌, ◌∷◌, [], inr, ◌∙◌, ◌-◌, ◌^◌, ◌≤◌, ℕ, ap, sym, arith}
+use Rattle.std.proofs.Common.{◌≡◌, ◌++◌, ◌∷◌, [], inl, inr, refl, ◌∙◌, ◌-◌, ◌^◌, ◌≤◌, ℕ, ap, sym, arith}
 use Rattle.si_intake.specs.Ends.{Putting}
 use Rattle.si_text.specs.Inputs.{Item}
 use Rattle.si_text.specs.LineBuffers.{bytes_to_come}
 use Rattle.si_run.specs.Readings.{told_item}
-use Rattle.si_run.proofs.Runnings.{CountsBytes-none, CountsBytes-then, begins, first_read, goes_on, many_items, unended}
+use Rattle.si_run.proofs.Runnings.{CountsBytes-none, CountsBytes-then, begins, first_read, goes_on, many_items, spends, unended}
 use Rattle.si_run.proofs.sources.put_lines.Goals as goal
 
 pub items-init : goal.items-init
@@ -51,5 +51,23 @@ returns g c =
       (
         first_read left c.items.lines.lines to_come c.args.end.now c.items.end c.items._turn at.way,
         inr (many_items left c.items.lines.lines to_come c.args.end.now c.items.end c.items._turn at.way most),
+      ),
+    )
+
+-- where the device failed it is told so, and else the reads or the numbers of lines are used up
+pub returns-in-Err-DeviceFailed : goal.returns-in-Err-DeviceFailed
+returns-in-Err-DeviceFailed g c =
+    let left = g.S.ByteSource.left in
+    let at = c.items.invariant in
+    let counts = CountsBytes-then at.counts.0 c.items.lines c.next_item.new.self (left c.args.input.now) (left c.items.input) (left c.next_item.new.source) at.counts.2 c.next_item.ensures.counts in
+    let told = rw c.in-Err-DeviceFailed.field-0-is at c.in-Err-DeviceFailed.ensures.device in (
+      at.way.items,
+      at.way.puts,
+      (
+        first_read (left c.args.input.now) c.items.lines.lines (bytes_to_come c.items.lines (left c.items.input)) c.args.end.now c.items.end c.items._turn at.way,
+        elim (told refl) [
+          | inl failed ↦ inl failed
+          | inr spent ↦ inr (spends at.counts.0 c.next_item.new.self (left c.args.input.now) (left c.next_item.new.source) at.counts.1 counts spent)
+        ],
       ),
     )

@@ -2,7 +2,7 @@ use Rattle.std.proofs.Common.{◌≡◌, ◌∷◌, ◌++◌, [], nat_eq, inr, a
 use Rattle.std.proofs.lemmas.List.{map-append}
 use Rattle.std.specs.Map.{values_of}
 use Rattle.indexmap.proofs.CallerLemmas.{insert_entry-new}
-use Rattle.si_text.proofs.known_keys.KnownKeys.key.Goals as goal
+use Rattle.si_text.proofs.known_keys.SharedKeys.key.Goals as goal
 
 pub returns-clause-known : goal.returns-clause-known
 returns-clause-known c =

@@ -1,0 +1,9 @@
+use Rattle.std.proofs.Common.{length}
+use Rattle.si_text.proofs.UsualLemmas.{AreTaken}
+use Rattle.si_text.proofs.usual_arrivals.take_items.Given as goal
+
+abbrev pub invariant-items : goal.invariant-items
+invariant-items l = AreTaken l.initial.reader l.reader l.ops.items
+
+abbrev pub decreases-items : goal.decreases-items
+decreases-items l = length l.reader
