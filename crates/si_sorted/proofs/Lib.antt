@@ -1,0 +1,5 @@
+pub mod Edits
+pub mod Nearest
+pub mod Rising
+pub mod Search
+pub mod Ends
