@@ -1,13 +1,15 @@
 -- Entries stay in order through an edit.
-use Rattle.std.proofs.Common.{◌≡◌, ◌∙◌, ℕ, zero, suc, ◌+◌, ◌<◌, List, [], ◌∷◌, ◌++◌, length, get_or, take, drop, Bool, true, false, cond, sym, ap, subst, refl, arith, Ordering}
-use Rattle.std.specs.BTreeMap.{insert_entry}
-use Rattle.std.specs.Cmp.{IsTotalOrder}
+use Rattle.std.proofs.Common.{◌≡◌, ◌∙◌, ℕ, zero, suc, ◌+◌, ◌<◌, List, [], ◌∷◌, ◌++◌, length, get_or, take, drop, Bool, true, false, cond, Some, None, is_eq, sym, ap, subst, refl, arith, Ordering}
+use Rattle.std.specs.BTreeMap.{insert_entry, is_at}
+use Rattle.std.specs.Cmp.{IsTotalOrder, eq_by_cmp_equiv}
 use Rattle.std.specs.List.{AllByRecursion}
 use Rattle.std.specs.List.Sorted.{IsStrictlySortedBy}
-use Rattle.std.specs.Map.{keys_of, remove_entry}
+use Rattle.std.specs.Map.{keys_of, lookup, remove_entry}
 use Rattle.std.specs.Ordering.{match_ordering}
 use Rattle.std.specs.declared.cmp.Ordering.TheVariants.{Less, Equal, Greater}
-use Rattle.std.proofs.lemmas.Map.Keys.{sorted_head, sorted_tail}
+use Rattle.std.proofs.lemmas.Map.{lookup-none}
+use Rattle.std.proofs.lemmas.Map.Entries.{none_past_head}
+use Rattle.std.proofs.lemmas.Map.Keys.{IsDistinct-from_sorted, sorted_head, sorted_tail}
 use Rattle.si_sorted.proofs.Edits.{last_is_above}
 use Rattle.si_sorted.proofs.Search.{greater, less}
 
@@ -90,3 +92,12 @@ module _ {K X : Type 0} {R : K → K → Ordering} (o : IsTotalOrder R) where
       let next : i + 1 ≡ suc i = omega arith in
       pushed (take i es) e (drop (suc i) es) (subst (λ l. IsStrictlySortedBy R (keys_of l)) (sym all) rising)
       ∙ ap (λ f. take i es ++ f ∷ []) is ∙ one_more es i e lt ∙ ap (λ n. take n es) (sym next)
+
+  -- what was taken out isn't there
+  pub none_left : (k : K) (es : List (K × X)) → IsStrictlySortedBy R (keys_of es) → lookup (is_at (R k)) (remove_entry (is_at (R k)) es) ≡ None
+  none_left k [] rising = refl
+  none_left k (e ∷ es) rising = go (is_eq (R k e.0)) refl (none_left k es (sorted_tail R e.0 (keys_of es) rising))
+    where
+      go : (b : Bool) → is_eq (R k e.0) ≡ b → lookup (is_at (R k)) (remove_entry (is_at (R k)) es) ≡ None → lookup (is_at (R k)) (cond b es (e ∷ remove_entry (is_at (R k)) es)) ≡ None
+      go true is rest = lookup-none (is_at (R k)) es (none_past_head (eq_by_cmp_equiv o) k e es (IsDistinct-from_sorted R (keys_of (e ∷ es)) rising) is)
+      go false is rest = ap (λ a. cond a (Some e.1) (lookup (is_at (R k)) (remove_entry (is_at (R k)) es))) is ∙ rest

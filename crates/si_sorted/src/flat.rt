@@ -1,6 +1,6 @@
 //! Entries in a vector, in rising order of their keys.
 
-ghost use Rattle.std.specs.Prelude.{◌≡◌, ◌≤◌, IsTrue, MatchResult, OnErr, OnOk, length};
+ghost use Rattle.std.specs.Prelude.{◌≡◌, ◌≤◌, None, IsTrue, MatchResult, OnErr, OnOk, length};
 ghost use Rattle.std.specs.BTreeMap.{insert_entry, is_at};
 ghost use Rattle.std.specs.List.Sorted.{IsStrictlySortedBy};
 ghost use Rattle.std.specs.Map.{keys_of, lookup, remove_entry};
@@ -97,6 +97,7 @@ pub fn remove_from<K: Ord + Copy + Drop, V: Copy + Drop>(
     requires { IsStrictlySortedBy K.cmp (keys_of entries.old.items) }
     ensures value { result ≡ lookup (is_at (K.cmp key)) entries.old.items }
     ensures entries { entries.new.items ≡ remove_entry (is_at (K.cmp key)) entries.old.items }
+    ensures gone { lookup (is_at (K.cmp key)) entries.new.items ≡ None }
     ensures rising { IsStrictlySortedBy K.cmp (keys_of entries.new.items) }
 {
     match place_of(entries.as_slice(), key) {

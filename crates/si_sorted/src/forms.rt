@@ -1,6 +1,6 @@
 //! The two forms that a map has.
 
-ghost use Rattle.std.specs.Prelude.{◌≡◌, IfOk, IfSome, OnErr, OnOk, length};
+ghost use Rattle.std.specs.Prelude.{◌≡◌, None, IfOk, IfSome, OnErr, OnOk, length};
 ghost use Rattle.std.specs.BTreeMap.{insert_entry, is_at};
 ghost use Rattle.std.specs.List.Sorted.{IsStrictlySortedBy};
 ghost use Rattle.std.specs.Map.{keys_of, lookup, remove_entry};
@@ -63,6 +63,7 @@ impl<K: Ord + Copy + Drop, V: Copy + Drop> Form<K, V> {
         requires { IsStrictlySortedBy K.cmp (keys_of (entries_in self.old)) }
         ensures value { result ≡ lookup (is_at (K.cmp key)) (entries_in self.old) }
         ensures entries { entries_in self.new ≡ remove_entry (is_at (K.cmp key)) (entries_in self.old) }
+        ensures gone { lookup (is_at (K.cmp key)) (entries_in self.new) ≡ None }
         ensures rising { IsStrictlySortedBy K.cmp (keys_of (entries_in self.new)) }
     {
         match self {
@@ -84,7 +85,7 @@ impl<K: Ord + Copy + Drop, V: Copy + Drop> Form<K, V> {
         }
     }
 
-    pub fn before(&self, key: K) -> Option<(K, V)>
+    pub fn below(&self, key: K) -> Option<(K, V)>
         requires { IsStrictlySortedBy K.cmp (keys_of (entries_in self.now)) }
         ensures { IsLastBelow K.cmp (entries_in self.now) key result }
     {
@@ -94,7 +95,7 @@ impl<K: Ord + Copy + Drop, V: Copy + Drop> Form<K, V> {
         }
     }
 
-    pub fn after(&self, key: K) -> Option<(K, V)>
+    pub fn above(&self, key: K) -> Option<(K, V)>
         requires { IsStrictlySortedBy K.cmp (keys_of (entries_in self.now)) }
         ensures { IsFirstAbove K.cmp (entries_in self.now) key result }
     {

@@ -1,6 +1,6 @@
 //! A map in the order of its keys.
 
-ghost use Rattle.std.specs.Prelude.{◌≡◌, [], IsTrue, OnErr, OnOk, ◌↔◌, length};
+ghost use Rattle.std.specs.Prelude.{◌≡◌, [], None, IsTrue, OnErr, OnOk, ◌↔◌, length};
 ghost use Rattle.std.specs.BTreeMap.{insert_entry, is_at};
 ghost use Rattle.std.specs.List.Sorted.{IsStrictlySortedBy};
 ghost use Rattle.std.specs.Map.{keys_of, lookup, remove_entry};
@@ -59,6 +59,7 @@ impl<K: Ord + Copy + Drop, V: Copy + Drop> SortedMap<K, V> {
     pub fn remove(&mut self, key: K) -> Option<V>
         ensures value { result ≡ lookup (is_at (K.cmp key)) self.old }
         ensures entries { self.new ≡ remove_entry (is_at (K.cmp key)) self.old }
+        ensures gone { lookup (is_at (K.cmp key)) self.new ≡ None }
         ensures rising { IsStrictlySortedBy K.cmp (keys_of self.new) }
     {
         self.form.remove(key)
@@ -72,19 +73,19 @@ impl<K: Ord + Copy + Drop, V: Copy + Drop> SortedMap<K, V> {
     }
 
     /// The last entry below the key.
-    pub fn before(&self, key: K) -> Option<(K, V)>
+    pub fn below(&self, key: K) -> Option<(K, V)>
         ensures nearest { IsLastBelow K.cmp self.now key result }
         ensures rising { IsStrictlySortedBy K.cmp (keys_of self.now) }
     {
-        self.form.before(key)
+        self.form.below(key)
     }
 
     /// The first entry above the key.
-    pub fn after(&self, key: K) -> Option<(K, V)>
+    pub fn above(&self, key: K) -> Option<(K, V)>
         ensures nearest { IsFirstAbove K.cmp self.now key result }
         ensures rising { IsStrictlySortedBy K.cmp (keys_of self.now) }
     {
-        self.form.after(key)
+        self.form.above(key)
     }
 
     /// How many entries there are.
