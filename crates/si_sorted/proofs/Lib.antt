@@ -1,4 +1,5 @@
 pub mod Edits
+pub mod Lookups
 pub mod Nearest
 pub mod Rising
 pub mod Search

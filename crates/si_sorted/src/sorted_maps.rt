@@ -1,10 +1,10 @@
 //! A map in the order of its keys.
 
-ghost use Rattle.std.specs.Prelude.{◌≡◌, [], None, IsTrue, OnErr, OnOk, ◌↔◌, length};
+ghost use Rattle.std.specs.Prelude.{◌≡◌, [], None, Some, IsTrue, OnErr, OnOk, ◌↔◌, length};
 ghost use Rattle.std.specs.BTreeMap.{insert_entry, is_at};
 ghost use Rattle.std.specs.List.Sorted.{IsStrictlySortedBy};
-ghost use Rattle.std.specs.Map.{keys_of, lookup, remove_entry};
-ghost use Rattle.si_sorted.specs.Entries.{IsFirstAbove, IsLastBelow};
+ghost use Rattle.std.specs.Map.{keys_of, remove_entry};
+ghost use Rattle.si_sorted.specs.Entries.{IsFirstAbove, IsLastBelow, Sets, value_at};
 ghost use Rattle.si_sorted.specs.Forms.{entries_in};
 
 use crate::forms::Form;
@@ -49,17 +49,20 @@ impl<K: Ord + Copy + Drop, V: Copy + Drop> SortedMap<K, V> {
     /// Where the growth of some memory is refused nothing has changed.
     pub fn insert(&mut self, key: K, value: V) -> Result<(), AllocError>
         ensures ok { OnOk result (self.new ≡ insert_entry K.cmp self.old key value) }
+        ensures sets { OnOk result (Sets K.cmp key (Some value) self.old self.new) }
         ensures err { OnErr result (self.new ≡ self.old) }
         ensures rising { IsStrictlySortedBy K.cmp (keys_of self.new) }
     {
-        self.form.insert(self.alloc, key, value)
+        self.form.insert(self.alloc, key, value)?;
+        Ok(())
     }
 
     /// Takes the value out that stands under the key, if one does.
     pub fn remove(&mut self, key: K) -> Option<V>
-        ensures value { result ≡ lookup (is_at (K.cmp key)) self.old }
+        ensures value { result ≡ value_at K.cmp self.old key }
         ensures entries { self.new ≡ remove_entry (is_at (K.cmp key)) self.old }
-        ensures gone { lookup (is_at (K.cmp key)) self.new ≡ None }
+        ensures sets { Sets K.cmp key None self.old self.new }
+        ensures gone { value_at K.cmp self.new key ≡ None }
         ensures rising { IsStrictlySortedBy K.cmp (keys_of self.new) }
     {
         self.form.remove(key)
@@ -67,7 +70,7 @@ impl<K: Ord + Copy + Drop, V: Copy + Drop> SortedMap<K, V> {
 
     /// The value under the key, if one stands there.
     pub fn get(&self, key: K) -> Option<V>
-        ensures { result ≡ lookup (is_at (K.cmp key)) self.now }
+        ensures { result ≡ value_at K.cmp self.now key }
     {
         self.form.get(key)
     }
