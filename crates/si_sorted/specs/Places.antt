@@ -1,5 +1,5 @@
 -- Where a key is among entries in the order of their keys, or where it would go.
-use Rattle.std.specs.Prelude.{◌≡◌, ℕ, suc, ◌<◌, ◌≤◌, List, length, slice_index_or, false}
+use Rattle.std.specs.Prelude.{◌≡◌, Bool, ℕ, suc, ◌<◌, ◌≤◌, List, length, slice_index_or, false, true}
 use Rattle.std.specs.Ordering.{is_gt, is_lt}
 use Rattle.std.specs.declared.cmp.Ordering.{Ordering}
 use Rattle.std.specs.declared.cmp.Ordering.TheVariants.{Less, Equal, Greater}
@@ -33,3 +33,9 @@ module _ {K X : Type 0} (cmp : K → K → Ordering) where
     pub in_range : i ≤ length es
     pub above : IsAboveAllBefore es k i
     pub below : IsBelowAllFrom es k i
+
+-- the test fails at each key before the place, and holds at each one from it on
+pub record IsCutAt {K X : Type 0} (test : K → Bool) (es : List (K × X)) (i : ℕ) : Type 0 where
+  pub in_range : i ≤ length es
+  pub fails : (j : ℕ) (d : K × X) → j < i → j < length es → test (slice_index_or es j d).0 ≡ false
+  pub holds : (j : ℕ) (d : K × X) → i ≤ j → j < length es → test (slice_index_or es j d).0 ≡ true

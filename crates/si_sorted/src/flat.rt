@@ -118,7 +118,7 @@ pub fn value_in<K: Ord + Copy + Drop, V: Copy + Drop>(entries: &[(K, V)], key: K
 }
 
 /// How many keys are less.
-fn count_below<K: Ord + Copy + Drop, V: Copy + Drop>(entries: &[(K, V)], key: K) -> usize
+pub fn count_below<K: Ord + Copy + Drop, V: Copy + Drop>(entries: &[(K, V)], key: K) -> usize
     requires { IsStrictlySortedBy K.cmp (keys_of entries.now) }
     ensures bound { result ≤ length entries.now }
     ensures above { IsAboveAllBefore K.cmp entries.now key result }
@@ -131,8 +131,9 @@ fn count_below<K: Ord + Copy + Drop, V: Copy + Drop>(entries: &[(K, V)], key: K)
 }
 
 /// How many keys are less or the same.
-fn count_up_to<K: Ord + Copy + Drop, V: Copy + Drop>(entries: &[(K, V)], key: K) -> usize
+pub fn count_up_to<K: Ord + Copy + Drop, V: Copy + Drop>(entries: &[(K, V)], key: K) -> usize
     requires { IsStrictlySortedBy K.cmp (keys_of entries.now) }
+    ensures bound { result ≤ length entries.now }
     ensures none { IsBelowNoneBefore K.cmp entries.now key result }
     ensures below { IsBelowAllFrom K.cmp entries.now key result }
 {

@@ -1,16 +1,21 @@
 //! The two forms that a map has.
 
-ghost use Rattle.std.specs.Prelude.{◌≡◌, None, IfOk, IfSome, OnErr, OnOk, length};
+ghost use Rattle.std.specs.Prelude.{◌≡◌, ◌++◌, None, IfOk, IfSome, OnErr, OnOk, length};
 ghost use Rattle.std.specs.BTreeMap.{insert_entry, is_at};
+ghost use Rattle.std.specs.BTreeMap.Range.{IsLeBy, IsLtBy, entries_between};
+ghost use Rattle.std.specs.List.{filter};
+ghost use Rattle.std.specs.Range.Bound.{IsForward};
 ghost use Rattle.std.specs.List.Sorted.{IsStrictlySortedBy};
 ghost use Rattle.std.specs.Map.{keys_of, lookup, remove_entry};
 ghost use Rattle.si_sorted.specs.Entries.{IsFirstAbove, IsLastBelow};
 ghost use Rattle.si_sorted.specs.Forms.{entries_in};
 
 use crate::flat::{entry_after, entry_before, insert_in, moved_by, remove_from, value_in};
+use crate::runs::{KeyTest, add_from, add_from_tree};
 use crate::trees::{after_in, before_in, tree_with};
 use std::alloc::{AllocError, Global};
 use std::collections::BTreeMap;
+use std::ops::Bound;
 
 /// An entry that would move more others than this goes into a tree, so that no order of keys, however chosen, makes a change cost
 /// more.
@@ -102,6 +107,23 @@ impl<K: Ord + Copy + Drop, V: Copy + Drop> Form<K, V> {
         match self {
             Form::Flat(entries) => entry_after(entries.as_slice(), key),
             Form::Tree(tree) => after_in(tree, key),
+        }
+    }
+
+    pub fn add_between<T: KeyTest<K>>(
+        &self,
+        low: Bound<K>,
+        high: Bound<K>,
+        test: &T,
+        out: &mut Vec<(K, V)>,
+    ) -> Result<(), AllocError>
+        requires rising { IsStrictlySortedBy K.cmp (keys_of (entries_in self.now)) }
+        requires forward { IsForward (IsLeBy K.cmp) (IsLtBy K.cmp) low high }
+        ensures { OnOk result (out.new.items ≡ out.old.items ++ filter (λ e. T.passes test.now e.0) (entries_between K.cmp low high (entries_in self.now))) }
+    {
+        match self {
+            Form::Flat(entries) => add_from(entries.as_slice(), low, high, test, out),
+            Form::Tree(tree) => add_from_tree(tree, low, high, test, out),
         }
     }
 

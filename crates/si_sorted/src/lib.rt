@@ -5,7 +5,9 @@
 
 mod flat;
 mod forms;
+pub mod runs;
 pub mod sorted_maps;
 mod trees;
 
+pub use runs::KeyTest;
 pub use sorted_maps::SortedMap;

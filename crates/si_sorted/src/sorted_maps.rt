@@ -1,15 +1,20 @@
 //! A map in the order of its keys.
 
-ghost use Rattle.std.specs.Prelude.{◌≡◌, [], None, Some, IsTrue, OnErr, OnOk, ◌↔◌, length};
+ghost use Rattle.std.specs.Prelude.{◌≡◌, ◌++◌, [], None, Some, IsTrue, OnErr, OnOk, ◌↔◌, length};
 ghost use Rattle.std.specs.BTreeMap.{insert_entry, is_at};
+ghost use Rattle.std.specs.BTreeMap.Range.{IsLeBy, IsLtBy, entries_between};
+ghost use Rattle.std.specs.List.{filter};
+ghost use Rattle.std.specs.Range.Bound.{IsForward};
 ghost use Rattle.std.specs.List.Sorted.{IsStrictlySortedBy};
 ghost use Rattle.std.specs.Map.{keys_of, remove_entry};
 ghost use Rattle.si_sorted.specs.Entries.{IsFirstAbove, IsLastBelow, Sets, value_at};
 ghost use Rattle.si_sorted.specs.Forms.{entries_in};
 
 use crate::forms::Form;
+use crate::runs::KeyTest;
 use std::alloc::{AllocError, Global};
 use std::marker::Model;
+use std::ops::Bound;
 
 /// A map in the order of its keys.
 ///
@@ -89,6 +94,23 @@ impl<K: Ord + Copy + Drop, V: Copy + Drop> SortedMap<K, V> {
         ensures rising { IsStrictlySortedBy K.cmp (keys_of self.now) }
     {
         self.form.above(key)
+    }
+
+    /// Adds the entries between the bounds whose keys pass the test, in order. The lower bound is not above the upper one.
+    ///
+    /// Where the growth of some memory is refused a part of them may have been added.
+    pub fn add_between<T: KeyTest<K>>(
+        &self,
+        low: Bound<K>,
+        high: Bound<K>,
+        test: &T,
+        out: &mut Vec<(K, V)>,
+    ) -> Result<(), AllocError>
+        requires { IsForward (IsLeBy K.cmp) (IsLtBy K.cmp) low high }
+        ensures { OnOk result (out.new.items ≡ out.old.items ++ filter (λ e. T.passes test.now e.0) (entries_between K.cmp low high self.now)) }
+    {
+        self.form.add_between(low, high, test, out)?;
+        Ok(())
     }
 
     /// How many entries there are.
