@@ -1,5 +1,5 @@
 -- The orders of the maps' keys are total, and only one key ties with itself.
-use Rattle.std.proofs.Common.{◌≡◌, ◌↔◌, ℕ, ◌%◌, Bool, true, false, Option, Some, None, rules, refl, sym, ap, true≢false}
+use Rattle.std.proofs.Common.{◌≡◌, ◌↔◌, ℕ, ◌%◌, true, Option, Some, None, rules, refl, sym, ap, true≢false}
 use Rattle.std.proofs.Common.{Ordering}
 use Rattle.std.specs.Cmp.{IsTotalOrder, ranked, nat_cmp_is}
 use Rattle.std.specs.Cmp.Rules.{comparing}
@@ -9,7 +9,6 @@ use Rattle.std.specs.declared.cmp.Ordering.TheVariants.{Less, Equal, Greater}
 use Rattle.si_model.specs.declared.numbers.TxnId.{TxnId}
 use Rattle.si_model.specs.declared.numbers.Value.{Value}
 use Rattle.si_judge.specs.Spread.{spread_cmp, value_cmp}
-use Rattle.si_judge.specs.declared.spread.Spread.{Spread}
 use Rattle.si_judge.specs.Readers.{reader_cmp}
 use Rattle.si_judge.specs.Mending.{read_cmp, stamp_cmp}
 
