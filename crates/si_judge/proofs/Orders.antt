@@ -1,5 +1,5 @@
 -- The orders of the maps' keys are total, and only one key ties with itself.
-use Rattle.std.proofs.Common.{◌≡◌, ◌↔◌, ℕ, ◌%◌, Bool, true, false, Option, Some, None, rules, refl, sym, ap, true≢false}
+use Rattle.std.proofs.Common.{◌≡◌, ◌↔◌, ℕ, ◌%◌, true, Option, Some, None, rules, refl, sym, ap, true≢false}
 use Rattle.std.proofs.Common.{Ordering}
 use Rattle.std.specs.Cmp.{IsTotalOrder, ranked, nat_cmp_is}
 use Rattle.std.specs.Cmp.Rules.{comparing}
@@ -9,7 +9,6 @@ use Rattle.std.specs.declared.cmp.Ordering.TheVariants.{Less, Equal, Greater}
 use Rattle.si_model.specs.declared.numbers.TxnId.{TxnId}
 use Rattle.si_model.specs.declared.numbers.Value.{Value}
 use Rattle.si_judge.specs.Spread.{spread_cmp, value_cmp}
-use Rattle.si_judge.specs.declared.spread.Spread.{Spread}
 use Rattle.si_judge.specs.Readers.{reader_cmp}
 use Rattle.si_judge.specs.Mending.{read_cmp, stamp_cmp}
 
@@ -58,17 +57,6 @@ spread_decides m n = (
   (λ e. let k : m.0 ≡ n.0 = (nat_decides m.0 n.0).0 (both_tie (nat_cmp (m.0 % 256) (n.0 % 256)) (nat_cmp m.0 n.0) e).1 in ap (λ (i : ℕ). record { 0 = i }) k),
   (λ e. tie_both (nat_cmp (m.0 % 256) (n.0 % 256)) (nat_cmp m.0 n.0) ((nat_decides (m.0 % 256) (n.0 % 256)).1 (ap (λ x. x.0 % 256) e)) ((nat_decides m.0 n.0).1 (ap (λ x. x.0) e))),
 )
-
-same_bools : (a b : Bool) → (a ≡ true → b ≡ true) → (b ≡ true → a ≡ true) → a ≡ b
-same_bools true b f g = sym (f refl)
-same_bools false true f g = g refl
-same_bools false false f g = refl
-
--- two values are one exactly where their numbers are
-pub same_number : (v w : Value) → eq_by_cmp spread_cmp (record { 0 = v.0 }) (record { 0 = w.0 }) ≡ eq_by_cmp value_cmp v w
-same_number v w = same_bools _ _
-    (λ e. (value_decides v w).1 (ap (λ (n : Spread). record { 0 = n.0 }) ((spread_decides (record { 0 = v.0 }) (record { 0 = w.0 })).0 e)))
-    (λ e. (spread_decides (record { 0 = v.0 }) (record { 0 = w.0 })).1 (ap (λ (x : Value). record { 0 = x.0 }) ((value_decides v w).0 e)))
 
 pub read_decides : Decides read_cmp
 read_decides o p = (

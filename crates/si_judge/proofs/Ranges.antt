@@ -1,9 +1,8 @@
 -- The range of the readers of a value has them all.
 use Rattle.std.proofs.Common.{Ordering}
 use Rattle.std.proofs.Common.{◌≡◌, ◌∙◌, ℕ, ◌+◌, ◌-◌, ◌^◌, ◌≤◌, Bool, true, false, cond, ◌&&◌, not, nat_eq, List, [], ◌∷◌, Option, Some, None, refl, sym, ap, ap₂, subst, arith, true≢false}
-use Rattle.std.specs.BTreeMap.Range.{is_from_start, is_past_end, range_contains}
+use Rattle.std.specs.BTreeMap.Range.{entries_between, is_from_start, is_past_end, range_contains}
 use Rattle.std.specs.Cmp.{ranked, nat_cmp_is}
-use Rattle.std.specs.List.{filter}
 use Rattle.std.specs.Option.{option_cmp, option_eq}
 use Rattle.std.specs.Ordering.{is_le, nat_cmp, ordering_then}
 use Rattle.std.specs.declared.cmp.Ordering.TheVariants.{Less, Equal, Greater}
@@ -14,7 +13,7 @@ use Rattle.si_model.specs.declared.numbers.Value.{Value}
 use Rattle.si_model.specs.Operations.{same_value}
 use Rattle.si_model.proofs.Equalities.{read_is}
 use Rattle.si_judge.specs.declared.reads.Reader.{Reader}
-use Rattle.si_judge.specs.Readers.{beyond, is_later, is_reader_of, least_of, least_reader, reader_cmp, readers_among, with_own}
+use Rattle.si_judge.specs.Readers.{beyond, is_later, is_reader_of, least_of, least_reader, reader_cmp, readers_among}
 use Rattle.si_judge.specs.Spread.{value_cmp}
 
 -- ---- from the least reader on
@@ -80,19 +79,18 @@ in_range v after r e =
     ap₂ (λ a b. a && not b) from (up_to_next v r value)
 
 -- no reader of the value is outside
-pub range_has_all : (v : Option Value) (after : Option Stamp) (f : Reader → Option Value) (rs : List Reader)
-    → readers_among (with_own f (filter (range_contains reader_cmp (least_reader v after) (beyond v)) rs)) v after ≡ readers_among (with_own f rs) v after
-range_has_all v after f [] = refl
-range_has_all v after f (r ∷ rs) = by (is_inside r) (is_reader_of v after r) refl refl (range_has_all v after f rs)
+pub range_has_all : (v : Option Value) (after : Option Stamp) (es : List (Reader × Option Value))
+    → readers_among (entries_between reader_cmp (least_reader v after) (beyond v) es) v after ≡ readers_among es v after
+range_has_all v after [] = refl
+range_has_all v after (e ∷ es) = by (range_contains reader_cmp (least_reader v after) (beyond v) e.0) (is_reader_of v after e.0) refl refl (range_has_all v after es)
   where
-    is_inside : Reader → Bool
-    is_inside = range_contains reader_cmp (least_reader v after) (beyond v)
+    inside : List (Reader × Option Value)
+    inside = entries_between reader_cmp (least_reader v after) (beyond v) es
 
-    by : (a b : Bool) → is_inside r ≡ a → is_reader_of v after r ≡ b
-        → readers_among (with_own f (filter is_inside rs)) v after ≡ readers_among (with_own f rs) v after
-        → readers_among (with_own f (cond a (r ∷ filter is_inside rs) (filter is_inside rs))) v after
-        ≡ cond b ((r, f r) ∷ readers_among (with_own f rs) v after) (readers_among (with_own f rs) v after)
-    by true true e g rest = rw g (ap (λ l. (r, f r) ∷ l) rest)
-    by true false e g rest = rw g rest
-    by false true e g rest = absurd (true≢false (sym (in_range v after r g) ∙ e))
-    by false false e g rest = rest
+    by : (a b : Bool) → range_contains reader_cmp (least_reader v after) (beyond v) e.0 ≡ a → is_reader_of v after e.0 ≡ b
+        → readers_among inside v after ≡ readers_among es v after
+        → readers_among (cond a (e ∷ inside) inside) v after ≡ cond b (e ∷ readers_among es v after) (readers_among es v after)
+    by true true s g rest = rw g (ap (λ l. e ∷ l) rest)
+    by true false s g rest = rw g rest
+    by false true s g rest = absurd (true≢false (sym (in_range v after e.0 g) ∙ s))
+    by false false s g rest = rest

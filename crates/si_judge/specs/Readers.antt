@@ -1,17 +1,17 @@
 -- The reads of a key's committed transactions. All of it is this project's choice.
-use Rattle.std.specs.Prelude.{◌≡◌, ℕ, ◌<◌, ◌+◌, ◌-◌, ◌^◌, Bool, true, ◌&&◌, if◌then◌else◌, nat_eq, nat_lt, List, map, Some, None, Option, ⊤}
-use Rattle.std.specs.BTreeMap.{is_at}
+use Rattle.std.specs.Prelude.{◌≡◌, ℕ, ◌<◌, ◌+◌, ◌-◌, ◌^◌, Bool, true, ◌&&◌, if◌then◌else◌, nat_eq, nat_lt, List, Some, None, Option, ⊤}
 use Rattle.std.specs.List.{filter}
 use Rattle.std.specs.List.Sorted.{IsStrictlySortedBy}
-use Rattle.std.specs.Map.{keys_of, lookup, update}
+use Rattle.std.specs.Map.{keys_of}
 use Rattle.std.specs.Option.{option_cmp, option_eq}
-use Rattle.std.specs.Ordering.{eq_by_cmp, nat_cmp, ordering_then}
+use Rattle.std.specs.Ordering.{nat_cmp, ordering_then}
 use Rattle.std.specs.declared.cmp.Ordering.{Ordering}
 use Rattle.std.specs.declared.ops.Bound.{Bound}
 use Rattle.std.specs.declared.ops.Bound.TheVariants.{Included, Excluded, Unbounded}
 use Rattle.si_model.specs.declared.numbers.Stamp.{Stamp}
 use Rattle.si_model.specs.declared.numbers.Value.{Value}
 use Rattle.si_model.specs.Operations.{same_value}
+use Rattle.si_sorted.specs.Entries.{Sets, value_at}
 use Rattle.si_judge.specs.Spread.{value_cmp}
 use Rattle.si_judge.specs.declared.reads.Reader.{Reader}
 
@@ -20,13 +20,9 @@ abbrev pub reader_cmp : Reader → Reader → Ordering
 reader_cmp r s = ordering_then (option_cmp value_cmp r.value s.value)
     (ordering_then (nat_cmp r.start.0 s.start.0) (ordering_then (nat_cmp r.txn.0 s.txn.0) (nat_cmp r.place s.place)))
 
--- the readers, each with what f says of it
-abbrev pub with_own : (Reader → Option Value) → List Reader → List (Reader × Option Value)
-with_own f rs = map (λ r. (r, f r)) rs
-
 -- what stands beside the reader: its transaction's own value there, if it has one
 abbrev pub own_at : List (Reader × Option Value) → Reader → Option (Option Value)
-own_at es r = lookup (is_at (reader_cmp r)) es
+own_at = value_at reader_cmp
 
 -- each reader stands once, in order
 abbrev pub AreInOrder : List (Reader × Option Value) → Type 0
@@ -34,7 +30,7 @@ AreInOrder es = IsStrictlySortedBy reader_cmp (keys_of es)
 
 -- o stands beside the reader afterwards, and all else as before
 abbrev pub SetsOwn : Reader → Option (Option Value) → List (Reader × Option Value) → List (Reader × Option Value) → Type 0
-SetsOwn r o old new = (q : Reader) → own_at new q ≡ update (eq_by_cmp reader_cmp) (own_at old) r o q
+SetsOwn = Sets reader_cmp
 
 -- ---- the reads of a value
 

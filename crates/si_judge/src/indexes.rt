@@ -14,12 +14,11 @@ use crate::maps::{insert_writes, remove_writes};
 use crate::parts::Parts;
 use crate::readers::Readers;
 use crate::reads::{OwnRead, Reader, Write, reads_in, version_of, writes_of};
-use crate::spread::Spread;
 use si_model::reads::{if_before, version_of as version_read};
 use si_model::{Installer, OutOfMemory, Part, Sight, Source, Stamp, TxnId, Value, VersionId};
+use si_sorted::SortedMap;
 use si_timeline::{Timeline, Version};
 use std::alloc::Global;
-use std::collections::BTreeMap;
 
 /// What is on a key: the transactions by their ids, and what is looked for in them.
 #[derive(Drop)]
@@ -30,7 +29,7 @@ pub struct Indexes {
     /// The installed versions.
     pub timeline: Timeline,
     /// The writes of all transactions, by their values.
-    pub writes: BTreeMap<Spread, Write>,
+    pub writes: SortedMap<Value, Write>,
     /// The reads of the committed transactions, each with its transaction's own value there.
     pub readers: Readers,
 }
@@ -52,7 +51,7 @@ impl Indexes {
             initial: None,
             parts: Parts::new(alloc),
             timeline: Timeline::new(alloc),
-            writes: BTreeMap::new(alloc),
+            writes: SortedMap::new(alloc),
             readers: Readers::new(alloc),
         }
     }
@@ -158,10 +157,7 @@ impl Indexes {
     fn write_of(&self, value: Option<Value>) -> Option<Write>
         ensures { result ≡ write_in self.now value }
     {
-        match self.writes.get(&Spread(value?.0)) {
-            Some(write) => Some(*write),
-            None => None,
-        }
+        self.writes.get(value?)
     }
 
     /// Where what a read returned comes from, which that write wrote, if there is one.

@@ -7,13 +7,13 @@ ghost use Rattle.si_judge.specs.Maps.{AreInserted, AreTakenOut, SetsValue};
 ghost use Rattle.si_judge.specs.Spread.{at_value, value_cmp};
 
 use crate::reads::Write;
-use crate::spread::Spread;
 use si_model::{OutOfMemory, Value};
+use si_sorted::SortedMap;
 use std::collections::BTreeMap;
 
-/// Puts the writes in, each under the number of its value.
+/// Puts the writes in, each under its value.
 pub fn insert_writes(
-    map: &mut BTreeMap<Spread, Write>,
+    map: &mut SortedMap<Value, Write>,
     writes: &[(Value, Write)],
 ) -> Result<(), OutOfMemory>
     ensures { OnOk result (AreInserted (eq_by_cmp value_cmp) (at_value map.old) writes.now (at_value map.new)) }
@@ -25,18 +25,18 @@ pub fn insert_writes(
 }
 
 fn insert_write(
-    map: &mut BTreeMap<Spread, Write>,
+    map: &mut SortedMap<Value, Write>,
     value: Value,
     write: Write,
 ) -> Result<(), OutOfMemory>
     ensures { OnOk result (SetsValue value (Some write) map.old map.new) }
 {
-    map.insert(Spread(value.0), write)?;
+    map.insert(value, write)?;
     Ok(())
 }
 
 /// Takes the writes out.
-pub fn remove_writes(map: &mut BTreeMap<Spread, Write>, writes: &[(Value, Write)])
+pub fn remove_writes(map: &mut SortedMap<Value, Write>, writes: &[(Value, Write)])
     ensures { AreTakenOut (eq_by_cmp value_cmp) (at_value map.old) writes.now (at_value map.new) }
 {
     for write in writes {
@@ -44,10 +44,10 @@ pub fn remove_writes(map: &mut BTreeMap<Spread, Write>, writes: &[(Value, Write)
     }
 }
 
-fn remove_write(map: &mut BTreeMap<Spread, Write>, value: Value)
+fn remove_write(map: &mut SortedMap<Value, Write>, value: Value)
     ensures { SetsValue value None map.old map.new }
 {
-    map.remove(&Spread(value.0));
+    map.remove(value);
 }
 
 /// Puts the value in its place, or takes it out where there is none.

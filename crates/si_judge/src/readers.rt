@@ -1,16 +1,14 @@
 //! The reads of a key's committed transactions, found by what they returned.
 
 ghost use Rattle.std.specs.Prelude.{◌≡◌, ◌++◌, None, OnOk, Some};
-ghost use Rattle.std.specs.BTreeMap.{get};
 ghost use Rattle.std.specs.Ordering.{eq_by_cmp};
 ghost use Rattle.si_judge.specs.Maps.{AreInserted, AreTakenOut};
-ghost use Rattle.si_judge.specs.Readers.{AreInOrder, SetsOwn, beyond, is_later, is_reader_of, least_reader, own_at, reader_cmp, readers_among, with_own};
+ghost use Rattle.si_judge.specs.Readers.{AreInOrder, SetsOwn, beyond, is_later, is_reader_of, least_reader, own_at, reader_cmp, readers_among};
 
-use crate::maps::put;
 use crate::reads::{OwnRead, Reader};
 use si_model::{OutOfMemory, Stamp, TxnId, Value};
+use si_sorted::{KeyTest, SortedMap};
 use std::alloc::Global;
-use std::collections::{BTreeMap, BTreeSet};
 use std::marker::Model;
 use std::ops::Bound;
 
@@ -19,21 +17,34 @@ use std::ops::Bound;
 /// Contracts see the list of pairs, in the order of readers.
 #[derive(Drop)]
 pub struct Readers {
-    all: BTreeSet<Reader>,
-    // Few have a value of their own, and the others take no room for one.
-    own: BTreeMap<Reader, Value>,
+    all: SortedMap<Reader, Option<Value>>,
 }
 
 impl Model for Readers {
     ghost use Rattle.std.specs.Prelude.{List, Option};
-    ghost use Rattle.std.specs.BTreeMap.{get};
     ghost use Rattle.si_model.specs.declared.numbers.Value.{Value as Written};
-    ghost use Rattle.si_judge.specs.Readers.{reader_cmp, with_own};
     ghost use Rattle.si_judge.specs.declared.reads.Reader.{Reader};
 
     ghost Value = { List (Reader × Option Written) };
 
-    ghost view = { λ s. with_own (get reader_cmp s.own) s.all.keys };
+    ghost view = { λ s. s.all };
+}
+
+/// The reads of a value, by readers that started after a stamp, if there is one.
+#[derive(Clone, Copy, Debug)]
+struct OfValue {
+    value: Option<Value>,
+    after: Option<Stamp>,
+}
+
+impl KeyTest<Reader> for OfValue {
+    ghost use Rattle.si_judge.specs.Readers.{is_reader_of};
+
+    ghost passes = { λ w r. is_reader_of w.value w.after r };
+
+    fn wants(&self, reader: Reader) -> bool {
+        is_reader_of(self.value, self.after, reader)
+    }
 }
 
 impl Readers {
@@ -44,8 +55,7 @@ impl Readers {
         ensures { result ≡ [] }
     {
         Readers {
-            all: BTreeSet::new(alloc),
-            own: BTreeMap::new(alloc),
+            all: SortedMap::new(alloc),
         }
     }
 
@@ -64,8 +74,7 @@ impl Readers {
         ensures value { OnOk result (SetsOwn reader (Some own) self.old self.new) }
         ensures ordered { OnOk result (AreInOrder self.new) }
     {
-        self.all.insert(reader)?;
-        put(&mut self.own, reader, own)?;
+        self.all.insert(reader, own)?;
         Ok(())
     }
 
@@ -83,8 +92,7 @@ impl Readers {
         ensures value { SetsOwn reader None self.old self.new }
         ensures ordered { AreInOrder self.new }
     {
-        self.all.remove(&reader);
-        self.own.remove(&reader);
+        self.all.remove(reader);
     }
 
     /// Adds the reads that returned the value, by readers that started after the stamp, if there is one.
@@ -96,35 +104,10 @@ impl Readers {
     ) -> Result<(), OutOfMemory>
         ensures { OnOk result (reads.new.items ≡ reads.old.items ++ readers_among self.now value after) }
     {
-        add_readers(&self.all, &self.own, reads, value, after)
-    }
-}
-
-/// Adds those among all, each with what it has of its own.
-fn add_readers(
-    all: &BTreeSet<Reader>,
-    own: &BTreeMap<Reader, Value>,
-    reads: &mut Vec<OwnRead>,
-    value: Option<Value>,
-    after: Option<Stamp>,
-) -> Result<(), OutOfMemory>
-    ensures { OnOk result (reads.new.items ≡ reads.old.items ++ readers_among (with_own (get reader_cmp own.now) all.now.keys) value after) }
-{
-    let range = (least_reader(value, after), beyond(value));
-    for reader in all.range(range) {
-        if is_reader_of(value, after, *reader) {
-            reads.push((*reader, own_value(own, reader)))?;
-        }
-    }
-    Ok(())
-}
-
-fn own_value(own: &BTreeMap<Reader, Value>, reader: &Reader) -> Option<Value>
-    ensures { result ≡ get reader_cmp own.now reader.now }
-{
-    match own.get(reader) {
-        Some(value) => Some(*value),
-        None => None,
+        let (least, beyond) = (least_reader(value, after), beyond(value));
+        self.all
+            .add_between(least, beyond, &OfValue { value, after }, reads)?;
+        Ok(())
     }
 }
 

@@ -1,56 +1,39 @@
--- The ends of a range of a map by commit stamps are the nearest versions.
-use Rattle.std.proofs.Common.{◌≡◌, ◌<◌, ◌≤◌, List, [], ◌∷◌, ◌++◌, Some, None, refl, sym, arith, is_gt, false, true≢false}
-use Rattle.std.specs.BTreeMap.{BTreeMap}
-use Rattle.std.specs.BTreeMap.Range.{IsRangeOf}
+-- What stands next to a stamp in a map by commit stamps are the nearest versions.
+use Rattle.std.proofs.Common.{◌≡◌, ◌<◌, ◌≤◌, List, Option, Some, None, refl, sym, arith, is_gt, is_lt, false, true≢false, Ordering}
 use Rattle.std.specs.Cmp.{ranked, nat_cmp_is}
-use Rattle.std.proofs.Common.{Ordering}
-use Rattle.std.specs.declared.ops.Bound.TheVariants.{Excluded, Unbounded}
 use Rattle.std.specs.declared.cmp.Ordering.TheVariants.{Less, Equal, Greater}
-use Rattle.std.proofs.lemmas.Map.Keys.{ge_from_not_lt}
 use Rattle.si_model.specs.declared.numbers.Stamp.{Stamp}
+use Rattle.si_sorted.specs.Entries.{IsFirstAbove, IsLastBelow}
 use Rattle.si_timeline.specs.Timelines.{Dated, IsNearestAfter, IsNearestBefore}
-use Rattle.si_timeline.specs.declared.versions.Version.{Version}
-use Rattle.si_timeline.proofs.Entries.{stamp_cmp, found, found_at, some_at}
+use Rattle.si_timeline.proofs.Entries.{stamp_cmp}
 
 less : (a b : Stamp) → a.0 < b.0 → stamp_cmp a b ≡ Less
 less a b lt = sym (nat_cmp_is a.0 b.0 Less lt)
 
-module _ (m : BTreeMap Stamp Version) (stamp : Stamp) (r : List Dated) where
-  pub last_before : (t : List Dated) (d : Dated) → IsRangeOf stamp_cmp Unbounded (Excluded stamp) m r → r ≡ t ++ d ∷ [] → IsNearestBefore m.entries stamp (Some d)
-  last_before t d range e =
-      let last = range.3 d t e in (
-        found_at d m.entries last.1,
-        ranked d.0.0 stamp.0 Less (sym last.0.1),
-        λ x c lt. ge_from_not_lt d.0.0 x.0.0 (range.4 d t e x.0 (tt, less x.0 stamp lt) (some_at m.entries x c)),
-      )
+greater : (a b : Stamp) → b.0 < a.0 → stamp_cmp a b ≡ Greater
+greater a b lt = sym (nat_cmp_is a.0 b.0 Greater lt)
 
-  pub none_before : IsRangeOf stamp_cmp Unbounded (Excluded stamp) m r → r ≡ [] → IsNearestBefore m.entries stamp None
-  none_before range e d c = go (stamp_cmp d.0 stamp) refl
-    where
-      go : (o : Ordering) → stamp_cmp d.0 stamp ≡ o → stamp.0 ≤ d.0.0
-      go Less is = absurd (found m.entries d c (range.5 e d.0 (tt, is)))
-      go Equal is = let same = ranked d.0.0 stamp.0 Equal (sym is) in omega (arith, same)
-      go Greater is = let more = ranked d.0.0 stamp.0 Greater (sym is) in omega (arith, more)
-
-  pub none_after : IsRangeOf stamp_cmp (Excluded stamp) Unbounded m r → r ≡ [] → IsNearestAfter m.entries stamp None
-  none_after range e d c = go (stamp_cmp stamp d.0) refl
-    where
-      go : (o : Ordering) → stamp_cmp stamp d.0 ≡ o → d.0.0 ≤ stamp.0
-      go Less is = absurd (found m.entries d c (range.5 e d.0 (is, tt)))
-      go Equal is = let same = ranked stamp.0 d.0.0 Equal (sym is) in omega (arith, same)
-      go Greater is = let more = ranked stamp.0 d.0.0 Greater (sym is) in omega (arith, more)
-
-pub first_after : (m : BTreeMap Stamp Version) (stamp : Stamp) (d : Dated) (t : List Dated) → IsRangeOf stamp_cmp (Excluded stamp) Unbounded m (d ∷ t) → IsNearestAfter m.entries stamp (Some d)
-first_after m stamp d t range = (
-  found_at d m.entries range.1.1,
-  ranked stamp.0 d.0.0 Less (sym range.1.0.0),
-  λ x c lt. at_most x (range.2 x.0 (less stamp x.0 lt, tt) (some_at m.entries x c)),
-)
+at_most : (a b : Stamp) → is_gt (stamp_cmp a b) ≡ false → a.0 ≤ b.0
+at_most a b e = go (stamp_cmp a b) refl e
   where
-    at_most : (x : Dated) → is_gt (stamp_cmp d.0 x.0) ≡ false → d.0.0 ≤ x.0.0
-    at_most x e = go (stamp_cmp d.0 x.0) refl e
-      where
-        go : (o : Ordering) → stamp_cmp d.0 x.0 ≡ o → is_gt o ≡ false → d.0.0 ≤ x.0.0
-        go Less is f = let below = ranked d.0.0 x.0.0 Less (sym is) in omega (arith, below)
-        go Equal is f = let same = ranked d.0.0 x.0.0 Equal (sym is) in omega (arith, same)
-        go Greater is f = absurd (true≢false f)
+    go : (o : Ordering) → stamp_cmp a b ≡ o → is_gt o ≡ false → a.0 ≤ b.0
+    go Less is f = let below = ranked a.0 b.0 Less (sym is) in omega (arith, below)
+    go Equal is f = let same = ranked a.0 b.0 Equal (sym is) in omega (arith, same)
+    go Greater is f = absurd (true≢false f)
+
+at_least : (a b : Stamp) → is_lt (stamp_cmp a b) ≡ false → b.0 ≤ a.0
+at_least a b e = go (stamp_cmp a b) refl e
+  where
+    go : (o : Ordering) → stamp_cmp a b ≡ o → is_lt o ≡ false → b.0 ≤ a.0
+    go Less is f = absurd (true≢false f)
+    go Equal is f = let same = ranked a.0 b.0 Equal (sym is) in omega (arith, same)
+    go Greater is f = let above = ranked a.0 b.0 Greater (sym is) in omega (arith, above)
+
+module _ (ds : List Dated) (stamp : Stamp) where
+  pub nearest_before : (r : Option Dated) → IsLastBelow stamp_cmp ds stamp r → IsNearestBefore ds stamp r
+  nearest_before None none = λ d c. at_most stamp d.0 (none d c)
+  nearest_before (Some d) last = (last.0, ranked stamp.0 d.0.0 Greater (sym last.1), λ e c lt. at_least d.0 e.0 (last.2 e c (greater stamp e.0 lt)))
+
+  pub nearest_after : (r : Option Dated) → IsFirstAbove stamp_cmp ds stamp r → IsNearestAfter ds stamp r
+  nearest_after None none = λ d c. at_least stamp d.0 (none d c)
+  nearest_after (Some d) first = (first.0, ranked stamp.0 d.0.0 Less (sym first.1), λ e c lt. at_most d.0 e.0 (first.2 e c (less stamp e.0 lt)))

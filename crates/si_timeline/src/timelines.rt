@@ -3,10 +3,9 @@ ghost use Rattle.si_timeline.specs.Timelines.{Adds, Has, IsNearestAfter, IsNeare
 
 use crate::Version;
 use si_model::{OutOfMemory, Stamp};
+use si_sorted::SortedMap;
 use std::alloc::Global;
-use std::collections::BTreeMap;
 use std::marker::Model;
-use std::ops::Bound;
 
 /// The versions of one key.
 ///
@@ -14,7 +13,7 @@ use std::ops::Bound;
 #[derive(Drop)]
 pub struct Timeline {
     // Under the commit stamp.
-    versions: BTreeMap<Stamp, Version>,
+    versions: SortedMap<Stamp, Version>,
 }
 
 impl Model for Timeline {
@@ -23,7 +22,7 @@ impl Model for Timeline {
 
     ghost Value = { List Dated };
 
-    ghost view = { λ t. t.versions.entries };
+    ghost view = { λ t. t.versions };
 }
 
 impl Timeline {
@@ -32,7 +31,7 @@ impl Timeline {
         ensures { result ≡ [] }
     {
         Timeline {
-            versions: BTreeMap::new(alloc),
+            versions: SortedMap::new(alloc),
         }
     }
 
@@ -56,7 +55,7 @@ impl Timeline {
         ensures gone { Lacks self.new commit }
         ensures rising { IsRising self.new }
     {
-        match self.versions.remove(&commit) {
+        match self.versions.remove(commit) {
             Some(version) => version,
             None => unreachable!(),
         }
@@ -67,10 +66,7 @@ impl Timeline {
         ensures nearest { IsNearestBefore self.now stamp result }
         ensures rising { IsRising self.now }
     {
-        match self.versions.range(..stamp).next_back() {
-            Some((commit, version)) => Some((*commit, *version)),
-            None => None,
-        }
+        self.versions.below(stamp)
     }
 
     /// The nearest version that was installed after the stamp.
@@ -78,11 +74,7 @@ impl Timeline {
         ensures nearest { IsNearestAfter self.now stamp result }
         ensures rising { IsRising self.now }
     {
-        let later = (Bound::Excluded(stamp), Bound::Unbounded);
-        match self.versions.range(later).next() {
-            Some((commit, version)) => Some((*commit, *version)),
-            None => None,
-        }
+        self.versions.above(stamp)
     }
 
     /// How many versions there are.

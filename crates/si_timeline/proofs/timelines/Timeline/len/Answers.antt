@@ -4,4 +4,4 @@ use Rattle.si_timeline.proofs.Entries.{rising}
 use Rattle.si_timeline.proofs.timelines.Timeline.len.Goals as goal
 
 pub returns-clause-rising : goal.returns-clause-rising
-returns-clause-rising c = subst IsRising c.self.view_is (rising c.self.inside.versions.entries c.len.ensures.ordered)
+returns-clause-rising c = subst IsRising c.self.view_is (rising c.self.inside.versions c.len.ensures.rising)

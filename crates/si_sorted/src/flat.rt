@@ -1,0 +1,174 @@
+//! Entries in a vector, in rising order of their keys.
+
+ghost use Rattle.std.specs.Prelude.{◌≡◌, ◌≤◌, None, IsTrue, MatchResult, OnErr, OnOk, length};
+ghost use Rattle.std.specs.BTreeMap.{insert_entry, is_at};
+ghost use Rattle.std.specs.List.Sorted.{IsStrictlySortedBy};
+ghost use Rattle.std.specs.Map.{keys_of, lookup, remove_entry};
+ghost use Rattle.si_sorted.specs.Entries.{IsFirstAbove, IsLastBelow};
+ghost use Rattle.si_sorted.specs.Places.{IsAboveAllBefore, IsAboveNoneFrom, IsBelowAllFrom, IsBelowNoneBefore, IsGapFor, IsPlaceOf};
+
+use std::alloc::AllocError;
+
+/// Where the key is, or where it would go.
+pub fn place_of<K: Ord + Copy + Drop, V: Copy + Drop>(
+    entries: &[(K, V)],
+    key: K,
+) -> Result<usize, usize>
+    requires { IsStrictlySortedBy K.cmp (keys_of entries.now) }
+    ensures { MatchResult result (IsPlaceOf K.cmp entries.now key) (IsGapFor K.cmp entries.now key) }
+{
+    if is_beyond(entries, key) {
+        return Err(entries.len());
+    }
+    searched(entries, key)
+}
+
+/// Whether the key is greater than all others, as one mostly is that comes last.
+fn is_beyond<K: Ord + Copy + Drop, V: Copy + Drop>(entries: &[(K, V)], key: K) -> bool
+    requires { IsStrictlySortedBy K.cmp (keys_of entries.now) }
+    ensures { IsTrue result → IsGapFor K.cmp entries.now key (length entries.now) }
+{
+    let len = entries.len();
+    len == 0 || key.cmp(&entries[len - 1].0).is_gt()
+}
+
+fn searched<K: Ord + Copy + Drop, V: Copy + Drop>(
+    entries: &[(K, V)],
+    key: K,
+) -> Result<usize, usize>
+    requires { IsStrictlySortedBy K.cmp (keys_of entries.now) }
+    ensures { MatchResult result (IsPlaceOf K.cmp entries.now key) (IsGapFor K.cmp entries.now key) }
+{
+    entries.binary_search_by_key(&key, |entry| entry.0)
+}
+
+/// How many entries would move if one came with the key.
+pub fn moved_by<K: Ord + Copy + Drop, V: Copy + Drop>(entries: &[(K, V)], key: K) -> usize
+    requires { IsStrictlySortedBy K.cmp (keys_of entries.now) }
+{
+    match place_of(entries, key) {
+        Ok(_) => 0,
+        Err(place) => entries.len() - place,
+    }
+}
+
+/// Puts the value under the key.
+pub fn insert_in<K: Ord + Copy + Drop, V: Copy + Drop>(
+    entries: &mut Vec<(K, V)>,
+    key: K,
+    value: V,
+) -> Result<(), AllocError>
+    requires { IsStrictlySortedBy K.cmp (keys_of entries.old.items) }
+    ensures ok { OnOk result (entries.new.items ≡ insert_entry K.cmp entries.old.items key value) }
+    ensures err { OnErr result (entries.new.items ≡ entries.old.items) }
+    ensures rising { IsStrictlySortedBy K.cmp (keys_of entries.new.items) }
+{
+    let place = place_of(entries.as_slice(), key);
+    put_at(entries, place, key, value)
+}
+
+/// Puts the value under the key, which is at that place, or would go there.
+fn put_at<K: Ord + Copy + Drop, V: Copy + Drop>(
+    entries: &mut Vec<(K, V)>,
+    place: Result<usize, usize>,
+    key: K,
+    value: V,
+) -> Result<(), AllocError>
+    requires rising { IsStrictlySortedBy K.cmp (keys_of entries.old.items) }
+    requires place { MatchResult place (IsPlaceOf K.cmp entries.old.items key) (IsGapFor K.cmp entries.old.items key) }
+    ensures ok { OnOk result (entries.new.items ≡ insert_entry K.cmp entries.old.items key value) }
+    ensures err { OnErr result (entries.new.items ≡ entries.old.items) }
+    ensures rising { IsStrictlySortedBy K.cmp (keys_of entries.new.items) }
+{
+    match place {
+        Ok(place) => {
+            entries[place] = (entries[place].0, value);
+            Ok(())
+        }
+        Err(place) => Ok(entries.insert(place, (key, value))?),
+    }
+}
+
+/// Takes the value out that stands under the key, if one does.
+pub fn remove_from<K: Ord + Copy + Drop, V: Copy + Drop>(
+    entries: &mut Vec<(K, V)>,
+    key: K,
+) -> Option<V>
+    requires { IsStrictlySortedBy K.cmp (keys_of entries.old.items) }
+    ensures value { result ≡ lookup (is_at (K.cmp key)) entries.old.items }
+    ensures entries { entries.new.items ≡ remove_entry (is_at (K.cmp key)) entries.old.items }
+    ensures gone { lookup (is_at (K.cmp key)) entries.new.items ≡ None }
+    ensures rising { IsStrictlySortedBy K.cmp (keys_of entries.new.items) }
+{
+    match place_of(entries.as_slice(), key) {
+        Ok(place) => Some(entries.remove(place).1),
+        Err(_) => None,
+    }
+}
+
+/// The value under the key, if one stands there.
+pub fn value_in<K: Ord + Copy + Drop, V: Copy + Drop>(entries: &[(K, V)], key: K) -> Option<V>
+    requires { IsStrictlySortedBy K.cmp (keys_of entries.now) }
+    ensures { result ≡ lookup (is_at (K.cmp key)) entries.now }
+{
+    match place_of(entries, key) {
+        Ok(place) => Some(entries[place].1),
+        Err(_) => None,
+    }
+}
+
+/// How many keys are less.
+pub fn count_below<K: Ord + Copy + Drop, V: Copy + Drop>(entries: &[(K, V)], key: K) -> usize
+    requires { IsStrictlySortedBy K.cmp (keys_of entries.now) }
+    ensures bound { result ≤ length entries.now }
+    ensures above { IsAboveAllBefore K.cmp entries.now key result }
+    ensures none { IsAboveNoneFrom K.cmp entries.now key result }
+{
+    match place_of(entries, key) {
+        Ok(place) => place,
+        Err(place) => place,
+    }
+}
+
+/// How many keys are less or the same.
+pub fn count_up_to<K: Ord + Copy + Drop, V: Copy + Drop>(entries: &[(K, V)], key: K) -> usize
+    requires { IsStrictlySortedBy K.cmp (keys_of entries.now) }
+    ensures bound { result ≤ length entries.now }
+    ensures none { IsBelowNoneBefore K.cmp entries.now key result }
+    ensures below { IsBelowAllFrom K.cmp entries.now key result }
+{
+    match place_of(entries, key) {
+        Ok(place) => place + 1,
+        Err(place) => place,
+    }
+}
+
+/// The last entry below the key.
+pub fn entry_before<K: Ord + Copy + Drop, V: Copy + Drop>(
+    entries: &[(K, V)],
+    key: K,
+) -> Option<(K, V)>
+    requires { IsStrictlySortedBy K.cmp (keys_of entries.now) }
+    ensures { IsLastBelow K.cmp entries.now key result }
+{
+    let count = count_below(entries, key);
+    if count == 0 {
+        return None;
+    }
+    Some(entries[count - 1])
+}
+
+/// The first entry above the key.
+pub fn entry_after<K: Ord + Copy + Drop, V: Copy + Drop>(
+    entries: &[(K, V)],
+    key: K,
+) -> Option<(K, V)>
+    requires { IsStrictlySortedBy K.cmp (keys_of entries.now) }
+    ensures { IsFirstAbove K.cmp entries.now key result }
+{
+    let count = count_up_to(entries, key);
+    if count < entries.len() {
+        return Some(entries[count]);
+    }
+    None
+}

@@ -1,0 +1,138 @@
+//! The two forms that a map has.
+
+ghost use Rattle.std.specs.Prelude.{◌≡◌, ◌++◌, None, IfOk, IfSome, OnErr, OnOk, length};
+ghost use Rattle.std.specs.BTreeMap.{insert_entry, is_at};
+ghost use Rattle.std.specs.BTreeMap.Range.{IsLeBy, IsLtBy, entries_between};
+ghost use Rattle.std.specs.List.{filter};
+ghost use Rattle.std.specs.Range.Bound.{IsForward};
+ghost use Rattle.std.specs.List.Sorted.{IsStrictlySortedBy};
+ghost use Rattle.std.specs.Map.{keys_of, lookup, remove_entry};
+ghost use Rattle.si_sorted.specs.Entries.{IsFirstAbove, IsLastBelow};
+ghost use Rattle.si_sorted.specs.Forms.{entries_in};
+
+use crate::flat::{entry_after, entry_before, insert_in, moved_by, remove_from, value_in};
+use crate::runs::{KeyTest, add_from, add_from_tree};
+use crate::trees::{after_in, before_in, tree_with};
+use std::alloc::{AllocError, Global};
+use std::collections::BTreeMap;
+use std::ops::Bound;
+
+/// An entry that would move more others than this goes into a tree, so that no order of keys, however chosen, makes a change cost
+/// more.
+pub const MOST_MOVED: usize = 256;
+
+/// The entries side by side, or in a tree once an entry would have moved too many others. It stays a tree.
+#[derive(Drop)]
+pub enum Form<K: Ord, V> {
+    Flat(Vec<(K, V)>),
+    Tree(BTreeMap<K, V>),
+}
+
+impl<K: Ord + Copy + Drop, V: Copy + Drop> Form<K, V> {
+    pub fn insert(&mut self, alloc: Global, key: K, value: V) -> Result<(), AllocError>
+        requires { IsStrictlySortedBy K.cmp (keys_of (entries_in self.old)) }
+        ensures ok { OnOk result (entries_in self.new ≡ insert_entry K.cmp (entries_in self.old) key value) }
+        ensures err { OnErr result (entries_in self.new ≡ entries_in self.old) }
+        ensures rising { IsStrictlySortedBy K.cmp (keys_of (entries_in self.new)) }
+    {
+        if let Some(tree) = self.grown(alloc, key, value)? {
+            *self = Form::Tree(tree);
+            return Ok(());
+        }
+        match self {
+            Form::Flat(entries) => insert_in(entries, key, value),
+            Form::Tree(tree) => {
+                tree.insert(key, value)?;
+                Ok(())
+            }
+        }
+    }
+
+    /// The tree that takes the place of a vector in which the entry would move too many others.
+    fn grown(&self, alloc: Global, key: K, value: V) -> Result<Option<BTreeMap<K, V>>, AllocError>
+        requires { IsStrictlySortedBy K.cmp (keys_of (entries_in self.now)) }
+        ensures { IfOk result (λ grown. IfSome grown (λ tree. tree.entries ≡ insert_entry K.cmp (entries_in self.now) key value)) }
+    {
+        match self {
+            Form::Flat(entries) if entries.len() > MOST_MOVED => {
+                if moved_by(entries.as_slice(), key) <= MOST_MOVED {
+                    return Ok(None);
+                }
+                Ok(Some(tree_with(alloc, entries.as_slice(), key, value)?))
+            }
+            _ => Ok(None),
+        }
+    }
+
+    pub fn remove(&mut self, key: K) -> Option<V>
+        requires { IsStrictlySortedBy K.cmp (keys_of (entries_in self.old)) }
+        ensures value { result ≡ lookup (is_at (K.cmp key)) (entries_in self.old) }
+        ensures entries { entries_in self.new ≡ remove_entry (is_at (K.cmp key)) (entries_in self.old) }
+        ensures gone { lookup (is_at (K.cmp key)) (entries_in self.new) ≡ None }
+        ensures rising { IsStrictlySortedBy K.cmp (keys_of (entries_in self.new)) }
+    {
+        match self {
+            Form::Flat(entries) => remove_from(entries, key),
+            Form::Tree(tree) => tree.remove(&key),
+        }
+    }
+
+    pub fn get(&self, key: K) -> Option<V>
+        requires { IsStrictlySortedBy K.cmp (keys_of (entries_in self.now)) }
+        ensures { result ≡ lookup (is_at (K.cmp key)) (entries_in self.now) }
+    {
+        match self {
+            Form::Flat(entries) => value_in(entries.as_slice(), key),
+            Form::Tree(tree) => match tree.get(&key) {
+                Some(value) => Some(*value),
+                None => None,
+            },
+        }
+    }
+
+    pub fn below(&self, key: K) -> Option<(K, V)>
+        requires { IsStrictlySortedBy K.cmp (keys_of (entries_in self.now)) }
+        ensures { IsLastBelow K.cmp (entries_in self.now) key result }
+    {
+        match self {
+            Form::Flat(entries) => entry_before(entries.as_slice(), key),
+            Form::Tree(tree) => before_in(tree, key),
+        }
+    }
+
+    pub fn above(&self, key: K) -> Option<(K, V)>
+        requires { IsStrictlySortedBy K.cmp (keys_of (entries_in self.now)) }
+        ensures { IsFirstAbove K.cmp (entries_in self.now) key result }
+    {
+        match self {
+            Form::Flat(entries) => entry_after(entries.as_slice(), key),
+            Form::Tree(tree) => after_in(tree, key),
+        }
+    }
+
+    pub fn add_between<T: KeyTest<K>>(
+        &self,
+        low: Bound<K>,
+        high: Bound<K>,
+        test: &T,
+        out: &mut Vec<(K, V)>,
+    ) -> Result<(), AllocError>
+        requires rising { IsStrictlySortedBy K.cmp (keys_of (entries_in self.now)) }
+        requires forward { IsForward (IsLeBy K.cmp) (IsLtBy K.cmp) low high }
+        ensures { OnOk result (out.new.items ≡ out.old.items ++ filter (λ e. T.passes test.now e.0) (entries_between K.cmp low high (entries_in self.now))) }
+    {
+        match self {
+            Form::Flat(entries) => add_from(entries.as_slice(), low, high, test, out),
+            Form::Tree(tree) => add_from_tree(tree, low, high, test, out),
+        }
+    }
+
+    pub fn len(&self) -> usize
+        ensures { result ≡ length (entries_in self.now) }
+    {
+        match self {
+            Form::Flat(entries) => entries.len(),
+            Form::Tree(tree) => tree.len(),
+        }
+    }
+}

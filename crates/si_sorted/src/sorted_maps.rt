@@ -1,0 +1,130 @@
+//! A map in the order of its keys.
+
+ghost use Rattle.std.specs.Prelude.{◌≡◌, ◌++◌, [], None, Some, IsTrue, OnErr, OnOk, ◌↔◌, length};
+ghost use Rattle.std.specs.BTreeMap.{insert_entry, is_at};
+ghost use Rattle.std.specs.BTreeMap.Range.{IsLeBy, IsLtBy, entries_between};
+ghost use Rattle.std.specs.List.{filter};
+ghost use Rattle.std.specs.Range.Bound.{IsForward};
+ghost use Rattle.std.specs.List.Sorted.{IsStrictlySortedBy};
+ghost use Rattle.std.specs.Map.{keys_of, remove_entry};
+ghost use Rattle.si_sorted.specs.Entries.{IsFirstAbove, IsLastBelow, Sets, value_at};
+ghost use Rattle.si_sorted.specs.Forms.{entries_in};
+
+use crate::forms::Form;
+use crate::runs::KeyTest;
+use std::alloc::{AllocError, Global};
+use std::marker::Model;
+use std::ops::Bound;
+
+/// A map in the order of its keys.
+///
+/// Contracts see the list of its entries, in rising order of the keys.
+#[derive(Drop)]
+pub struct SortedMap<K: Ord, V> {
+    alloc: Global,
+    form: Form<K, V>,
+}
+
+impl<K: Ord, V> Model for SortedMap<K, V> {
+    ghost use Rattle.std.specs.Prelude.{List};
+    ghost use Rattle.std.specs.List.Sorted.{IsStrictlySortedBy};
+    ghost use Rattle.std.specs.Map.{keys_of};
+    ghost use Rattle.si_sorted.specs.Forms.{entries_in};
+
+    ghost Value = { List (K × V) };
+
+    ghost view = { λ m. entries_in m.form };
+
+    ghost invariant = { λ m. IsStrictlySortedBy K.cmp (keys_of (entries_in m.form)) };
+}
+
+impl<K: Ord + Copy + Drop, V: Copy + Drop> SortedMap<K, V> {
+    /// No entry. It takes no memory.
+    pub fn new(alloc: Global) -> Self
+        ensures { result ≡ [] }
+    {
+        SortedMap {
+            alloc,
+            form: Form::Flat(Vec::new(alloc)),
+        }
+    }
+
+    /// Puts the value under the key. One that stood there is replaced.
+    ///
+    /// Where the growth of some memory is refused nothing has changed.
+    pub fn insert(&mut self, key: K, value: V) -> Result<(), AllocError>
+        ensures ok { OnOk result (self.new ≡ insert_entry K.cmp self.old key value) }
+        ensures sets { OnOk result (Sets K.cmp key (Some value) self.old self.new) }
+        ensures err { OnErr result (self.new ≡ self.old) }
+        ensures rising { IsStrictlySortedBy K.cmp (keys_of self.new) }
+    {
+        self.form.insert(self.alloc, key, value)?;
+        Ok(())
+    }
+
+    /// Takes the value out that stands under the key, if one does.
+    pub fn remove(&mut self, key: K) -> Option<V>
+        ensures value { result ≡ value_at K.cmp self.old key }
+        ensures entries { self.new ≡ remove_entry (is_at (K.cmp key)) self.old }
+        ensures sets { Sets K.cmp key None self.old self.new }
+        ensures gone { value_at K.cmp self.new key ≡ None }
+        ensures rising { IsStrictlySortedBy K.cmp (keys_of self.new) }
+    {
+        self.form.remove(key)
+    }
+
+    /// The value under the key, if one stands there.
+    pub fn get(&self, key: K) -> Option<V>
+        ensures { result ≡ value_at K.cmp self.now key }
+    {
+        self.form.get(key)
+    }
+
+    /// The last entry below the key.
+    pub fn below(&self, key: K) -> Option<(K, V)>
+        ensures nearest { IsLastBelow K.cmp self.now key result }
+        ensures rising { IsStrictlySortedBy K.cmp (keys_of self.now) }
+    {
+        self.form.below(key)
+    }
+
+    /// The first entry above the key.
+    pub fn above(&self, key: K) -> Option<(K, V)>
+        ensures nearest { IsFirstAbove K.cmp self.now key result }
+        ensures rising { IsStrictlySortedBy K.cmp (keys_of self.now) }
+    {
+        self.form.above(key)
+    }
+
+    /// Adds the entries between the bounds whose keys pass the test, in order. The lower bound is not above the upper one.
+    ///
+    /// Where the growth of some memory is refused a part of them may have been added.
+    pub fn add_between<T: KeyTest<K>>(
+        &self,
+        low: Bound<K>,
+        high: Bound<K>,
+        test: &T,
+        out: &mut Vec<(K, V)>,
+    ) -> Result<(), AllocError>
+        requires { IsForward (IsLeBy K.cmp) (IsLtBy K.cmp) low high }
+        ensures { OnOk result (out.new.items ≡ out.old.items ++ filter (λ e. T.passes test.now e.0) (entries_between K.cmp low high self.now)) }
+    {
+        self.form.add_between(low, high, test, out)?;
+        Ok(())
+    }
+
+    /// How many entries there are.
+    pub fn len(&self) -> usize
+        ensures count { result ≡ length self.now }
+        ensures rising { IsStrictlySortedBy K.cmp (keys_of self.now) }
+    {
+        self.form.len()
+    }
+
+    /// Whether there is no entry.
+    pub fn is_empty(&self) -> bool
+        ensures { IsTrue result ↔ (self.now ≡ []) }
+    {
+        self.form.len() == 0
+    }
+}

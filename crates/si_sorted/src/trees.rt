@@ -1,0 +1,68 @@
+//! Entries in a tree.
+
+ghost use Rattle.std.specs.Prelude.{◌≡◌, IfOk};
+ghost use Rattle.std.specs.BTreeMap.{insert_entry};
+ghost use Rattle.std.specs.List.Sorted.{IsStrictlySortedBy};
+ghost use Rattle.std.specs.Map.{keys_of};
+ghost use Rattle.si_sorted.specs.Entries.{IsFirstAbove, IsLastBelow};
+
+use std::alloc::{AllocError, Global};
+use std::collections::BTreeMap;
+use std::ops::Bound;
+
+/// The same entries in a tree, and the value under the key.
+pub fn tree_with<K: Ord + Copy + Drop, V: Copy + Drop>(
+    alloc: Global,
+    entries: &[(K, V)],
+    key: K,
+    value: V,
+) -> Result<BTreeMap<K, V>, AllocError>
+    requires { IsStrictlySortedBy K.cmp (keys_of entries.now) }
+    ensures { IfOk result (λ tree. tree.entries ≡ insert_entry K.cmp entries.now key value) }
+{
+    let mut tree = tree_of(alloc, entries)?;
+    tree.insert(key, value)?;
+    Ok(tree)
+}
+
+/// The same entries in a tree.
+fn tree_of<K: Ord + Copy + Drop, V: Copy + Drop>(
+    alloc: Global,
+    entries: &[(K, V)],
+) -> Result<BTreeMap<K, V>, AllocError>
+    requires { IsStrictlySortedBy K.cmp (keys_of entries.now) }
+    ensures { IfOk result (λ tree. tree.entries ≡ entries.now) }
+{
+    let mut tree = BTreeMap::new(alloc);
+    for entry in entries {
+        tree.insert(entry.0, entry.1)?;
+    }
+    Ok(tree)
+}
+
+/// The last entry below the key.
+pub fn before_in<K: Ord + Copy + Drop, V: Copy + Drop>(
+    tree: &BTreeMap<K, V>,
+    key: K,
+) -> Option<(K, V)>
+    ensures { IsLastBelow K.cmp tree.now.entries key result }
+{
+    match tree.range(..key).next_back() {
+        Some((key, value)) => Some((*key, *value)),
+        None => None,
+    }
+}
+
+/// The first entry above the key.
+pub fn after_in<K: Ord + Copy + Drop, V: Copy + Drop>(
+    tree: &BTreeMap<K, V>,
+    key: K,
+) -> Option<(K, V)>
+    ensures { IsFirstAbove K.cmp tree.now.entries key result }
+{
+    let above = (Bound::Excluded(key), Bound::Unbounded);
+    match tree.range(above).next() {
+        Some((key, value)) => Some((*key, *value)),
+        None => None,
+    }
+}
