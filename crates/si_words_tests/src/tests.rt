@@ -257,6 +257,46 @@ fn passes_and_shards_take_turns(rt: HostRuntime) -> Result<(), Fail> {
     Ok(())
 }
 
+/// Each pass issues once and each shard publishes once, the last shard first, so that the watermark rises at the last turn alone.
+fn take_one_turn_each(
+    rt: &impl Abort,
+    words: &Words,
+    book: &mut BookSeat,
+    workers: &mut [Worker],
+    issuers: &mut [Issuer],
+)
+    requires of_book { (book.old.table ≡ words.now.table) × (book.old.view.journal ≡ []) }
+    requires of_shards { (words.now.shards ≡ 16) × All (λ w. w.seat.table ≡ words.now.table) workers.old }
+    requires of_passes { All (λ i. i.pass.table ≡ words.now.table) issuers.old }
+{
+    let edit = Edit::Withdraw(TxnId(7));
+    assert!(rt; workers.len() == 16 && issuers.len() == 16);
+    for turn in 0..16 {
+        let number = turn as u64 + 1;
+        words.issue(book, &mut issuers[turn].pass, Snapshot::of(&edit));
+        workers[turn].advance(words, book, number, 0);
+        let pass = &mut issuers[15 - turn].pass;
+        assert_eq!(rt; words.issued(pass), number);
+        assert_eq!(rt; words.shard_mark(pass, 15 - turn), number);
+        assert_eq!(rt; words.watermark(pass), number / 16);
+    }
+}
+
+#[test]
+fn sixteen_passes_and_shards_take_turns(rt: HostRuntime) -> Result<(), Fail> {
+    let (words, mut book, shards, passes) = Words::open(rt.alloc(), 16, 16)?;
+    let mut workers = workers_of(rt.alloc(), &words, shards)?;
+    let mut issuers = issuers_of(rt.alloc(), &words, passes)?;
+    take_one_turn_each(
+        &rt,
+        &words,
+        &mut book,
+        workers.as_mut_slice(),
+        issuers.as_mut_slice(),
+    );
+    Ok(())
+}
+
 fn crosses<T: Send>(value: &T) {
     let _ = value;
 }

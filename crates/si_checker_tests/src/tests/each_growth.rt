@@ -8,23 +8,35 @@ use super::*;
 use si_checker::{Report, ReportFault, ShardReport};
 use si_model::Value;
 
-/// The first read of `y` is of a transaction in doubt until that is resolved, and the read by 2 goes with its transaction. What
-/// stays is that 6 read what was set up after 5 had written, and that 7 and 8 both wrote `w` at one time.
+/// Several worked rows, each on keys of its own: 2 misses what 1 wrote; 3 is in doubt while 4 reads from it, and reads itself what
+/// nobody wrote; 6 reads what `z` was set up with after 5 had written; 9 overlaps 8, and 7 once 8 is withdrawn; and the value of
+/// 10 can't be written again until that is withdrawn.
 const EDITS: &str = "
     arrive 1 1 2 x=1
     arrive 2 3 4 x?null
-    arrive 3 5 indoubt y=3
+    arrive 3 5 indoubt y=3 v?7
     arrive 4 7 8 y?3
     setup z=5
     arrive 5 9 10 z?5 z=6
     arrive 6 11 12 z?5
-    arrive 7 13 16 w=7
-    arrive 8 14 15 w=8
+    arrive 7 13 22 w=7
+    arrive 8 23 24 w=8
+    arrive 9 21 30 w=9
+    arrive 10 31 32 u=5
+    again arrive 11 33 34 u=5
+    withdraw 10
+    arrive 11 33 34 u=5
     resolve 3 6
-    withdraw 2";
+    withdraw 8";
 
-/// How many edits there are.
-const COUNT: u64 = 11;
+/// How many edits are accepted.
+const COUNT: u64 = 15;
+
+/// Why an edit that comes again later is refused at first.
+const TAKEN: AcceptFault = AcceptFault::Refused(Refusal::ValueTaken {
+    op: 0,
+    holder: TxnId(10),
+});
 
 const SHARDS: usize = 2;
 
@@ -32,20 +44,28 @@ fn told(rt: &(impl Abort + Print), what: &str) {
     println!(rt; "refused: {what}").expect(rt, "output");
 }
 
-/// Submits the edit, whose number is known. Where memory is refused nothing was submitted, and it is submitted again.
+/// Submits the edit, before which so many were. Where memory is refused nothing was submitted, and it is submitted again. Answers how
+/// many were submitted then.
 fn submit_in_the_end<N: Name, R: Wait + Abort + AllocGlobal + Print>(
     rt: &R,
     caller: &mut Caller<'_, N>,
-    words: &str,
-    number: u64,
-) {
+    line: &str,
+    before: u64,
+) -> u64 {
+    let words = line.strip_prefix("again ").unwrap_or(line);
     let mut answer = caller.submit(rt, edit(rt, words));
     if answer == Err(AcceptFault::OutOfMemory) {
         told(rt, "a submission");
-        assert_eq!(rt; caller.issued(), number.saturating_sub(1));
+        assert_eq!(rt; caller.issued(), before);
         answer = caller.submit(rt, edit(rt, words));
     }
-    assert_eq!(rt; answer, Ok(Number(number)));
+    if words.len() < line.len() {
+        assert!(rt; answer == Err(TAKEN));
+        return before;
+    }
+    let after = before.saturating_add(1);
+    assert_eq!(rt; answer, Ok(Number(after)));
+    after
 }
 
 /// Rebuilds the shard, which stays as it was where memory is refused.
@@ -89,13 +109,22 @@ fn settle_in_the_end<N: Name, R: Wait + Abort + Print>(
 /// The settled report is the one that was worked out by hand.
 fn look_at_end<N: Name, R: Wait + Abort + Print>(rt: &R, caller: &mut Caller<'_, N>) {
     let report = settle_in_the_end(rt, caller);
-    assert_report(rt, &report, (COUNT, 7, 1), &[overlap(), stale_set_up()]);
+    let kinds = [unknown(), overlap(), stale(), stale_set_up()];
+    assert_report(rt, &report, (COUNT, 9, 1), &kinds);
+}
+
+fn unknown() -> Kind {
+    Kind::Unknown {
+        txn: TxnId(3),
+        op: 1,
+        read: Some(Value(7)),
+    }
 }
 
 fn overlap() -> Kind {
     Kind::Overlap {
-        first: TxnId(8),
-        second: TxnId(7),
+        first: TxnId(7),
+        second: TxnId(9),
     }
 }
 
@@ -114,8 +143,9 @@ pub(super) fn by_report<N: Name, R: Wait + Abort + AllocGlobal + Print>(
     mut callers: Vec<Caller<'_, N>>,
 ) {
     let mut caller = next(rt, &mut callers);
-    for (words, number) in EDITS.trim().lines().zip(1u64..) {
-        submit_in_the_end(rt, &mut caller, words.trim(), number);
+    let mut submitted = 0;
+    for line in EDITS.trim().lines() {
+        submitted = submit_in_the_end(rt, &mut caller, line.trim(), submitted);
     }
     look_at_end(rt, &mut caller);
     for shard in 0..SHARDS {
@@ -156,7 +186,7 @@ fn look_at_shards<N: Name, R: Wait + Abort + Print>(rt: &R, caller: &mut Caller<
         assert_eq!(rt; report.position, COUNT);
         found = report.findings.len().saturating_add(found);
     }
-    assert_eq!(rt; found, 2);
+    assert_eq!(rt; found, 4);
 }
 
 fn of_shard_in_the_end<N: Name, R: Wait + Abort + Print>(
@@ -180,8 +210,9 @@ pub(super) fn by_turns<N: Name, R: Wait + Abort + AllocGlobal + Print>(
     mut callers: Vec<Caller<'_, N>>,
 ) {
     let mut caller = next(rt, &mut callers);
-    for (words, number) in EDITS.trim().lines().zip(1u64..) {
-        submit_in_the_end(rt, &mut caller, words.trim(), number);
+    let mut submitted = 0;
+    for line in EDITS.trim().lines() {
+        submitted = submit_in_the_end(rt, &mut caller, line.trim(), submitted);
         for shard in 0..SHARDS {
             work_in_the_end(rt, &mut caller, shard);
         }

@@ -90,6 +90,7 @@ pub(super) fn many_reads<N: Name, R: Wait + Abort + AllocGlobal>(
     caller.submits(rt, edit(rt, "arrive 1 1 2 x=1"), 1);
     submit_reads(rt, &mut caller);
     caller.look(rt, (2, 2, 0), &stale);
+    caller.look_at_shard(rt, 0, 2, &stale);
     caller.submits(rt, edit(rt, "withdraw 1"), 3);
     caller.look(rt, (3, 1, 0), &[]);
     caller.submits(rt, edit(rt, "arrive 1 1 2 x=1"), 4);

@@ -52,3 +52,19 @@ fn longer_keys_are_known_and_forgotten(rt: HostRuntime) {
     keys.truncate(9);
     assert_eq!(rt; keys.len(), 4);
 }
+
+/// How many keys a long input has.
+const MANY: usize = 5_000;
+
+/// Each of many different keys is known once, and found again.
+#[test]
+fn thousands_of_longer_keys_are_known(rt: HostRuntime) {
+    let hash = RandomState::new(&rt).expect(&rt, "a secret key");
+    let mut keys = KnownKeys::new(rt.alloc(), hash);
+    for turn in 0..2 * MANY {
+        let number = turn % MANY;
+        let text = format!(in rt.alloc(); "accounts/{number}/balance in whole cents");
+        let text = text.expect(&rt, "memory");
+        gives(&rt, &mut keys, &[(text.as_str(), MANY.min(turn + 1))]);
+    }
+}

@@ -53,5 +53,35 @@ fn many_edits_are_left_and_applied(rt: HostRuntime) -> Result<(), Fail> {
     let reply = many_applied(&rt, &mut world, 0, 4_000);
     assert_eq!(rt; reply, Reply::Applied(5_000));
     assert_eq!(rt; world.findings()?.len(), 0);
+    assert!(rt; rebuilt(&mut world, 0)?);
+    assert_eq!(rt; world.findings()?.len(), 0);
+    Ok(())
+}
+
+/// A transaction 2 that reads nothing from `x`, 4,000 times.
+fn many_reads(rt: &impl AllocGlobal) -> Result<String, Fail> {
+    let mut words = String::new(rt.alloc());
+    words.push_str("arrive 2 3 4")?;
+    for _ in 0..4_000u64 {
+        words.push_str(" x?null")?;
+    }
+    Ok(words)
+}
+
+#[test]
+fn many_reads_come_and_go(rt: HostRuntime) -> Result<(), Fail> {
+    let mut world = new_world(&rt, 2, 100)?;
+    let reads = many_reads(&rt)?;
+    for (words, number, found) in [
+        ("arrive 1 1 2 x=1", 1, 0),
+        (reads.as_str(), 2, 4_000),
+        ("withdraw 1", 3, 0),
+        ("arrive 1 1 2 x=1", 4, 4_000),
+        ("withdraw 2", 5, 0),
+    ] {
+        accept(&rt, &mut world, words, number);
+        assert_eq!(rt; stepped(&mut world, Step::Settle), Reply::Settled(number));
+        assert_eq!(rt; world.findings()?.len(), found);
+    }
     Ok(())
 }

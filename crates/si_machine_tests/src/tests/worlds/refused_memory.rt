@@ -7,19 +7,32 @@
 use super::*;
 use si_model::{Edit, Finding, Kind, Number, Refusal, TxnId, Value};
 
-/// What stays is that 6 read what was set up after 5 had written, and that 7 and 8 both wrote `w` at one time.
+/// Several worked rows, each on keys of its own: 2 misses what 1 wrote; 3 is in doubt while 4 reads from it, and reads itself what
+/// nobody wrote; 6 reads what `z` was set up with after 5 had written; 9 overlaps 8, and 7 once 8 is withdrawn; and the value of
+/// 10 can't be written again until that is withdrawn.
 const EDITS: &str = "
     arrive 1 1 2 x=1
     arrive 2 3 4 x?null
-    arrive 3 5 indoubt y=3
+    arrive 3 5 indoubt y=3 v?7
     arrive 4 7 8 y?3
     setup z=5
     arrive 5 9 10 z?5 z=6
     arrive 6 11 12 z?5
-    arrive 7 13 16 w=7
-    arrive 8 14 15 w=8
+    arrive 7 13 22 w=7
+    arrive 8 23 24 w=8
+    arrive 9 21 30 w=9
+    arrive 10 31 32 u=5
+    again arrive 11 33 34 u=5
+    withdraw 10
+    arrive 11 33 34 u=5
     resolve 3 6
-    withdraw 2";
+    withdraw 8";
+
+/// Why an edit that comes again later is refused at first.
+const TAKEN: Refusal = Refusal::ValueTaken {
+    op: 0,
+    holder: TxnId(10),
+};
 
 const SHARDS: usize = 2;
 
@@ -52,15 +65,26 @@ impl Pressed {
         Pressed { world, accepted: 0 }
     }
 
-    /// Accepts the edit. Where memory is refused it was not accepted, and is given again.
+    /// Gives the edit. Where memory is refused it was not accepted, and is given again.
     fn accept(&mut self, rt: &(impl Abort + AllocGlobal + Print), words: &str) {
+        let (words, wanted) = self.foretold(words);
         let mut reply = stepped(&mut self.world, Step::Accept(edit(rt, words)));
         if reply == Reply::NoMemory {
             told(rt, "an acceptance");
             reply = stepped(&mut self.world, Step::Accept(edit(rt, words)));
         }
-        self.accepted = self.accepted.saturating_add(1);
-        assert_eq!(rt; reply, Reply::Accepted(Number(self.accepted)));
+        assert_eq!(rt; reply, wanted);
+    }
+
+    /// The words of the edit, and the reply that it should have.
+    fn foretold<'a>(&mut self, words: &'a str) -> (&'a str, Reply) {
+        match words.strip_prefix("again ") {
+            Some(words) => (words, Reply::Refused(TAKEN)),
+            None => {
+                self.accepted = self.accepted.saturating_add(1);
+                (words, Reply::Accepted(Number(self.accepted)))
+            }
+        }
     }
 
     /// Rebuilds the shard, which stays as it was where memory is refused.
@@ -81,7 +105,7 @@ impl Pressed {
         assert_eq!(rt; many_applied(rt, &mut self.world, shard, 9), spoiled);
         let refused = stepped(&mut self.world, Step::Accept(edit(rt, "withdraw 77")));
         assert_eq!(rt; refused, Reply::Refused(Refusal::NoSuch));
-        self.accept(rt, "arrive 9 17 aborted");
+        self.accept(rt, "arrive 20 40 aborted");
         self.rebuild(rt, shard);
         assert_eq!(rt; self.world.position(shard), position);
     }
@@ -106,7 +130,7 @@ impl Pressed {
         panic!(rt; "the shard has to come to an end");
     }
 
-    /// One step of its own shard at a time.
+    /// One step of its own shard at a time. The shard has nothing left where the last edit was refused.
     fn apply_one(&mut self, rt: &(impl Abort + AllocGlobal + Print), shard: usize) {
         match stepped(&mut self.world, Step::Apply(shard)) {
             Reply::NoMemory => {
@@ -118,6 +142,7 @@ impl Pressed {
                 self.mend(rt, shard);
                 self.apply_one_again(rt, shard);
             }
+            Reply::Idle => assert_eq!(rt; self.world.position(shard), Some(self.accepted)),
             reply => assert_eq!(rt; Some(reply), self.world.position(shard).map(Reply::Applied)),
         }
     }
@@ -173,20 +198,31 @@ fn is_rebuilt(rt: &impl Abort, world: &mut World, shard: usize) -> bool {
     world.rebuild(shard).is_ok()
 }
 
-fn assert_found(rt: &impl Abort, found: &[Finding]) {
-    let overlap = Kind::Overlap {
-        first: TxnId(8),
-        second: TxnId(7),
-    };
-    let stale = Kind::Stale {
-        txn: TxnId(6),
+fn stale(txn: u64, read: Option<Value>, missed: u64) -> Kind {
+    Kind::Stale {
+        txn: TxnId(txn),
         op: 0,
-        read: Some(Value(5)),
-        missed: TxnId(5),
+        read,
+        missed: TxnId(missed),
+    }
+}
+
+/// The findings, in the order of their keys.
+fn assert_found(rt: &impl Abort, found: &[Finding]) {
+    let unknown = Kind::Unknown {
+        txn: TxnId(3),
+        op: 1,
+        read: Some(Value(7)),
     };
-    assert_eq!(rt; found.len(), 2);
-    assert_eq!(rt; found[0].kind, overlap);
-    assert_eq!(rt; found[1].kind, stale);
+    let overlap = Kind::Overlap {
+        first: TxnId(7),
+        second: TxnId(9),
+    };
+    assert_eq!(rt; found.len(), 4);
+    assert_eq!(rt; found[0].kind, unknown);
+    assert_eq!(rt; found[1].kind, overlap);
+    assert_eq!(rt; found[2].kind, stale(2, None, 1));
+    assert_eq!(rt; found[3].kind, stale(6, Some(Value(5)), 5));
 }
 
 #[test]
@@ -246,13 +282,12 @@ fn told_by_run(rt: &(impl Abort + AllocGlobal), world: &mut World, words: &str) 
 fn runs_are_made_in_the_end(rt: HostRuntime) {
     let mut pressed = Pressed::new(&rt);
     for words in EDITS.trim().lines() {
-        let mut reply = told_by_run(&rt, &mut pressed.world, words.trim());
+        let (words, wanted) = pressed.foretold(words.trim());
+        let mut reply = told_by_run(&rt, &mut pressed.world, words);
         if reply.is_none() || reply == Some(Reply::NoMemory) {
             told(&rt, "a run");
-            reply = told_by_run(&rt, &mut pressed.world, words.trim());
+            reply = told_by_run(&rt, &mut pressed.world, words);
         }
-        pressed.accepted = pressed.accepted.saturating_add(1);
-        let wanted = Reply::Accepted(Number(pressed.accepted));
         assert_eq!(rt; reply, Some(wanted));
     }
     pressed.look(&rt);
