@@ -1,5 +1,5 @@
 -- What a map of set-up values finds.
-use Rattle.std.proofs.Common.{◌≡◌, ℕ, Bool, true, false, List, [], ◌∷◌, Some, refl, sym, ap, ◌∙◌, cond}
+use Rattle.std.proofs.Common.{◌≡◌, ℕ, Bool, true, false, List, [], ◌∷◌, None, Some, refl, sym, ap, ◌∙◌, cond, length, arith}
 use Rattle.std.specs.List.{find}
 use Rattle.std.specs.Map.{lookup}
 use Rattle.std.specs.Option.{option_map}
@@ -28,3 +28,8 @@ found_in x (p ∷ es) = ap (λ b. cond b (Some p.1) (lookup (same_key x) es)) (s
 pub set_up_found : (x : List ℕ) (es : List (List ℕ × Value)) → lookup (same_key x) es ≡ set_up_value x es
 unfolding set_up_value
 set_up_found x es = found_in x es
+
+pub none_of_none : (x : List ℕ) (es : List (List ℕ × Value)) → length es ≡ 0 → None ≡ set_up_value x es
+unfolding set_up_value
+none_of_none x [] e = refl
+none_of_none x (p ∷ es) e = absurd (omega (arith, e))

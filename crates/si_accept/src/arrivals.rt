@@ -1,6 +1,6 @@
 //! Transactions in the order of arrival, found by their ids.
 
-ghost use Rattle.std.specs.Prelude.{◌≡◌, [], ◌∷◌, ◌++◌, None, OnOk, OnErr, IfOk, map, length};
+ghost use Rattle.std.specs.Prelude.{◌≡◌, ◌≤◌, [], ◌∷◌, ◌++◌, None, OnOk, OnErr, IfOk, map, length};
 ghost use Rattle.std.specs.List.{filter};
 ghost use Rattle.std.specs.Option.{option_copied};
 ghost use Rattle.si_model.specs.Edits.{with_id, resolved, is_another};
@@ -41,6 +41,7 @@ impl Model for Arrivals {
 }
 
 impl Arrivals {
+    /// No transaction.
     pub fn new(alloc: Global, hash: RandomState) -> Self
         ensures { result ≡ [] }
     {
@@ -53,10 +54,18 @@ impl Arrivals {
         }
     }
 
+    /// How many transactions there are.
     pub fn len(&self) -> usize
         ensures { result ≡ length self.now }
     {
         self.count
+    }
+
+    /// How many slots there are, empty ones among them: the room that the transactions take.
+    pub fn slots(&self) -> usize
+        ensures { length self.now ≤ result }
+    {
+        self.slots.len()
     }
 
     /// The transaction with that id.
@@ -166,6 +175,3 @@ fn empty(slot: &mut Option<Txn>)
 {
     *slot = None;
 }
-
-#[cfg(test)]
-mod tests;

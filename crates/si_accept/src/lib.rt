@@ -5,7 +5,7 @@
 //! and `thiserror`, and its proofs on `si_lists`.
 #![tactic(auto)]
 
-mod arrivals;
+pub mod arrivals;
 pub mod books;
 mod contents;
 pub mod faults;

@@ -39,6 +39,10 @@ impl SetUps {
     pub fn value(&self, key: &Key) -> Option<Value>
         ensures { result ≡ set_up_value key.now self.now }
     {
+        // Mostly no key is set up, and then none is hashed.
+        if self.values.is_empty() {
+            return None;
+        }
         self.values.get(key).copied()
     }
 

@@ -1,5 +1,6 @@
 //! What was worked out by hand: histories with their findings and evidence, and what is answered to edits.
 
+mod arrivals;
 mod book_scripts;
 mod books;
 mod evidence;

@@ -1,7 +1,10 @@
+//! The room that the book's list of transactions takes, which no clause bounds.
+
 use super::*;
-use si_model::{Ops, Stamp, Status};
-use std::process::Abort;
-use std::test::Fail;
+use si_accept::arrivals::Arrivals;
+use si_model::{Ops, OutOfMemory, Stamp, Status, Txn, TxnId};
+use std::alloc::Global;
+use std::hash::RandomState;
 
 fn txn_of(alloc: Global, id: u64) -> Result<Txn, OutOfMemory> {
     Ok(Txn {
@@ -23,7 +26,7 @@ fn leave(rt: &impl Abort, arrivals: &mut Arrivals, id: u64, turn: u64) {
         arrivals.withdraw(TxnId(id));
     }
     let most = 2 * arrivals.len().min(1000) + 1;
-    assert!(rt; arrivals.slots.len() <= most, "after {turn} turns");
+    assert!(rt; arrivals.slots() <= most, "after {turn} turns");
 }
 
 /// What is left has the ids 0, 100, 200 and so on, up to 900.
