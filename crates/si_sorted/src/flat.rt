@@ -52,6 +52,16 @@ pub fn moved_by<K: Ord + Copy + Drop, V: Copy + Drop>(entries: &[(K, V)], key: K
     }
 }
 
+/// How many entries would move if the key's went.
+pub fn moved_without<K: Ord + Copy + Drop, V: Copy + Drop>(entries: &[(K, V)], key: K) -> usize
+    requires { IsStrictlySortedBy K.cmp (keys_of entries.now) }
+{
+    match place_of(entries, key) {
+        Ok(place) => entries.len() - place,
+        Err(_) => 0,
+    }
+}
+
 /// Puts the value under the key.
 pub fn insert_in<K: Ord + Copy + Drop, V: Copy + Drop>(
     entries: &mut Vec<(K, V)>,

@@ -10,15 +10,17 @@ ghost use Rattle.std.specs.Map.{keys_of, lookup, remove_entry};
 ghost use Rattle.si_sorted.specs.Entries.{IsFirstAbove, IsLastBelow};
 ghost use Rattle.si_sorted.specs.Forms.{entries_in};
 
-use crate::flat::{entry_after, entry_before, insert_in, moved_by, remove_from, value_in};
+use crate::flat::{
+    entry_after, entry_before, insert_in, moved_by, moved_without, remove_from, value_in,
+};
 use crate::runs::{KeyTest, add_from, add_from_tree};
-use crate::trees::{after_in, before_in, tree_with};
+use crate::trees::{after_in, before_in, tree_of, tree_with};
 use std::alloc::{AllocError, Global};
 use std::collections::BTreeMap;
 use std::ops::Bound;
 
-/// An entry that would move more others than this goes into a tree, so that no order of keys, however chosen, makes a change cost
-/// more.
+/// Where an entry that comes or goes would move more others than this, all go into a tree, so that no order of keys, however
+/// chosen, makes a change cost more.
 pub const MOST_MOVED: usize = 256;
 
 /// The entries side by side, or in a tree once an entry would have moved too many others. It stays a tree.
@@ -64,16 +66,36 @@ impl<K: Ord + Copy + Drop, V: Copy + Drop> Form<K, V> {
         }
     }
 
-    pub fn remove(&mut self, key: K) -> Option<V>
+    pub fn remove(&mut self, alloc: Global, key: K) -> Option<V>
         requires { IsStrictlySortedBy K.cmp (keys_of (entries_in self.old)) }
         ensures value { result ≡ lookup (is_at (K.cmp key)) (entries_in self.old) }
         ensures entries { entries_in self.new ≡ remove_entry (is_at (K.cmp key)) (entries_in self.old) }
         ensures gone { lookup (is_at (K.cmp key)) (entries_in self.new) ≡ None }
         ensures rising { IsStrictlySortedBy K.cmp (keys_of (entries_in self.new)) }
     {
+        if let Some(tree) = self.tree_to_remove_from(alloc, key) {
+            *self = Form::Tree(tree);
+        }
         match self {
             Form::Flat(entries) => remove_from(entries, key),
             Form::Tree(tree) => tree.remove(&key),
+        }
+    }
+
+    /// The tree that takes the place of a vector in which too many would move if the key's entry went. Where memory is refused
+    /// for it there is none, and they move.
+    fn tree_to_remove_from(&self, alloc: Global, key: K) -> Option<BTreeMap<K, V>>
+        requires { IsStrictlySortedBy K.cmp (keys_of (entries_in self.now)) }
+        ensures { IfSome result (λ tree. tree.entries ≡ entries_in self.now) }
+    {
+        match self {
+            Form::Flat(entries) if entries.len() > MOST_MOVED => {
+                if moved_without(entries.as_slice(), key) <= MOST_MOVED {
+                    return None;
+                }
+                tree_of(alloc, entries.as_slice()).ok()
+            }
+            _ => None,
         }
     }
 

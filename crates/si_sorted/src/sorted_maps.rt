@@ -70,7 +70,7 @@ impl<K: Ord + Copy + Drop, V: Copy + Drop> SortedMap<K, V> {
         ensures gone { value_at K.cmp self.new key ≡ None }
         ensures rising { IsStrictlySortedBy K.cmp (keys_of self.new) }
     {
-        self.form.remove(key)
+        self.form.remove(self.alloc, key)
     }
 
     /// The value under the key, if one stands there.

@@ -26,7 +26,7 @@ pub fn tree_with<K: Ord + Copy + Drop, V: Copy + Drop>(
 }
 
 /// The same entries in a tree.
-fn tree_of<K: Ord + Copy + Drop, V: Copy + Drop>(
+pub fn tree_of<K: Ord + Copy + Drop, V: Copy + Drop>(
     alloc: Global,
     entries: &[(K, V)],
 ) -> Result<BTreeMap<K, V>, AllocError>

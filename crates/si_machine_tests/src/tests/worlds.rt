@@ -7,7 +7,7 @@ mod rows;
 
 use super::*;
 use si_core::{Reply, Step, World, WorldFault};
-use si_model::MOST_EDITS;
+use si_model::{Finding, MOST_EDITS, findings_of, is_history};
 use si_scripts::{asked, edit_of};
 use si_shard::MOST_SHARDS;
 use std::hash::RandomState;
@@ -48,4 +48,15 @@ fn fault_of(world: &World) -> Option<WorldFault> {
         Ok(_) => None,
         Err(fault) => Some(fault),
     }
+}
+
+/// What is found on what is present, which is what the plain program finds there.
+fn compare_findings(rt: &(impl Abort + AllocGlobal), world: &World) -> Result<Vec<Finding>, Fail> {
+    let txns = world.present()?;
+    let initial = world.initial()?;
+    assert!(rt; is_history(&txns, &initial));
+    let plain = findings_of(rt.alloc(), &txns, &initial)?;
+    let found = world.findings()?;
+    assert!(rt; found.iter().eq(plain.iter()));
+    Ok(found)
 }

@@ -4,7 +4,7 @@
 use super::*;
 use chance::{Few, some_edit};
 use si_model::plain::Walked;
-use si_model::{Edit, Finding, Number, Refusal, findings_of, is_history, refusal_on};
+use si_model::{Edit, Finding, Number, Refusal, refusal_on};
 use si_scripts::Dice;
 
 /// How many edits a journal may have, and how many steps a machine makes.
@@ -175,13 +175,7 @@ impl Driven {
             assert_eq!(rt; fault_of(&self.world), Some(WorldFault::Unsettled(least)));
             return Ok(());
         }
-        let txns = self.world.present()?;
-        let initial = self.world.initial()?;
-        assert!(rt; is_history(&txns, &initial));
-        let plain = findings_of(rt.alloc(), &txns, &initial)?;
-        let found = self.world.findings()?;
-        assert!(rt; found.iter().eq(plain.iter()));
-        tally.count_findings(&found);
+        tally.count_findings(&compare_findings(rt, &self.world)?);
         Ok(())
     }
 }

@@ -85,3 +85,55 @@ fn many_reads_come_and_go(rt: HostRuntime) -> Result<(), Fail> {
     }
     Ok(())
 }
+
+/// The transaction with that id reads what the one before it in the order of ids wrote, and overwrites it.
+fn following(rt: &impl AllocGlobal, id: u64) -> Result<String, Fail> {
+    let start = id.saturating_mul(10);
+    let before = id.saturating_sub(1);
+    let commit = start.saturating_add(5);
+    Ok(format!(in rt.alloc(); "arrive {id} {start} {commit} x?{before} x={id}")?)
+}
+
+/// 700 versions of one key come, and 350 of them go again. With the step 1 they do so in rising order, with 700 in falling order,
+/// and with another number by leaps, since 701 is prime. Side by side they would move too many others, so they go over to a tree,
+/// at an arrival or at the first withdrawal.
+fn come_and_go(
+    rt: &(impl Abort + AllocGlobal + RandomSource),
+    coming: u64,
+    going: u64,
+) -> Result<(), Fail> {
+    let mut world = new_world(rt, 1, 10_000)?;
+    accept(rt, &mut world, "setup x=0", 1);
+    for turn in 1..=700u64 {
+        let words = following(rt, turn.saturating_mul(coming) % 701)?;
+        accept(rt, &mut world, words.as_str(), turn + 1);
+        if turn % 100 == 50 {
+            compare_settled(rt, &mut world)?;
+        }
+    }
+    stepped(&mut world, Step::Settle);
+    assert_eq!(rt; world.findings()?.len(), 0);
+    for turn in 1..=350u64 {
+        let words = format!(in rt.alloc(); "withdraw {}", turn.saturating_mul(going) % 701)?;
+        accept(rt, &mut world, words.as_str(), turn + 701);
+        if turn % 100 == 50 {
+            compare_settled(rt, &mut world)?;
+        }
+    }
+    Ok(())
+}
+
+/// Settles, and compares the findings with those of the plain program.
+fn compare_settled(rt: &(impl Abort + AllocGlobal), world: &mut World) -> Result<(), Fail> {
+    stepped(world, Step::Settle);
+    compare_findings(rt, world)?;
+    Ok(())
+}
+
+#[test]
+fn versions_of_a_key_come_and_go_in_any_order(rt: HostRuntime) -> Result<(), Fail> {
+    for (coming, going) in [(1, 1), (1, 350), (700, 700), (263, 97)] {
+        come_and_go(&rt, coming, going)?;
+    }
+    Ok(())
+}
