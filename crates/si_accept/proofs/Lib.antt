@@ -1,5 +1,5 @@
 pub mod Empty
-pub mod Pairs
+pub mod Holders
 pub mod KeyPlaces
 pub mod WriterLemmas
 pub mod Exact

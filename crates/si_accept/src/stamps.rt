@@ -4,23 +4,25 @@ ghost use Rattle.std.specs.Prelude.{◌≡◌, [], OnOk, OnErr, true, false};
 ghost use Rattle.si_accept.specs.Stamps.{has, IsLeast, Sets};
 
 use si_model::{OutOfMemory, Stamp, TxnId};
+use si_sorted::SortedMap;
 use std::alloc::Global;
-use std::collections::BTreeSet;
 use std::marker::Model;
 
 /// Stamps with the transactions that have them. Contracts see the pairs.
 #[derive(Drop)]
 pub struct Stamps {
-    // Pairs of a stamp and the id of a transaction that has it, so that the least id of a stamp comes first.
-    holders: BTreeSet<(u64, u64)>,
+    // Pairs of a stamp and the id of a transaction that has it, so that the least id of a stamp comes first. Stamps mostly rise,
+    // so that the last pair is the one to look at.
+    holders: SortedMap<(u64, u64), ()>,
 }
 
 impl Model for Stamps {
     ghost use Rattle.std.specs.Prelude.{List, ℕ};
+    ghost use Rattle.std.specs.Map.{keys_of};
 
     ghost Value = { List (ℕ × ℕ) };
 
-    ghost view = { λ s. s.holders.keys };
+    ghost view = { λ s. keys_of s.holders };
 }
 
 impl Stamps {
@@ -28,7 +30,7 @@ impl Stamps {
         ensures { result ≡ [] }
     {
         Stamps {
-            holders: BTreeSet::new(alloc),
+            holders: SortedMap::new(alloc),
         }
     }
 
@@ -36,8 +38,11 @@ impl Stamps {
     pub fn least(&self, stamp: Stamp) -> Option<TxnId>
         ensures { IsLeast (has self.now stamp) result }
     {
-        match self.holders.range((stamp.0, 0)..).next() {
-            Some(&(found, id)) => {
+        if self.holders.get((stamp.0, 0)).is_some() {
+            return Some(TxnId(0));
+        }
+        match self.holders.above((stamp.0, 0)) {
+            Some(((found, id), ())) => {
                 if found == stamp.0 {
                     Some(TxnId(id))
                 } else {
@@ -53,7 +58,7 @@ impl Stamps {
         ensures ok { OnOk result (Sets stamp id true self.old self.new) }
         ensures err { OnErr result (self.new ≡ self.old) }
     {
-        self.holders.insert((stamp.0, id.0))?;
+        self.holders.insert((stamp.0, id.0), ())?;
         Ok(())
     }
 
@@ -61,6 +66,6 @@ impl Stamps {
     pub fn remove(&mut self, stamp: Stamp, id: TxnId)
         ensures { Sets stamp id false self.old self.new }
     {
-        let _was_there = self.holders.remove(&(stamp.0, id.0));
+        let _was_there = self.holders.remove((stamp.0, id.0));
     }
 }
