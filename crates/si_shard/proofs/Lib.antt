@@ -8,3 +8,4 @@ pub mod Applying
 pub mod ShardFindings
 pub mod Beginnings
 pub mod ShardsTogether
+pub mod Changing
