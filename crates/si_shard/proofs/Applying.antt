@@ -26,23 +26,30 @@ use Rattle.si_shard.proofs.ArrivalPlaces.{after_arrival, after_resolution, after
 use Rattle.si_shard.proofs.KeyChanges.{can_change, change_or_not, follows_change, stays}
 use Rattle.si_shard.proofs.Leading.{leads_on}
 
+-- the arrivals after one more edit
+module _ (id : ShardId) (edits : List Edit) (e : Edit) (old : Applied) (arrivals : AreArrivals id edits (present edits).txns (get nat_eq old.arrivals)) (new : Applied) (touches : Bool)
+    (quiet : touches ≡ false → IsNothing id (ops_for (get nat_eq old.arrivals) edits e) (head_for (get nat_eq old.arrivals) edits e) e)
+    (sets : SetsArrival e touches (length edits) (get nat_eq old.arrivals) (get nat_eq new.arrivals)) where
+  arrivals_by : (f : Edit) → f ≡ e → (touches ≡ false → IsNothing id (ops_for (get nat_eq old.arrivals) edits f) (head_for (get nat_eq old.arrivals) edits f) f)
+      → SetsArrival f touches (length edits) (get nat_eq old.arrivals) (get nat_eq new.arrivals) → AreArrivals id (edits ++ f ∷ []) (after f (present edits)).txns (get nat_eq new.arrivals)
+  unfolding after
+  arrivals_by (edit.Arrive T) is quiet sets = after_arrival id edits (present edits).txns (get nat_eq old.arrivals) (get nat_eq new.arrivals) arrivals T touches (told touches refl) sets
+    where
+      told : (b : Bool) → touches ≡ b → TouchesShard id T → touches ≡ true
+      told true s t = s
+      told false s (x, a, ours, c) = absurd (quiet s x (change_by (head_for (get nat_eq old.arrivals) edits (edit.Arrive T)) (edit.Arrive T) (accesses x T.ops)) ours (a, c, refl))
+  arrivals_by (edit.Resolve u o) is quiet sets = after_resolution id edits (present edits).txns (get nat_eq old.arrivals) (get nat_eq new.arrivals) arrivals u o touches sets
+  arrivals_by (edit.Withdraw u) is quiet sets = after_withdrawal id edits (present edits).txns (get nat_eq old.arrivals) (get nat_eq new.arrivals) arrivals u touches sets
+  arrivals_by (edit.SetUp x v) is quiet sets = after_set_up id edits (present edits).txns (get nat_eq old.arrivals) (get nat_eq new.arrivals) arrivals x v touches sets
+
+  pub arrivals_next : AreArrivals id (edits ++ e ∷ []) (present (edits ++ e ∷ [])).txns (get nat_eq new.arrivals)
+  arrivals_next = subst (λ P. AreArrivals id (edits ++ e ∷ []) P.txns (get nat_eq new.arrivals)) (sym (present_push edits e)) (arrivals_by e refl quiet sets)
+
 module _ {S : Type 0} (id : ShardId) (edits : List Edit) (e : Edit) (old : Applied) (lists : HashMap (List ℕ) Waits S) (sound : AreGatheredTo id edits old lists)
     (accepted : IsAccepted (edits ++ e ∷ [])) where
   module _ (new : Applied) (touches : Bool) (quiet : touches ≡ false → IsNothing id (ops_for (get nat_eq old.arrivals) edits e) (head_for (get nat_eq old.arrivals) edits e) e) (keys : new.keys ≡ old.keys)
       (more : HashMap (List ℕ) Waits S) (adds : IsGathered id (ops_for (get nat_eq old.arrivals) edits e) (head_for (get nat_eq old.arrivals) edits e) e (length edits) lists more)
       (sets : SetsArrival e touches (length edits) (get nat_eq old.arrivals) (get nat_eq new.arrivals)) where
-    arrivals_by : (f : Edit) → f ≡ e → (touches ≡ false → IsNothing id (ops_for (get nat_eq old.arrivals) edits f) (head_for (get nat_eq old.arrivals) edits f) f)
-        → SetsArrival f touches (length edits) (get nat_eq old.arrivals) (get nat_eq new.arrivals) → AreArrivals id (edits ++ f ∷ []) (after f (present edits)).txns (get nat_eq new.arrivals)
-    unfolding after
-    arrivals_by (edit.Arrive T) is quiet sets = after_arrival id edits (present edits).txns (get nat_eq old.arrivals) (get nat_eq new.arrivals) sound.arrivals T touches (told touches refl) sets
-      where
-        told : (b : Bool) → touches ≡ b → TouchesShard id T → touches ≡ true
-        told true s t = s
-        told false s (x, a, ours, c) = absurd (quiet s x (change_by (head_for (get nat_eq old.arrivals) edits (edit.Arrive T)) (edit.Arrive T) (accesses x T.ops)) ours (a, c, refl))
-    arrivals_by (edit.Resolve u o) is quiet sets = after_resolution id edits (present edits).txns (get nat_eq old.arrivals) (get nat_eq new.arrivals) sound.arrivals u o touches sets
-    arrivals_by (edit.Withdraw u) is quiet sets = after_withdrawal id edits (present edits).txns (get nat_eq old.arrivals) (get nat_eq new.arrivals) sound.arrivals u touches sets
-    arrivals_by (edit.SetUp x v) is quiet sets = after_set_up id edits (present edits).txns (get nat_eq old.arrivals) (get nat_eq new.arrivals) sound.arrivals x v touches sets
-
     abbrev at : ℕ → Option Arrival
     at = get nat_eq old.arrivals
 
@@ -103,5 +110,5 @@ module _ {S : Type 0} (id : ShardId) (edits : List Edit) (e : Edit) (old : Appli
             adds.others x (λ o. (let no : true ≡ false = sym o ∙ other in cc)) ∙ (sound.others x other).1,
           );
           before = λ x list f. (let long : length (edits ++ e ∷ []) ≡ length edits + 1 = length-append edits (e ∷ []) in let near = soon x list f in omega arith);
-          arrivals = subst (λ P. AreArrivals id (edits ++ e ∷ []) P.txns (get nat_eq new.arrivals)) now (arrivals_by e refl quiet sets);
+          arrivals = arrivals_next id edits e old sound.arrivals new touches quiet sets;
         }

@@ -6,10 +6,12 @@ ghost use Rattle.std.specs.Prelude.{nat_eq};
 ghost use Rattle.si_model.specs.Journals.{IsAccepted, present};
 ghost use Rattle.si_shard.specs.Applied.{AreApplied, SetsArrival, head_for, head_in, no_head, ops_for, ops_in};
 ghost use Rattle.si_shard.specs.Shards.{findings_in};
+ghost use Rattle.si_shard.specs.Straight.{AreApart};
 ghost use Rattle.si_shard.specs.Waiting.{AreGatheredTo};
 
 use crate::keyed::KeyStates;
 use crate::shard_ids::ShardId;
+use crate::straight::{are_few_apart, make_each};
 use crate::waiting::{Head, Waiting};
 use si_model::{Edit, Finding, Op, OutOfMemory, Stamp, Status, TxnId};
 use std::alloc::Global;
@@ -19,6 +21,9 @@ use std::mem;
 
 /// How many accesses may be walked for changes that wait, beside one for each stored edit.
 const MOST_WAITING: usize = 1_048_576;
+
+/// So many edits and fewer are applied one after the other, each straight to its keys: gathering them costs more than it saves.
+const MOST_AT_ONCE: usize = 1_024;
 
 /// Where a transaction arrived among the stored edits, and what became of it since.
 #[derive(Clone, Copy)]
@@ -58,6 +63,46 @@ impl Applied {
         requires accepted { IsAccepted (stored.now ++ edit.now ∷ []) }
         ensures { OnOk result (AreApplied id (stored.now ++ edit.now ∷ []) self.new) }
     {
+        let ops = self.ops_of(stored, edit);
+        if are_few_apart(ops) {
+            return self.apply_straight(stored, ops, edit, id);
+        }
+        self.apply_gathered(stored, edit, id)
+    }
+
+    /// Applies the edit, of whose transaction these are the operations, key by key.
+    fn apply_straight(
+        &mut self,
+        stored: &[Edit],
+        ops: &[Op],
+        edit: &Edit,
+        id: ShardId,
+    ) -> Result<(), OutOfMemory>
+        requires shards { 0 < id.shards }
+        requires applied { AreApplied id stored.now self.old }
+        requires accepted { IsAccepted (stored.now ++ edit.now ∷ []) }
+        requires ops { ops.now ≡ ops_for (get nat_eq self.old.arrivals) stored.now edit.now }
+        requires apart { AreApart ops.now }
+        ensures { OnOk result (AreApplied id (stored.now ++ edit.now ∷ []) self.new) }
+    {
+        let head = self.head_of(stored, edit);
+        let touches = make_each(self.alloc, &mut self.keys, ops, head, edit, id)?;
+        set_arrival(&mut self.arrivals, edit, touches, stored.len())?;
+        Ok(())
+    }
+
+    /// Applies the edit after all that it is on a key was gathered.
+    fn apply_gathered(
+        &mut self,
+        stored: &[Edit],
+        edit: &Edit,
+        id: ShardId,
+    ) -> Result<(), OutOfMemory>
+        requires shards { 0 < id.shards }
+        requires applied { AreApplied id stored.now self.old }
+        requires accepted { IsAccepted (stored.now ++ edit.now ∷ []) }
+        ensures { OnOk result (AreApplied id (stored.now ++ edit.now ∷ []) self.new) }
+    {
         let mut waiting = Waiting::new(self.alloc, self.hash);
         self.gather(&mut waiting, stored, edit, id)?;
         self.make(waiting)?;
@@ -65,10 +110,41 @@ impl Applied {
     }
 
     /// Applies the edits from that place on, which come after those before it.
-    ///
-    /// What they are on the keys is gathered first, so that what is known of a key is looked for once for many of them. What is
-    /// gathered grows with what is stored, but stays a part of it.
     pub fn apply_from(
+        &mut self,
+        edits: &[Edit],
+        from: usize,
+        id: ShardId,
+    ) -> Result<(), OutOfMemory>
+        requires shards { 0 < id.shards }
+        requires from { from ≤ length edits.now }
+        requires applied { AreApplied id (take from edits.now) self.old }
+        requires accepted { IsAccepted edits.now }
+        ensures { OnOk result (AreApplied id edits.now self.new) }
+    {
+        if edits.len() - from <= MOST_AT_ONCE {
+            return self.apply_each(edits, from, id);
+        }
+        self.apply_together(edits, from, id)
+    }
+
+    /// Applies them one after the other.
+    fn apply_each(&mut self, edits: &[Edit], from: usize, id: ShardId) -> Result<(), OutOfMemory>
+        requires shards { 0 < id.shards }
+        requires from { from ≤ length edits.now }
+        requires applied { AreApplied id (take from edits.now) self.old }
+        requires accepted { IsAccepted edits.now }
+        ensures { OnOk result (AreApplied id edits.now self.new) }
+    {
+        for place in from..edits.len() {
+            self.apply(&edits[..place], &edits[place], id)?;
+        }
+        Ok(())
+    }
+
+    /// Applies them together: what they are on the keys is gathered first, so that what is known of a key is looked for once for many
+    /// of them. What is gathered grows with what is stored, but stays a part of it.
+    fn apply_together(
         &mut self,
         edits: &[Edit],
         from: usize,

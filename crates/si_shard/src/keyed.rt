@@ -1,6 +1,6 @@
 //! What is kept of many keys, and the keys on which something is found.
 
-ghost use Rattle.std.specs.Prelude.{◌≡◌, ℕ, List, OnOk, IfOk, ◌++◌};
+ghost use Rattle.std.specs.Prelude.{◌≡◌, ℕ, List, [], ◌∷◌, OnOk, IfOk, ◌++◌};
 ghost use Rattle.std.specs.HashMap.{get};
 ghost use Rattle.std.specs.BTreeSet.{IsOrdered, Updates};
 ghost use Rattle.std.specs.Ordering.{nat_cmp};
@@ -60,6 +60,16 @@ impl KeyStates {
             self.change(&key, list.changes)?;
         }
         Ok(())
+    }
+
+    /// Makes one change of the key.
+    pub fn change_one(&mut self, key: &Key, change: Change) -> Result<(), OutOfMemory>
+        requires { (Q : OnKey) × (R : OnKey) × IsOn self.old key.now Q × LeadsTo (change ∷ []) Q R }
+        ensures { OnOk result (IsChangedAt key.now (change ∷ []) self.old self.new) }
+    {
+        let mut changes = Vec::with_capacity(self.alloc, 1)?;
+        changes.push(change)?;
+        self.change(key, changes)
     }
 
     fn change(&mut self, key: &Key, changes: Vec<Change>) -> Result<(), OutOfMemory>

@@ -207,7 +207,12 @@ fn with_access(part: Part, placed: Placed) -> Result<Part, OutOfMemory>
 }
 
 /// What the edit is on a key where its transaction has this access.
-fn change_of(alloc: Global, head: Head, edit: &Edit, placed: Placed) -> Result<Change, OutOfMemory>
+pub fn change_of(
+    alloc: Global,
+    head: Head,
+    edit: &Edit,
+    placed: Placed,
+) -> Result<Change, OutOfMemory>
     ensures { IfOk result (λ change. change ≡ change_by head edit.now (placed ∷ [])) }
 {
     Ok(match edit {

@@ -2,8 +2,8 @@ use Rattle.std.proofs.Common.{◌∙◌, ◌+◌, take, sym, subst}
 use Rattle.si_shard.proofs.Beginnings.{all_taken, begins_accepted, one_more_taken}
 use Rattle.si_shard.specs.Waiting.{AreGatheredTo}
 use Rattle.si_shard.proofs.Leading.{nothing_waits}
-use Rattle.si_shard.proofs.applied.Applied.apply_from.Goals as goal
-use Rattle.si_shard.proofs.applied.Applied.apply_from.Goals.{then-waiting-place+in_ok-make, else-waiting-place}
+use Rattle.si_shard.proofs.applied.Applied.apply_together.Goals as goal
+use Rattle.si_shard.proofs.applied.Applied.apply_together.Goals.{then-waiting-place+in_ok-make, else-waiting-place}
 
 pub loop-place-init : goal.loop-place-init
 loop-place-init c = nothing_waits c.args.id (take c.args.from c.args.edits.now) c.args.self.now c.new-waiting.result.lists c.new-waiting.ensures c.requires.applied

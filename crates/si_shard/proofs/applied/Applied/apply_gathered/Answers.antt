@@ -1,6 +1,6 @@
 use Rattle.std.proofs.Common.{◌++◌, ◌∷◌, []}
 use Rattle.si_shard.proofs.Leading.{nothing_waits}
-use Rattle.si_shard.proofs.applied.Applied.apply.Goals as goal
+use Rattle.si_shard.proofs.applied.Applied.apply_gathered.Goals as goal
 
 pub gather-requires-clause-gathered : goal.gather-requires-clause-gathered
 gather-requires-clause-gathered c = nothing_waits c.args.id c.args.stored.now c.args.self.now c.new-waiting.result.lists c.new-waiting.ensures c.requires.applied
