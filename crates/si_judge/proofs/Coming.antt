@@ -1,20 +1,17 @@
 -- The indexes of what is on a key stay so when a transaction comes or goes.
-use Rattle.std.proofs.Common.{◌≡◌, ◌≢◌, ◌∙◌, ◌⊎◌, inl, inr, ◌↔◌, [], ◌∷◌, ◌++◌, Option, Some, None, refl, sym, ap, subst, IfSome}
+use Rattle.std.proofs.Common.{◌≡◌, ◌≢◌, ◌∙◌, inl, inr, ◌↔◌, Option, Some, None, refl, sym, ap, subst, IfSome}
 use Rattle.std.specs.List.{AllPairs, Contains}
 use Rattle.std.specs.Ordering.{eq_by_cmp}
 use Rattle.si_lists.proofs.Members.{same_some}
-use Rattle.si_lists.proofs.Names.{pairs_push}
-use Rattle.si_lists.proofs.Pushes.{push_cases, push_keeps, push_last}
 use Rattle.si_model.specs.declared.parts.Part.{Part}
 use Rattle.si_model.specs.declared.parts.OnKey.{OnKey}
 use Rattle.si_model.specs.History.{IsOfHistory}
 use Rattle.si_model.proofs.Histories.{one_installer}
 use Rattle.si_timeline.specs.Timelines.{Dated}
 use Rattle.si_judge.specs.declared.indexes.Indexes.{Indexes}
-use Rattle.si_judge.specs.Held.{AreNamedApart, IsLeftBy}
 use Rattle.si_judge.specs.Spread.{at_value, value_cmp}
 use Rattle.si_judge.specs.Maps.{AreInserted, AreTakenOut}
-use Rattle.si_judge.specs.Indexes.{AddsVersion, AreIndexes, Fits, Joins, LacksVersion, HasVersion, RemovesVersion, present_in, reads_in, version_of, writes_of}
+use Rattle.si_judge.specs.Indexes.{AddsVersion, AreIndexes, Fits, Joins, LacksVersion, HasVersion, RemovesVersion, reads_in, version_of, writes_of}
 use Rattle.si_judge.specs.Readers.{reader_cmp, own_at, AreInOrder}
 use Rattle.si_judge.specs.Mending.{installer}
 use Rattle.si_judge.proofs.IndexEdits.{comes, goes, no_value}
@@ -36,66 +33,43 @@ history_within Q R h initial within names = record {
 
 -- ---- one comes
 
-module _ (old new : Indexes) (T : Part) (is : AreIndexes old) (fits : Fits T (present_in old)) (initial : new.initial ≡ old.initial) (parts : new.parts ≡ old.parts ++ T ∷ []) where
-  absent : (X : Part) → Contains (present_in old).parts X → X.id ≢ T.id
-  absent = fits.1.absent
-
-  joined : (X : Part) → Contains (present_in new).parts X ↔ (Contains (present_in old).parts X ⊎ (X ≡ T))
-  joined X = (
-    (λ c. elim (push_cases old.parts T X (subst (λ l. Contains l X) parts c)) [ inl o ↦ inl o | inr e ↦ inr (sym e) ]),
-    (λ c. subst (λ l. Contains l X) (sym parts) (elim c [ inl o ↦ push_keeps old.parts T X o | inr e ↦ subst (Contains (old.parts ++ T ∷ [])) (sym e) (push_last old.parts T) ])),
-  )
-
-  named : AreNamedApart new.parts
-  named = subst AreNamedApart (sym parts) (pairs_push (λ A B. A.id ≢ B.id) old.parts T is.history.names absent)
-
-  joins : Joins T (present_in old) (present_in new)
-  joins = record { initial = sym initial; absent = absent; parts = joined }
-
-  among : (X : Part) → Contains (present_in new).parts X → Contains (fits.0).parts X
-  among X c = (fits.1.parts X).1 ((joined X).0 c)
-
-  history : IsOfHistory (present_in new)
-  history = history_within fits.0 (present_in new) fits.2 (sym fits.1.initial ∙ sym initial) among named
-
+module _ (old new : Indexes) (T : Part) {M R : OnKey} (is : AreIndexes M old) (joins : Joins T M R) (history : IsOfHistory R) (initial : new.initial ≡ old.initial) where
   pub came : AreInserted (eq_by_cmp value_cmp) (at_value old.writes) (writes_of T) (at_value new.writes)
       → AreInserted (eq_by_cmp reader_cmp) (own_at old.readers) (reads_in T) (own_at new.readers)
       → AddsVersion (version_of T) old.timeline new.timeline
       → AreInOrder new.readers
-      → AreIndexes new × Joins T (present_in old) (present_in new)
-  came writes readers timeline readers_ordered = (
-    record {
-      ordered = readers_ordered;
-      history = history;
-      timeline = versions (version_of T) refl timeline;
-      writes = comes (eq_by_cmp value_cmp) value_decides writes_of T (present_in old).parts (present_in new).parts joined (writes_are_apart (present_in new) history) (at_value old.writes) (at_value new.writes) is.writes writes;
-      readers = comes (eq_by_cmp reader_cmp) reader_decides reads_in T (present_in old).parts (present_in new).parts joined (reads_are_apart (present_in new) history) (own_at old.readers) (own_at new.readers) is.readers readers;
-    },
-    joins,
-  )
+      → AreIndexes R new
+  came writes readers timeline readers_ordered = record {
+    ordered = readers_ordered;
+    history = history;
+    initial = initial ∙ is.initial ∙ joins.initial;
+    timeline = versions (version_of T) refl timeline;
+    writes = comes (eq_by_cmp value_cmp) value_decides writes_of T M.parts R.parts joins.parts (writes_are_apart R history) (at_value old.writes) (at_value new.writes) is.writes writes;
+    readers = comes (eq_by_cmp reader_cmp) reader_decides reads_in T M.parts R.parts joins.parts (reads_are_apart R history) (own_at old.readers) (own_at new.readers) is.readers readers;
+  }
     where
       versions : (o : Option Dated) → version_of T ≡ o → AddsVersion o old.timeline new.timeline → (d : Dated)
-          → Contains new.timeline d ↔ ((X : Part) × Contains (present_in new).parts X × (version_of X ≡ Some d))
+          → Contains new.timeline d ↔ ((X : Part) × Contains R.parts X × (version_of X ≡ Some d))
       versions None e same d = (
-        (λ c. let x = (is.timeline d).0 (subst (λ l. Contains l d) same c) in (x.0, (joined x.0).1 (inl x.1), x.2)),
-        (λ x. elim ((joined x.0).0 x.1) [
+        (λ c. let x = (is.timeline d).0 (subst (λ l. Contains l d) same c) in (x.0, (joins.parts x.0).1 (inl x.1), x.2)),
+        (λ x. elim ((joins.parts x.0).0 x.1) [
           | inl c ↦ subst (λ l. Contains l d) (sym same) ((is.timeline d).1 (x.0, c, x.2))
           | inr s ↦ absurd (no_value d (sym e ∙ ap version_of (sym s) ∙ x.2))
         ]),
       )
       versions (Some n) e adds d = (
         (λ c. elim ((added_are n.0 n.1 old.timeline new.timeline adds d).0 c) [
-          | inl o ↦ (let x = (is.timeline d).0 o in (x.0, (joined x.0).1 (inl x.1), x.2))
-          | inr s ↦ (T, (joined T).1 (inr refl), e ∙ ap Some (sym s))
+          | inl o ↦ (let x = (is.timeline d).0 o in (x.0, (joins.parts x.0).1 (inl x.1), x.2))
+          | inr s ↦ (T, (joins.parts T).1 (inr refl), e ∙ ap Some (sym s))
         ]),
-        (λ x. (added_are n.0 n.1 old.timeline new.timeline adds d).1 (elim ((joined x.0).0 x.1) [
+        (λ x. (added_are n.0 n.1 old.timeline new.timeline adds d).1 (elim ((joins.parts x.0).0 x.1) [
           | inl c ↦ inl ((is.timeline d).1 (x.0, c, x.2))
           | inr s ↦ inr (same_some (sym x.2 ∙ ap version_of s ∙ e))
         ])),
       )
 
 -- no version stands yet at the commit of one that comes
-pub lacks_version : (ix : Indexes) (T : Part) → AreIndexes ix → Fits T (present_in ix) → LacksVersion (version_of T) ix.timeline
+pub lacks_version : {M : OnKey} (ix : Indexes) (T : Part) → AreIndexes M ix → Fits T M → LacksVersion (version_of T) ix.timeline
 lacks_version ix T is fits = by (version_of T) refl
   where
     by : (o : Option Dated) → version_of T ≡ o → LacksVersion o ix.timeline
@@ -107,7 +81,7 @@ lacks_version ix T is fits = by (version_of T) refl
         fits.1.absent x.0 x.1 (ap (λ (X : Part). X.id) same)
 
 -- the version of one that is there stands
-pub has_version : (ix : Indexes) (T : Part) → AreIndexes ix → Contains (present_in ix).parts T → HasVersion (version_of T) ix.timeline
+pub has_version : {M : OnKey} (ix : Indexes) (T : Part) → AreIndexes M ix → Contains M.parts T → HasVersion (version_of T) ix.timeline
 has_version ix T is c = by (version_of T) refl
   where
     by : (o : Option Dated) → version_of T ≡ o → HasVersion o ix.timeline
@@ -115,7 +89,7 @@ has_version ix T is c = by (version_of T) refl
     by (Some d) e = (d.1, (is.timeline d).1 (T, c, e))
 
 -- it itself does
-pub version_stands : (ix : Indexes) (T : Part) → AreIndexes ix → Contains (present_in ix).parts T → IfSome (version_of T) (Contains ix.timeline)
+pub version_stands : {M : OnKey} (ix : Indexes) (T : Part) → AreIndexes M ix → Contains M.parts T → IfSome (version_of T) (Contains ix.timeline)
 version_stands ix T is c = by (version_of T) refl
   where
     by : (o : Option Dated) → version_of T ≡ o → IfSome o (Contains ix.timeline)
@@ -124,56 +98,45 @@ version_stands ix T is c = by (version_of T) refl
 
 -- ---- one goes
 
-module _ (old new : Indexes) (T : Part) (is : AreIndexes old) (initial : new.initial ≡ old.initial) (without : IsLeftBy T old.parts new.parts) (named : AreNamedApart new.parts) where
-  there : Contains (present_in old).parts T
-  there = (without.parts T).1 (inr refl)
+module _ (old new : Indexes) (T : Part) {M R : OnKey} (is : AreIndexes M old) (joins : Joins T R M) (history : IsOfHistory R) (initial : new.initial ≡ old.initial) where
+  there : Contains M.parts T
+  there = (joins.parts T).1 (inr refl)
 
-  left : (X : Part) → Contains (present_in new).parts X → Contains (present_in old).parts X × (X.id ≢ T.id)
-  left X c = ((without.parts X).1 (inl c), without.absent X c)
-
-  left_over : (X : Part) → Contains (present_in old).parts X ↔ (Contains (present_in new).parts X ⊎ (X ≡ T))
-  left_over = without.parts
-
-  leaves : Joins T (present_in new) (present_in old)
-  leaves = record { initial = initial; absent = λ X c. (left X c).1; parts = left_over }
-
-  apart_T : (X : Part) → Contains (present_in new).parts X → X ≢ T
-  apart_T X c e = (left X c).1 (ap (λ (Y : Part). Y.id) e)
+  apart_T : (X : Part) → Contains R.parts X → X ≢ T
+  apart_T X c e = joins.absent X c (ap (λ (Y : Part). Y.id) e)
 
   pub went : AreTakenOut (eq_by_cmp value_cmp) (at_value old.writes) (writes_of T) (at_value new.writes)
       → AreTakenOut (eq_by_cmp reader_cmp) (own_at old.readers) (reads_in T) (own_at new.readers)
       → RemovesVersion (version_of T) old.timeline new.timeline
       → AreInOrder new.readers
-      → AreIndexes new × Joins T (present_in new) (present_in old)
-  went writes readers timeline readers_ordered = (
-    record {
-      ordered = readers_ordered;
-      history = history_within (present_in old) (present_in new) is.history (sym initial) (λ X c. (left X c).0) named;
-      timeline = versions (version_of T) refl timeline;
-      writes = goes (eq_by_cmp value_cmp) value_decides writes_of T (present_in new).parts (present_in old).parts left_over (writes_are_apart (present_in old) is.history) (at_value old.writes) (at_value new.writes) apart_T is.writes writes;
-      readers = goes (eq_by_cmp reader_cmp) reader_decides reads_in T (present_in new).parts (present_in old).parts left_over (reads_are_apart (present_in old) is.history) (own_at old.readers) (own_at new.readers) apart_T is.readers readers;
-    },
-    leaves,
-  )
+      → AreIndexes R new
+  went writes readers timeline readers_ordered = record {
+    ordered = readers_ordered;
+    history = history;
+    initial = initial ∙ is.initial ∙ sym joins.initial;
+    timeline = versions (version_of T) refl timeline;
+    writes = goes (eq_by_cmp value_cmp) value_decides writes_of T R.parts M.parts joins.parts (writes_are_apart M is.history) (at_value old.writes) (at_value new.writes) apart_T is.writes writes;
+    readers = goes (eq_by_cmp reader_cmp) reader_decides reads_in T R.parts M.parts joins.parts (reads_are_apart M is.history) (own_at old.readers) (own_at new.readers) apart_T is.readers readers;
+  }
     where
       versions : (o : Option Dated) → version_of T ≡ o → RemovesVersion o old.timeline new.timeline → (d : Dated)
-          → Contains new.timeline d ↔ ((X : Part) × Contains (present_in new).parts X × (version_of X ≡ Some d))
+          → Contains new.timeline d ↔ ((X : Part) × Contains R.parts X × (version_of X ≡ Some d))
       versions None e same d = (
-        (λ c. let x = (is.timeline d).0 (subst (λ l. Contains l d) same c) in elim ((left_over x.0).0 x.1) [
+        (λ c. let x = (is.timeline d).0 (subst (λ l. Contains l d) same c) in elim ((joins.parts x.0).0 x.1) [
           | inl n ↦ (x.0, n, x.2)
           | inr s ↦ absurd (no_value d (sym e ∙ ap version_of (sym s) ∙ x.2))
         ]),
-        (λ x. subst (λ l. Contains l d) (sym same) ((is.timeline d).1 (x.0, (left x.0 x.1).0, x.2))),
+        (λ x. subst (λ l. Contains l d) (sym same) ((is.timeline d).1 (x.0, (joins.parts x.0).1 (inl x.1), x.2))),
       )
       versions (Some n) e removes d = (
-        (λ c. let x = (is.timeline d).0 ((added_are n.0 removes.0.0 new.timeline old.timeline removes.0.1 d).1 (inl c)) in elim ((left_over x.0).0 x.1) [
+        (λ c. let x = (is.timeline d).0 ((added_are n.0 removes.0.0 new.timeline old.timeline removes.0.1 d).1 (inl c)) in elim ((joins.parts x.0).0 x.1) [
           | inl m ↦ (x.0, m, x.2)
           | inr s ↦ (let same : n ≡ d = same_some (sym e ∙ ap version_of (sym s) ∙ x.2) in
               absurd (removes.1 n.1 (subst (Contains new.timeline) (sym same) c)))
         ]),
-        (λ x. elim ((added_are n.0 removes.0.0 new.timeline old.timeline removes.0.1 d).0 ((is.timeline d).1 (x.0, (left x.0 x.1).0, x.2))) [
+        (λ x. elim ((added_are n.0 removes.0.0 new.timeline old.timeline removes.0.1 d).0 ((is.timeline d).1 (x.0, (joins.parts x.0).1 (inl x.1), x.2))) [
           | inl c ↦ c
-          | inr s ↦ absurd (apart_T x.0 x.1 (one_installer (present_in old) is.history x.0 T (installer d) (installer n) (left x.0 x.1).0 there
+          | inr s ↦ absurd (apart_T x.0 x.1 (one_installer M is.history x.0 T (installer d) (installer n) ((joins.parts x.0).1 (inl x.1)) there
               (version_installs x.0 d x.2) (version_installs T n e) (ap (λ (y : Dated). y.0) s)))
         ]),
       )

@@ -10,6 +10,7 @@ use Rattle.si_model.specs.declared.numbers.Value.{Value}
 use Rattle.si_model.specs.declared.numbers.Stamp.{Stamp}
 use Rattle.si_model.specs.declared.parts.Placed.{Placed}
 use Rattle.si_model.specs.declared.parts.Part.{Part}
+use Rattle.si_model.specs.declared.parts.OnKey.{OnKey}
 use Rattle.si_model.specs.Versions.{commit_of}
 use Rattle.si_judge.specs.declared.reads.Reader.{Reader}
 use Rattle.si_judge.specs.declared.indexes.Indexes.{Indexes}
@@ -43,7 +44,7 @@ own_once T rise = by (commit_of T.status)
         (names_filter_map (λ (a : Placed). a.place) (λ (p : Reader × Option Value). p.0.place) (read_at T) at_place T.accesses (apart T.accesses rise))
         (λ a b c d differ e. differ (ap (λ x. x.1) e))
 
-pub readers_once : (ix : Indexes) → AreIndexes ix → (P : Reader → Type 0) (xs : List (Reader × Option Value)) → AreReadsOf ix P xs → AllPairs (Differ name_of) xs
+pub readers_once : {M : OnKey} (ix : Indexes) → AreIndexes M ix → (P : Reader → Type 0) (xs : List (Reader × Option Value)) → AreReadsOf ix P xs → AllPairs (Differ name_of) xs
 readers_once ix is P xs are = pairs_weaker {R = λ p q. p.0 ≢ q.0} {S = Differ name_of} xs are.once (λ p q c d differ e.
     let a = (is.readers p.0 p.1).0 (are.only p c).0 in
     let b = (is.readers q.0 q.1).0 (are.only q d).0 in

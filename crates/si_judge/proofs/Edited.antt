@@ -18,8 +18,8 @@ use Rattle.si_timeline.specs.Timelines.{Dated}
 use Rattle.si_judge.specs.declared.reads.Reader.{Reader}
 use Rattle.si_judge.specs.declared.judgements.ReadId.{ReadId}
 use Rattle.si_judge.specs.declared.indexes.Indexes.{Indexes}
-use Rattle.si_judge.specs.Indexes.{AreIndexes, AreReadsOf, Fits, IsTouchedBy, Joins, present_in, reader_of, reads_in, version_of}
-use Rattle.si_judge.specs.Mending.{ArePairKinds, AreReadKinds, Found, IsJudgedWith, IsJudgedWithout, IsReadKind, IsVersionForgotten, IsVersionJudged, id_of, installer, read_cmp, risen}
+use Rattle.si_judge.specs.Indexes.{AreIndexes, AreReadsOf, Fits, IsTouchedBy, Joins, reader_of, reads_in, version_of}
+use Rattle.si_judge.specs.Mending.{ArePairKinds, AreReadKinds, Found, IsJudgedWith, IsJudgedWithout, IsReadKind, IsRight, IsVersionForgotten, IsVersionJudged, id_of, installer, read_cmp, risen}
 use Rattle.si_judge.specs.Touched.{IsBoundedBy, IsTouched, RestsOn}
 use Rattle.si_judge.proofs.Coverage.{bounded, bounded_by_both, own_once, readers_once}
 use Rattle.si_judge.proofs.Gathered.{touched_are}
@@ -31,11 +31,6 @@ use Rattle.si_judge.proofs.PartLists.{installs_version, read_from, version_insta
 use Rattle.si_judge.proofs.Touching.{IsSide, touches}
 use Rattle.si_judge.proofs.Updates.{key_or_not, others_stay, value_stands}
 
--- all that a judge found is right
-pub record IsRight (J : Rules) (Q : OnKey) (m : Found) : Type 0 where
-  pub reads : AreReadKinds J Q m.reads
-  pub overlaps : ArePairKinds J Q m.overlaps
-
 -- the judgements since were within the bound
 abbrev pub WithinBound : OnKey → OnKey → TxnId → Found → Found → Type 0
 WithinBound Q R u old new = (n : ℕ) × IsBoundedBy (IsTouched Q R u) n × (new.answers ≡ risen old.answers n)
@@ -43,58 +38,55 @@ WithinBound Q R u old new = (n : ℕ) × IsBoundedBy (IsTouched Q R u) n × (new
 started : (X : Part) (p : Reader × Option Value) → Contains (reads_in X) p → p.0.start ≡ X.start
 started X p c = sym (ap (λ q. q.0.start) (read_from X p c).is)
 
-reader_in : (ix : Indexes) (is : AreIndexes ix) (P : Reader → Type 0) (xs : List (Reader × Option Value)) → AreReadsOf ix P xs → (p : Reader × Option Value) → Contains xs p → IsReader ix p
+reader_in : {M : OnKey} (ix : Indexes) (is : AreIndexes M ix) (P : Reader → Type 0) (xs : List (Reader × Option Value)) → AreReadsOf ix P xs → (p : Reader × Option Value) → Contains xs p → IsReader M p
 reader_in ix is P xs are p c = (is.readers p.0 p.1).0 (are.only p c).0
 
 -- ---- T comes to what is in the indexes
 
-module _ (J : Rules) (ix new_ix : Indexes) (is : AreIndexes ix) (is_new : AreIndexes new_ix) (T U : Part) (joins : Joins T (present_in ix) (present_in new_ix))
-    (Q : OnKey) (before : IsSide ix U Q) (named : U.id ≡ T.id) (less : (r : Reader) → IsTouchedBy ix U r → IsTouchedBy ix T r)
+module _ (J : Rules) {M R : OnKey} (ix new_ix : Indexes) (is : AreIndexes M ix) (is_new : AreIndexes R new_ix) (T U : Part) (joins : Joins T M R)
+    (Q : OnKey) (before : IsSide M U Q) (named : U.id ≡ T.id) (less : (r : Reader) → IsTouchedBy ix U r → IsTouchedBy ix T r)
     (silent : (X : Part) (i : ℕ) (v : Option Value) → IsRead Q X i v → X.id ≡ T.id → ⊥) (idle : (n : Installer) → IsInstaller Q n → n.txn ≢ T.id)
-    (old new : Found) (right : IsRight J Q old) (judged : IsJudgedWith J T ix new_ix old new) where
-  R : OnKey
-  R = present_in new_ix
+    (old new : Found) (right : IsRight J Q old) (judged : IsJudgedWith J T R ix new_ix old new) where
+  fits : Fits T M
+  fits = (R, joins, is_new.history)
 
-  fits : Fits T (present_in ix)
-  fits = (present_in new_ix, joins, is_new.history)
-
-  after : IsSide ix T (present_in new_ix)
+  after : IsSide M T R
   after = record { history = is_new.history; initial = joins.initial; above = λ X c. (joins.parts X).1 (inl c); within = λ X c. (joins.parts X).0 c }
 
-  there : Contains (present_in new_ix).parts T
+  there : Contains R.parts T
   there = (joins.parts T).1 (inr refl)
 
-  named_T : (X : Part) → Contains (present_in new_ix).parts X → X.id ≡ T.id → X ≡ T
+  named_T : (X : Part) → Contains R.parts X → X.id ≡ T.id → X ≡ T
   named_T X c e = elim ((joins.parts X).0 c) [ inl m ↦ absurd (joins.absent X m e) | inr s ↦ s ]
 
   gathered : AreReadsOf ix (IsTouchedBy ix T) judged.others
   gathered = touched_are ix is T fits judged.others judged.touched
 
-  still : (p : Reader × Option Value) → Contains judged.others p → IsReader new_ix p
+  still : (p : Reader × Option Value) → Contains judged.others p → IsReader R p
   still p c = let x = reader_in ix is (IsTouchedBy ix T) judged.others gathered p c in (x.0, (joins.parts x.0).1 (inl x.1), x.2)
 
-  reads_right : AreReadKinds J (present_in new_ix) new.reads
+  reads_right : AreReadKinds J R new.reads
   reads_right o k = right_after J new_ix is_new (reads_in T) (λ p c. (T, there, c)) judged.middle new.reads judged.own_judged o k (λ not_own.
       right_after J new_ix is_new judged.others still old.reads judged.middle judged.others_judged o k (λ not_other.
-      let same = same_kind J ix is T U named joins.absent Q (present_in new_ix) before after less judged.others gathered o k not_other
+      let same = same_kind J ix is T U named joins.absent Q R before after less judged.others gathered o k not_other
       (λ X v read e. elim (before.within X read.part) [ inl m ↦ m | inr s ↦ absurd (silent X o.place v read (ap (λ (Y : Part). Y.id) s ∙ named)) ])
       (λ X v read e. elim ((joins.parts X).0 read.part) [ inl m ↦ m | inr s ↦ absurd (own X v read e s not_own) ]) in
       ((λ e. same.0 ((right.reads o k).0 e)), (λ f. (right.reads o k).1 (same.1 f)))))
     where
-      own : (X : Part) (v : Option Value) → IsRead (present_in new_ix) X o.place v → X.id ≡ o.txn → X ≡ T → NotAmong (reads_in T) o → ⊥
-      own X v read e s none = none (reader_of X o.place v, own_value X o.place) (subst (λ Y. Contains (reads_in Y) (reader_of X o.place v, own_value X o.place)) s (reader_read (present_in new_ix) X o.place v read))
+      own : (X : Part) (v : Option Value) → IsRead R X o.place v → X.id ≡ o.txn → X ≡ T → NotAmong (reads_in T) o → ⊥
+      own X v read e s none = none (reader_of X o.place v, own_value X o.place) (subst (λ Y. Contains (reads_in Y) (reader_of X o.place v, own_value X o.place)) s (reader_read R X o.place v read))
           (λ i. record { txn = e i; place = o.place })
 
-  pairs_right : ArePairKinds J (present_in new_ix) new.overlaps
+  pairs_right : ArePairKinds J R new.overlaps
   pairs_right = by (version_of T) refl judged.version
     where
-      by : (o : Option Dated) → version_of T ≡ o → IsVersionJudged J new_ix o old.overlaps new.overlaps → ArePairKinds J (present_in new_ix) new.overlaps
+      by : (o : Option Dated) → version_of T ≡ o → IsVersionJudged J R new_ix o old.overlaps new.overlaps → ArePairKinds J R new.overlaps
       by None e same = λ c k.
-          let p = pairs_apart J T.id Q (present_in new_ix) before.history is_new.history (differ J ix is T U named joins.absent Q (present_in new_ix) before after less judged.others gathered) idle
+          let p = pairs_apart J T.id Q R before.history is_new.history (differ J ix is T U named joins.absent Q R before after less judged.others gathered) idle
           (λ n i t. (let s = named_T i.0 i.1 (sym i.2.txn ∙ t) in
           let v = installs_version i.0 n i.2 in no_value v.0 (sym e ∙ ap version_of (sym s) ∙ v.1))) old.overlaps right.overlaps c k in
           ((λ f. p.0 (sym (same c) ∙ f)), (λ f. same c ∙ p.1 f))
-      by (Some d) e j = pairs_after_coming J new_ix is_new T.id Q before.history (differ J ix is T U named joins.absent Q (present_in new_ix) before after less judged.others gathered) d
+      by (Some d) e j = pairs_after_coming J new_ix is_new T.id Q before.history (differ J ix is T U named joins.absent Q R before after less judged.others gathered) d
           (λ n i t. absurd (idle n i t))
           (λ n i t. (let s = named_T i.0 i.1 (sym i.2.txn ∙ t) in
           let v = installs_version i.0 n i.2 in
@@ -102,35 +94,35 @@ module _ (J : Rules) (ix new_ix : Indexes) (is : AreIndexes ix) (is_new : AreInd
           sym (ap (λ (m : Installer). m.commit) v.2) ∙ ap (λ (x : Dated). x.0) one))
           old.overlaps right.overlaps (T, there, version_installs T d e) j.0 new.overlaps j.1 j.2
 
-  pub right_with : IsRight J (present_in new_ix) new
+  pub right_with : IsRight J R new
   right_with = record { reads = reads_right; overlaps = pairs_right }
 
-  pub bound_with : WithinBound Q (present_in new_ix) T.id old new
+  pub bound_with : WithinBound Q R T.id old new
   bound_with = (
     judged.counted.0,
-    bounded_by_both (IsTouched Q (present_in new_ix) T.id) judged.others (reads_in T)
+    bounded_by_both (IsTouched Q R T.id) judged.others (reads_in T)
         (readers_once ix is (IsTouchedBy ix T) judged.others gathered) (own_once T (is_new.history.places T there))
         (λ p q c d e. (let x = reader_in ix is (IsTouchedBy ix T) judged.others gathered p c in joins.absent x.0 x.1 (reader_id x.0 p x.2 ∙ e ∙ sym (reader_id T q d))))
         (λ p c. (let x = still p c in record {
           part = x.0;
           value = p.0.value;
-          read = is_read (present_in new_ix) x.0 p x.1 x.2;
+          read = is_read R x.0 p x.1 x.2;
           of = reader_id x.0 p x.2;
-          touched = inr (inr (subst (λ s. RestsOn (present_in new_ix) T.id s p.0.value) (started x.0 p x.2) (touches ix is T joins.absent (present_in new_ix) after there p.0 (gathered.only p c).1)));
+          touched = inr (inr (subst (λ s. RestsOn R T.id s p.0.value) (started x.0 p x.2) (touches ix is T joins.absent R after there p.0 (gathered.only p c).1)));
         }))
-        (λ p c. record { part = T; value = p.0.value; read = is_read (present_in new_ix) T p there c; of = reader_id T p c; touched = inl (sym (reader_id T p c)) })
+        (λ p c. record { part = T; value = p.0.value; read = is_read R T p there c; of = reader_id T p c; touched = inl (sym (reader_id T p c)) })
         judged.counted.0 judged.counted.1,
     judged.counted.2,
   )
 
 -- ---- T goes, and is no longer in the indexes
 
-module _ (J : Rules) (ix : Indexes) (is : AreIndexes ix) (T : Part) (Q : OnKey) (h : IsOfHistory Q) (joins : Joins T (present_in ix) Q)
-    (old new : Found) (right : IsRight J Q old) (judged : IsJudgedWithout J T ix old new) where
-  was : IsSide ix T Q
+module _ (J : Rules) {M : OnKey} (ix : Indexes) (is : AreIndexes M ix) (T : Part) (Q : OnKey) (h : IsOfHistory Q) (joins : Joins T M Q)
+    (old new : Found) (right : IsRight J Q old) (judged : IsJudgedWithout J T M ix old new) where
+  was : IsSide M T Q
   was = record { history = h; initial = joins.initial; above = λ X c. (joins.parts X).1 (inl c); within = λ X c. (joins.parts X).0 c }
 
-  stays : IsSide ix T (present_in ix)
+  stays : IsSide M T M
   stays = record { history = is.history; initial = refl; above = λ X c. c; within = λ X c. inl c }
 
   had : Contains Q.parts T
@@ -142,14 +134,14 @@ module _ (J : Rules) (ix : Indexes) (is : AreIndexes ix) (T : Part) (Q : OnKey) 
   collected : AreReadsOf ix (IsTouchedBy ix T) judged.others
   collected = touched_are ix is T (Q, joins, h) judged.others judged.touched
 
-  forgotten_or_not : (o : ReadId) (k : Kind) → NotAmong judged.others o → (judged.middle o ≡ Some k) ↔ IsReadKind J (present_in ix) o k
+  forgotten_or_not : (o : ReadId) (k : Kind) → NotAmong judged.others o → (judged.middle o ≡ Some k) ↔ IsReadKind J M o k
   forgotten_or_not o k not_other = elim (key_or_not {V = Kind} (eq_by_cmp read_cmp) read_decides id_of (λ p. None) (reads_in T) o) [
     | inl hit ↦ (
         let gone : judged.middle o ≡ None = judged.own_forgotten o ∙ value_stands (eq_by_cmp read_cmp) read_decides id_of (λ p. None) (reads_in T) old.reads o None hit.0 hit.1 hit.2 (λ p c e. refl) in
         ((λ e. absurd (no_value k (sym gone ∙ e))), (λ f. absurd (joins.absent f.0 f.2.part (f.3 ∙ sym (ap (λ (x : ReadId). x.txn) hit.2) ∙ sym (reader_id T hit.0 hit.1))))))
     | inr none ↦ (
         let same : judged.middle o ≡ old.reads o = judged.own_forgotten o ∙ others_stay (eq_by_cmp read_cmp) read_decides id_of (λ p. None) (reads_in T) old.reads o none in
-        let kind = same_kind J ix is T T refl joins.absent Q (present_in ix) was stays (λ r t. t) judged.others collected o k not_other
+        let kind = same_kind J ix is T T refl joins.absent Q M was stays (λ r t. t) judged.others collected o k not_other
         (λ X v read e. elim ((joins.parts X).0 read.part) [ inl m ↦ m | inr s ↦ absurd (own X v read e s none) ])
         (λ X v read e. read.part) in
         ((λ e. kind.0 ((right.reads o k).0 (sym same ∙ e))), (λ f. same ∙ (right.reads o k).1 (kind.1 f))))
@@ -159,19 +151,19 @@ module _ (J : Rules) (ix : Indexes) (is : AreIndexes ix) (T : Part) (Q : OnKey) 
       own X v read e s none = none (reader_of X o.place v, own_value X o.place) (subst (λ Y. Contains (reads_in Y) (reader_of X o.place v, own_value X o.place)) s (reader_read Q X o.place v read))
           (λ i. record { txn = e i; place = o.place })
 
-  pub right_without : IsRight J (present_in ix) new
+  pub right_without : IsRight J M new
   right_without = record {
     reads = λ o k. right_after J ix is judged.others (λ p c. reader_in ix is (IsTouchedBy ix T) judged.others collected p c) judged.middle new.reads judged.others_judged o k (forgotten_or_not o k);
     overlaps = by (version_of T) refl judged.version;
   }
     where
-      by : (o : Option Dated) → version_of T ≡ o → IsVersionForgotten J ix o old.overlaps new.overlaps → ArePairKinds J (present_in ix) new.overlaps
+      by : (o : Option Dated) → version_of T ≡ o → IsVersionForgotten J M ix o old.overlaps new.overlaps → ArePairKinds J M new.overlaps
       by None e same = λ c k.
-          let p = pairs_apart J T.id Q (present_in ix) h is.history (differ J ix is T T refl joins.absent Q (present_in ix) was stays (λ r t. t) judged.others collected)
+          let p = pairs_apart J T.id Q M h is.history (differ J ix is T T refl joins.absent Q M was stays (λ r t. t) judged.others collected)
           (λ n i t. (let s = named_had i.0 i.1 (sym i.2.txn ∙ t) in let v = installs_version i.0 n i.2 in no_value v.0 (sym e ∙ ap version_of (sym s) ∙ v.1)))
           (λ n i t. joins.absent i.0 i.1 (sym i.2.txn ∙ t)) old.overlaps right.overlaps c k in
           ((λ f. p.0 (sym (same c) ∙ f)), (λ f. same c ∙ p.1 f))
-      by (Some d) e j = pairs_after_going J ix is T.id Q h (differ J ix is T T refl joins.absent Q (present_in ix) was stays (λ r t. t) judged.others collected) d
+      by (Some d) e j = pairs_after_going J ix is T.id Q h (differ J ix is T T refl joins.absent Q M was stays (λ r t. t) judged.others collected) d
           (λ n i t. (let s = named_had i.0 i.1 (sym i.2.txn ∙ t) in
           let v = installs_version i.0 n i.2 in
           let one : v.0 ≡ d = same_some (sym v.1 ∙ ap version_of s ∙ e) in
@@ -181,14 +173,14 @@ module _ (J : Rules) (ix : Indexes) (is : AreIndexes ix) (T : Part) (Q : OnKey) 
           (λ n i t. (let one = one_installer Q h i.0 T n (installer d) ((joins.parts i.0).1 (inl i.1)) had i.2 (version_installs T d e) t in joins.absent i.0 i.1 (ap (λ (X : Part). X.id) one)))
           j.0 new.overlaps j.1 j.2
 
-  pub bound_without : WithinBound Q (present_in ix) T.id old new
+  pub bound_without : WithinBound Q M T.id old new
   bound_without = (
     judged.counted.0,
-    bounded (IsTouched Q (present_in ix) T.id) judged.others (readers_once ix is (IsTouchedBy ix T) judged.others collected)
+    bounded (IsTouched Q M T.id) judged.others (readers_once ix is (IsTouchedBy ix T) judged.others collected)
         (λ p c. (let x = reader_in ix is (IsTouchedBy ix T) judged.others collected p c in record {
           part = x.0;
           value = p.0.value;
-          read = is_read (present_in ix) x.0 p x.1 x.2;
+          read = is_read M x.0 p x.1 x.2;
           of = reader_id x.0 p x.2;
           touched = inr (inl (subst (λ s. RestsOn Q T.id s p.0.value) (started x.0 p x.2) (touches ix is T joins.absent Q was had p.0 (collected.only p c).1)));
         }))

@@ -20,6 +20,7 @@ use Rattle.si_model.specs.declared.parts.Access.{Access}
 use Rattle.si_model.specs.declared.parts.Access.TheVariants as access
 use Rattle.si_model.specs.declared.parts.Placed.{Placed}
 use Rattle.si_model.specs.declared.parts.Part.{Part}
+use Rattle.si_model.specs.declared.parts.OnKey.{OnKey}
 use Rattle.si_model.specs.Versions.{Writes, WritesAt, written}
 use Rattle.si_model.specs.Reads.{own_value}
 use Rattle.si_model.proofs.Equalities.{read_is}
@@ -29,7 +30,7 @@ use Rattle.si_timeline.specs.Timelines.{Dated, IsNearestBefore}
 use Rattle.si_judge.specs.declared.reads.Reader.{Reader}
 use Rattle.si_judge.specs.declared.reads.Write.{Write}
 use Rattle.si_judge.specs.declared.indexes.Indexes.{Indexes}
-use Rattle.si_judge.specs.Indexes.{AreIndexes, AreReadsBefore, AreReadsOf, AreTouchedReads, Fits, IsTouchedBy, IsValueBefore, present_in, reader_of, readers_in, reads_in, returned_by, version_of, write_at, write_by, write_of, writes_of}
+use Rattle.si_judge.specs.Indexes.{AreIndexes, AreReadsBefore, AreReadsOf, AreTouchedReads, Fits, IsTouchedBy, IsValueBefore, reader_of, readers_in, reads_in, returned_by, version_of, write_at, write_by, write_of, writes_of}
 use Rattle.si_judge.specs.Readers.{IsLaterThan, IsReaderOf, is_later, is_reader_of, reader_cmp, own_at}
 use Rattle.si_judge.specs.Mending.{id_of, installer}
 use Rattle.si_judge.proofs.IndexEdits.{no_value}
@@ -67,7 +68,7 @@ keys_apart (e ∷ es) s = pairs_cons (λ p q. p.0 ≢ q.0) e es (below e.0 es (s
       | inr rest ↦ below r ds h.1 d rest
     ]
 
-module _ (ix : Indexes) (is : AreIndexes ix) where
+module _ {M : OnKey} (ix : Indexes) (is : AreIndexes M ix) where
   entry : (r : Reader) (own : Option Value) → own_at ix.readers r ≡ Some own → Contains ix.readers (r, own)
   entry r own e =
       let p = place_from_lookup (is_at (reader_cmp r)) ix.readers own e in
@@ -121,7 +122,7 @@ module _ (ix : Indexes) (is : AreIndexes ix) where
 
   -- ---- all that a transaction touches
 
-  module _ (T : Part) (fits : Fits T (present_in ix)) where
+  module _ (T : Part) (fits : Fits T M) where
     values_apart : AllPairs (λ a b. a.0 ≢ b.0) (writes_of T)
     values_apart = weaker {R = Differ (λ (w : Value × Write). w.1.place)} {S = λ a b. a.0 ≢ b.0} (writes_of T) (names_filter_map (λ (a : Placed). a.place) (λ (w : Value × Write). w.1.place) (write_at T) at_place T.accesses
         (rising T.accesses (fits.2.places T has_T))) (λ a b c d differ same. differ (place a b c d same))
@@ -155,7 +156,7 @@ module _ (ix : Indexes) (is : AreIndexes ix) where
     not_before c v w before e writes = by before.0 before.1 (sym e ∙ before.2)
       where
         by : (o : Option Dated) → IsNearestBefore ix.timeline c o → Some w ≡ returned_by ix.initial o → ⊥
-        by None near same = fits.2.initial w T (sym fits.1.initial ∙ sym same) ((fits.1.parts T).1 (inr refl)) writes
+        by None near same = fits.2.initial w T (sym fits.1.initial ∙ sym is.initial ∙ sym same) ((fits.1.parts T).1 (inr refl)) writes
         by (Some d) near same =
             let x = (is.timeline d).0 near.0 in
             let written = last_written x.0 d.1.value (version_from x.0 d x.2).value in
@@ -180,7 +181,7 @@ module _ (ix : Indexes) (is : AreIndexes ix) where
         one d e c f same =
             let x = (is.timeline d).0 c in
             let y = (is.timeline e).0 f in
-            let part = one_installer (present_in ix) is.history x.0 y.0 (installer d) (installer e) x.1 y.1
+            let part = one_installer M is.history x.0 y.0 (installer d) (installer e) x.1 y.1
             (version_installs x.0 d x.2) (version_installs y.0 e y.2) same in
             same_some (sym x.2 ∙ ap version_of part ∙ y.2)
 
@@ -212,14 +213,14 @@ module _ (ix : Indexes) (is : AreIndexes ix) where
 
   -- ---- one read of an id
 
-  pub same_read : (p q : Reader × Option Value) (A B : Part) → Contains (present_in ix).parts A → Contains (present_in ix).parts B → Contains (reads_in A) p → Contains (reads_in B) q → id_of p ≡ id_of q → p ≡ q
+  pub same_read : (p q : Reader × Option Value) (A B : Part) → Contains M.parts A → Contains M.parts B → Contains (reads_in A) p → Contains (reads_in B) q → id_of p ≡ id_of q → p ≡ q
   same_read p q A B a b c d e =
       let i = read_from A p c in
       let j = read_from B q d in
       let id : A.id ≡ B.id = ap (λ x. x.0.txn) i.is ∙ ap (λ x. x.txn) e ∙ sym (ap (λ x. x.0.txn) j.is) in
-      let part = one_part (present_in ix) is.history A B a b id in
+      let part = one_part M is.history A B a b id in
       let place : i.place ≡ j.place = ap (λ x. x.0.place) i.is ∙ ap (λ x. x.place) e ∙ sym (ap (λ x. x.0.place) j.is) in
-      let one = one_access (present_in ix) is.history B (record { place = i.place; access = access.Read i.value }) (record { place = j.place; access = access.Read j.value }) b
+      let one = one_access M is.history B (record { place = i.place; access = access.Read i.value }) (record { place = j.place; access = access.Read j.value }) b
       (subst (λ (T : Part). Contains T.accesses (record { place = i.place; access = access.Read i.value })) part i.returned) j.returned place in
       let value : i.value ≡ j.value = read_value i.value j.value (ap (λ x. x.access) one) in
       sym i.is ∙ (λ k. (reader_of (part k) (place k) (value k), own_value (part k) (place k))) ∙ j.is

@@ -15,6 +15,8 @@ pub mod Seen
 pub mod Gathered
 pub mod Touching
 pub mod Mended
+pub mod Bare
+pub mod Beside
 pub mod Pairs
 pub mod Counts
 pub mod PairLists

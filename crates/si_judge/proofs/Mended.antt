@@ -15,7 +15,7 @@ use Rattle.si_model.proofs.Sources.{sight_law}
 use Rattle.si_judge.specs.declared.reads.Reader.{Reader}
 use Rattle.si_judge.specs.declared.judgements.ReadId.{ReadId}
 use Rattle.si_judge.specs.declared.indexes.Indexes.{Indexes}
-use Rattle.si_judge.specs.Indexes.{AreIndexes, AreReadsOf, IsTouchedBy, present_in, reader_of, reads_in}
+use Rattle.si_judge.specs.Indexes.{AreIndexes, AreReadsOf, IsTouchedBy, reader_of, reads_in}
 use Rattle.si_judge.specs.Mending.{AreReadsJudged, IsReadKind, id_of, read_cmp}
 use Rattle.si_judge.specs.Sights.{sight_in}
 use Rattle.si_judge.specs.Touched.{DifferIn, RestsOn}
@@ -28,8 +28,8 @@ use Rattle.si_judge.proofs.Touching.{IsSide, rests_touch}
 use Rattle.si_judge.proofs.Updates.{key_or_not, others_stay, value_stands}
 
 -- the read is one of a committed transaction on the key
-abbrev pub IsReader : Indexes → Reader × Option Value → Type 0
-IsReader ix p = (T : Part) × Contains (present_in ix).parts T × Contains (reads_in T) p
+abbrev pub IsReader : OnKey → Reader × Option Value → Type 0
+IsReader M p = (T : Part) × Contains M.parts T × Contains (reads_in T) p
 
 abbrev pub NotAmong : List (Reader × Option Value) → ReadId → Type 0
 NotAmong xs o = (p : Reader × Option Value) → Contains xs p → id_of p ≢ o
@@ -45,59 +45,59 @@ reader_id T p c = let r = read_from T p c in ap (λ (q : Reader × Option Value)
 pub reader_read : (Q : OnKey) (T : Part) (i : ℕ) (v : Option Value) → IsRead Q T i v → Contains (reads_in T) (reader_of T i v, own_value T i)
 reader_read Q T i v r = read_to T r.committed.0 i v r.committed.1 r.returned
 
-module _ (J : Rules) (ix : Indexes) (is : AreIndexes ix) where
+module _ (J : Rules) {M : OnKey} (ix : Indexes) (is : AreIndexes M ix) where
   -- what the judge answers of a read is what it finds of it
-  pub judged_kind : (p : Reader × Option Value) → IsReader ix p → (k : Kind) → (J.read (sight_in ix p) ≡ Some k) ↔ IsReadKind J (present_in ix) (id_of p) k
+  pub judged_kind : (p : Reader × Option Value) → IsReader M p → (k : Kind) → (J.read (sight_in M ix p) ≡ Some k) ↔ IsReadKind J M (id_of p) k
   judged_kind p reader k = (to, from)
     where
       T : Part
       T = reader.0
 
-      to : J.read (sight_in ix p) ≡ Some k → IsReadKind J (present_in ix) (id_of p) k
-      to e = (reader.0, p.0.value, is_read (present_in ix) reader.0 p reader.1 reader.2, reader_id reader.0 p reader.2, ap J.read (sym (seen_is ix is reader.0 p reader.1 reader.2)) ∙ e)
+      to : J.read (sight_in M ix p) ≡ Some k → IsReadKind J M (id_of p) k
+      to e = (reader.0, p.0.value, is_read M reader.0 p reader.1 reader.2, reader_id reader.0 p reader.2, ap J.read (sym (seen_is ix is reader.0 p reader.1 reader.2)) ∙ e)
 
-      from : IsReadKind J (present_in ix) (id_of p) k → J.read (sight_in ix p) ≡ Some k
+      from : IsReadKind J M (id_of p) k → J.read (sight_in M ix p) ≡ Some k
       from found =
           let Y = found.0 in
-          let part = one_part (present_in ix) is.history Y reader.0 found.2.part reader.1 (found.3 ∙ sym (reader_id reader.0 p reader.2)) in
-          let r = is_read (present_in ix) reader.0 p reader.1 reader.2 in
-          let one = one_access (present_in ix) is.history reader.0 (record { place = p.0.place; access = access.Read found.1 }) (record { place = p.0.place; access = access.Read p.0.value }) reader.1
+          let part = one_part M is.history Y reader.0 found.2.part reader.1 (found.3 ∙ sym (reader_id reader.0 p reader.2)) in
+          let r = is_read M reader.0 p reader.1 reader.2 in
+          let one = one_access M is.history reader.0 (record { place = p.0.place; access = access.Read found.1 }) (record { place = p.0.place; access = access.Read p.0.value }) reader.1
           (subst (λ (X : Part). Contains X.accesses (record { place = p.0.place; access = access.Read found.1 })) part found.2.returned) r.returned refl in
           let value : found.1 ≡ p.0.value = same_access found.1 p.0.value (ap (λ x. x.access) one) in
-          ap J.read (seen_is ix is reader.0 p reader.1 reader.2 ∙ (λ i. sight_of (present_in ix) (sym part i) p.0.place (sym value i))) ∙ found.4
+          ap J.read (seen_is ix is reader.0 p reader.1 reader.2 ∙ (λ i. sight_of M (sym part i) p.0.place (sym value i))) ∙ found.4
         where
           same_access : (v w : Option Value) → access.Read v ≡ access.Read w → v ≡ w
           same_access v w e = cc
 
   -- after some reads were judged there stands what the judge answers of them, and else what stood there
-  pub judged_or_not : (xs : List (Reader × Option Value)) → ((p : Reader × Option Value) → Contains xs p → IsReader ix p) → (old new : ReadId → Option Kind) → AreReadsJudged J ix xs old new
-      → (o : ReadId) → ((p : Reader × Option Value) × Contains xs p × (id_of p ≡ o) × (new o ≡ J.read (sight_in ix p))) ⊎ (NotAmong xs o × (new o ≡ old o))
-  judged_or_not xs readers old new judged o = elim (key_or_not (eq_by_cmp read_cmp) read_decides id_of (λ p. J.read (sight_in ix p)) xs o) [
+  pub judged_or_not : (xs : List (Reader × Option Value)) → ((p : Reader × Option Value) → Contains xs p → IsReader M p) → (old new : ReadId → Option Kind) → AreReadsJudged J M ix xs old new
+      → (o : ReadId) → ((p : Reader × Option Value) × Contains xs p × (id_of p ≡ o) × (new o ≡ J.read (sight_in M ix p))) ⊎ (NotAmong xs o × (new o ≡ old o))
+  judged_or_not xs readers old new judged o = elim (key_or_not (eq_by_cmp read_cmp) read_decides id_of (λ p. J.read (sight_in M ix p)) xs o) [
     | inl h ↦ inl (
       h.0,
       h.1,
       h.2,
-      judged o ∙ value_stands (eq_by_cmp read_cmp) read_decides id_of (λ p. J.read (sight_in ix p)) xs old o (J.read (sight_in ix h.0)) h.0 h.1 h.2
-          (λ q c e. (let a = readers q c in let b = readers h.0 h.1 in ap (λ x. J.read (sight_in ix x)) (same_read ix is q h.0 a.0 b.0 a.1 b.1 a.2 b.2 (e ∙ sym h.2)))),
+      judged o ∙ value_stands (eq_by_cmp read_cmp) read_decides id_of (λ p. J.read (sight_in M ix p)) xs old o (J.read (sight_in M ix h.0)) h.0 h.1 h.2
+          (λ q c e. (let a = readers q c in let b = readers h.0 h.1 in ap (λ x. J.read (sight_in M ix x)) (same_read ix is q h.0 a.0 b.0 a.1 b.1 a.2 b.2 (e ∙ sym h.2)))),
     )
-    | inr none ↦ inr (none, judged o ∙ others_stay (eq_by_cmp read_cmp) read_decides id_of (λ p. J.read (sight_in ix p)) xs old o none)
+    | inr none ↦ inr (none, judged o ∙ others_stay (eq_by_cmp read_cmp) read_decides id_of (λ p. J.read (sight_in M ix p)) xs old o none)
   ]
 
   -- where what stands under others is right, all is right once these were judged
-  pub right_after : (xs : List (Reader × Option Value)) → ((p : Reader × Option Value) → Contains xs p → IsReader ix p) → (old new : ReadId → Option Kind) → AreReadsJudged J ix xs old new
-      → (o : ReadId) (k : Kind) → (NotAmong xs o → (old o ≡ Some k) ↔ IsReadKind J (present_in ix) o k) → (new o ≡ Some k) ↔ IsReadKind J (present_in ix) o k
+  pub right_after : (xs : List (Reader × Option Value)) → ((p : Reader × Option Value) → Contains xs p → IsReader M p) → (old new : ReadId → Option Kind) → AreReadsJudged J M ix xs old new
+      → (o : ReadId) (k : Kind) → (NotAmong xs o → (old o ≡ Some k) ↔ IsReadKind J M o k) → (new o ≡ Some k) ↔ IsReadKind J M o k
   right_after xs readers old new judged o k stays = elim (judged_or_not xs readers old new judged o) [
     | inl h ↦ (let j = judged_kind h.0 (readers h.0 h.1) k in (
-      (λ e. subst (λ q. IsReadKind J (present_in ix) q k) h.2 (j.0 (sym h.3 ∙ e))),
-      (λ f. h.3 ∙ j.1 (subst (λ q. IsReadKind J (present_in ix) q k) (sym h.2) f)),
+      (λ e. subst (λ q. IsReadKind J M q k) h.2 (j.0 (sym h.3 ∙ e))),
+      (λ f. h.3 ∙ j.1 (subst (λ q. IsReadKind J M q k) (sym h.2) f)),
     ))
     | inr n ↦ (let s = stays n.0 in ((λ e. s.0 (sym n.1 ∙ e)), (λ f. n.1 ∙ s.1 f)))
   ]
 
 -- ---- reads that weren't touched
 
-module _ (J : Rules) (ix : Indexes) (is : AreIndexes ix) (T U : Part) (named : U.id ≡ T.id) (absent : (X : Part) → Contains (present_in ix).parts X → X.id ≢ T.id)
-    (Q R : OnKey) (before : IsSide ix U Q) (after : IsSide ix T R) (less : (r : Reader) → IsTouchedBy ix U r → IsTouchedBy ix T r)
+module _ (J : Rules) {M : OnKey} (ix : Indexes) (is : AreIndexes M ix) (T U : Part) (named : U.id ≡ T.id) (absent : (X : Part) → Contains M.parts X → X.id ≢ T.id)
+    (Q R : OnKey) (before : IsSide M U Q) (after : IsSide M T R) (less : (r : Reader) → IsTouchedBy ix U r → IsTouchedBy ix T r)
     (others : List (Reader × Option Value)) (are : AreReadsOf ix (IsTouchedBy ix T) others) where
   pub differ : DifferIn T.id Q R
   differ = record {
@@ -108,7 +108,7 @@ module _ (J : Rules) (ix : Indexes) (is : AreIndexes ix) (T U : Part) (named : U
     );
   }
 
-  same_seen : (o : ReadId) → NotAmong others o → (X : Part) (v : Option Value) → Contains (present_in ix).parts X → IsRead Q X o.place v → X.id ≡ o.txn
+  same_seen : (o : ReadId) → NotAmong others o → (X : Part) (v : Option Value) → Contains M.parts X → IsRead Q X o.place v → X.id ≡ o.txn
       → sight_of Q X o.place v ≡ sight_of R X o.place v
   same_seen o none X v c read e =
       let seen = (sight_law Q X o.place v (sight_of Q X o.place v) before.history read.part).1 refl in
@@ -124,8 +124,8 @@ module _ (J : Rules) (ix : Indexes) (is : AreIndexes ix) (T U : Part) (named : U
 
   -- what is found of a read that wasn't touched is as it was
   pub same_kind : (o : ReadId) (k : Kind) → NotAmong others o
-      → ((X : Part) (v : Option Value) → IsRead Q X o.place v → X.id ≡ o.txn → Contains (present_in ix).parts X)
-      → ((X : Part) (v : Option Value) → IsRead R X o.place v → X.id ≡ o.txn → Contains (present_in ix).parts X)
+      → ((X : Part) (v : Option Value) → IsRead Q X o.place v → X.id ≡ o.txn → Contains M.parts X)
+      → ((X : Part) (v : Option Value) → IsRead R X o.place v → X.id ≡ o.txn → Contains M.parts X)
       → IsReadKind J Q o k ↔ IsReadKind J R o k
   same_kind o k none from_Q from_R = (
     (λ f. let c = from_Q f.0 f.1 f.2 f.3 in

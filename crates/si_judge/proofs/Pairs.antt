@@ -16,7 +16,7 @@ use Rattle.si_model.specs.History.{IsOfHistory}
 use Rattle.si_model.proofs.NextVersions.{next_exact, next_is, same_installer}
 use Rattle.si_timeline.specs.Timelines.{Dated, IsNearestBefore}
 use Rattle.si_judge.specs.declared.indexes.Indexes.{Indexes}
-use Rattle.si_judge.specs.Indexes.{AreIndexes, present_in}
+use Rattle.si_judge.specs.Indexes.{AreIndexes}
 use Rattle.si_judge.specs.Mending.{ArePairKinds, IsPairJudged, IsPairJudgedBefore, IsPairJudgedOf, IsPairKind, installer, stamp_cmp, with_kind}
 use Rattle.si_judge.specs.Touched.{DifferIn, InstallsNoneAfter}
 use Rattle.si_judge.proofs.IndexEdits.{no_value}
@@ -102,14 +102,11 @@ same_or_not c d = by (eq_by_cmp stamp_cmp c d) refl
 abbrev IsRight : Rules → OnKey → (Stamp → Option Kind) → Stamp → Kind → Type 0
 IsRight J Q at c k = (at c ≡ Some k) ↔ IsPairKind J Q c k
 
-module _ (J : Rules) (ix : Indexes) (is : AreIndexes ix) (u : TxnId) (Q : OnKey) (h : IsOfHistory Q) (differ : DifferIn u Q (present_in ix)) (d : Dated)
-    (only_Q : (n : Installer) → IsInstaller Q n → n.txn ≡ u → n.commit ≡ d.0) (only_R : (n : Installer) → IsInstaller (present_in ix) n → n.txn ≡ u → n.commit ≡ d.0)
+module _ (J : Rules) {M : OnKey} (ix : Indexes) (is : AreIndexes M ix) (u : TxnId) (Q : OnKey) (h : IsOfHistory Q) (differ : DifferIn u Q M) (d : Dated)
+    (only_Q : (n : Installer) → IsInstaller Q n → n.txn ≡ u → n.commit ≡ d.0) (only_R : (n : Installer) → IsInstaller M n → n.txn ≡ u → n.commit ≡ d.0)
     (o : Option Dated) (near : IsNearestBefore ix.timeline d.0 o) (c : Stamp) (other : c ≢ d.0) (not_before : (b : Dated) → o ≡ Some b → b.0 ≢ c) (k : Kind) where
-  R : OnKey
-  R = present_in ix
-
   -- of S, whose other installers are those of the indexes, u's version isn't next after one at the commit
-  none_after : (S : OnKey) → DifferIn u S (present_in ix) → ((n : Installer) → IsInstaller S n → n.txn ≡ u → n.commit ≡ d.0)
+  none_after : (S : OnKey) → DifferIn u S M → ((n : Installer) → IsInstaller S n → n.txn ≡ u → n.commit ≡ d.0)
       → (first : Installer) → IsInstaller S first → first.commit ≡ c → first.txn ≢ u → InstallsNoneAfter S u (version.Installed first.commit)
   none_after S away only first i at apart n next of_u = by o near not_before
     where
@@ -118,14 +115,14 @@ module _ (J : Rules) (ix : Indexes) (is : AreIndexes ix) (u : TxnId) (Q : OnKey)
 
       by : (p : Option Dated) → IsNearestBefore ix.timeline d.0 p → ((b : Dated) → p ≡ Some b → b.0 ≢ c) → ⊥
       by None none differs =
-          let x = standing ix is first (installs_too u S (present_in ix) away first i apart) in
+          let x = standing ix is first (installs_too u S M away first i apart) in
           let most = none x.0 x.1 in
           let same : x.0.0.0 ≡ first.commit.0 = ap (λ (m : Installer). m.commit.0) x.2 in
           let lt = next.after in
           let end : n.commit.0 ≡ d.0.0 = ap (λ y. y.0) (only n next.installs of_u) in
           omega (arith, most, same, lt, end)
       by (Some b) near differs =
-          let x = standing ix is first (installs_too u S (present_in ix) away first i apart) in
+          let x = standing ix is first (installs_too u S M away first i apart) in
           let same : x.0.0.0 ≡ first.commit.0 = ap (λ (m : Installer). m.commit.0) x.2 in
           let lt = next.after in
           let end : n.commit.0 ≡ d.0.0 = ap (λ y. y.0) (only n next.installs of_u) in
@@ -134,68 +131,68 @@ module _ (J : Rules) (ix : Indexes) (is : AreIndexes ix) (u : TxnId) (Q : OnKey)
           let b_in = installed ix is b near.0 in
           let b_other : b.1.writer ≢ u = λ e. (let s : b.0.0 ≡ d.0.0 = ap (λ y. y.0) (only_R (installer b) b_in e) in omega (arith, s, below)) in
           elim (cases_lt first.commit.0 b.0.0) [
-            | inl more ↦ (let le = next.first (installer b) (installs_too u (present_in ix) S (turned u S (present_in ix) away) (installer b) b_in b_other) more in omega (arith, le, end, below))
+            | inl more ↦ (let le = next.first (installer b) (installs_too u M S (turned u S M away) (installer b) b_in b_other) more in omega (arith, le, end, below))
             | inr least ↦ differs b refl (let s : b.0.0 ≡ first.commit.0 = omega (arith, least, most, same) in ap (λ (m : ℕ). record { 0 = m }) s ∙ at)
           ]
 
-  itself : DifferIn u (present_in ix) (present_in ix)
+  itself : DifferIn u M M
   itself = record { initial = refl; parts = λ T e. ((λ x. x), (λ x. x)) }
 
   apart_Q : (first : Installer) → IsInstaller Q first → first.commit ≡ c → first.txn ≢ u
   apart_Q first i at e = other (sym at ∙ only_Q first i e)
 
-  apart_R : (first : Installer) → IsInstaller (present_in ix) first → first.commit ≡ c → first.txn ≢ u
+  apart_R : (first : Installer) → IsInstaller M first → first.commit ≡ c → first.txn ≢ u
   apart_R first i at e = other (sym at ∙ only_R first i e)
 
-  pub beside_stays : IsPairKind J Q c k ↔ IsPairKind J (present_in ix) c k
-  beside_stays = pair_stays J u c k Q (present_in ix) h is.history differ
-      (λ f i at. (let a = apart_Q f i at in (a, none_after Q differ only_Q f i at a, none_after (present_in ix) itself only_R f (installs_too u Q (present_in ix) differ f i a) at a)))
+  pub beside_stays : IsPairKind J Q c k ↔ IsPairKind J M c k
+  beside_stays = pair_stays J u c k Q M h is.history differ
+      (λ f i at. (let a = apart_Q f i at in (a, none_after Q differ only_Q f i at a, none_after M itself only_R f (installs_too u Q M differ f i a) at a)))
       (λ f i at. (let a = apart_R f i at in (
         a,
-        none_after (present_in ix) itself only_R f i at a,
-        none_after Q differ only_Q f (installs_too u (present_in ix) Q (turned u Q (present_in ix) differ) f i a) at a,
+        none_after M itself only_R f i at a,
+        none_after Q differ only_Q f (installs_too u M Q (turned u Q M differ) f i a) at a,
       )))
 
-module _ (J : Rules) (ix : Indexes) (is : AreIndexes ix) (u : TxnId) (Q : OnKey) (h : IsOfHistory Q) (differ : DifferIn u Q (present_in ix)) (d : Dated)
-    (only_Q : (n : Installer) → IsInstaller Q n → n.txn ≡ u → n.commit ≡ d.0) (only_R : (n : Installer) → IsInstaller (present_in ix) n → n.txn ≡ u → n.commit ≡ d.0)
+module _ (J : Rules) {M : OnKey} (ix : Indexes) (is : AreIndexes M ix) (u : TxnId) (Q : OnKey) (h : IsOfHistory Q) (differ : DifferIn u Q M) (d : Dated)
+    (only_Q : (n : Installer) → IsInstaller Q n → n.txn ≡ u → n.commit ≡ d.0) (only_R : (n : Installer) → IsInstaller M n → n.txn ≡ u → n.commit ≡ d.0)
     (at : Stamp → Option Kind) (are : ArePairKinds J Q at) where
-  kept : (o : Option Dated) → IsNearestBefore ix.timeline d.0 o → (c : Stamp) (k : Kind) → c ≢ d.0 → ((b : Dated) → o ≡ Some b → b.0 ≢ c) → IsRight J (present_in ix) at c k
+  kept : (o : Option Dated) → IsNearestBefore ix.timeline d.0 o → (c : Stamp) (k : Kind) → c ≢ d.0 → ((b : Dated) → o ≡ Some b → b.0 ≢ c) → IsRight J M at c k
   kept o near c k other not_before =
       let s = beside_stays J ix is u Q h differ d only_Q only_R o near c other not_before k in
       ((λ e. s.0 ((are c k).0 e)), (λ f. (are c k).1 (s.1 f)))
 
   -- the pair before is right once it was judged, and the others stay right
-  before_right : (o : Option Dated) → IsNearestBefore ix.timeline d.0 o → (old new : Stamp → Option Kind) → IsPairJudgedOf J (present_in ix) o old new → (c : Stamp) (k : Kind)
-      → (((b : Dated) → o ≡ Some b → b.0 ≢ c) → IsRight J (present_in ix) old c k) → IsRight J (present_in ix) new c k
+  before_right : (o : Option Dated) → IsNearestBefore ix.timeline d.0 o → (old new : Stamp → Option Kind) → IsPairJudgedOf J M o old new → (c : Stamp) (k : Kind)
+      → (((b : Dated) → o ≡ Some b → b.0 ≢ c) → IsRight J M old c k) → IsRight J M new c k
   before_right None near old new same c k right = let r = right (λ b e. absurd (no_value b e)) in ((λ e. r.0 (sym (same c) ∙ e)), (λ f. same c ∙ r.1 f))
   before_right (Some b) near old new judged c k right = elim (same_or_not b.0 c) [
     | inl e ↦ (
-        let stands : new c ≡ overlap_with J (installer b) (next_after (present_in ix).parts (version.Installed b.0)) = judged c ∙ with_there old b.0 c (overlap_with J (installer b) (next_after (present_in ix).parts (version.Installed b.0))) e in
-        let p = pair_at J (present_in ix) is.history (installer b) (installed ix is b near.0) k in
-        ((λ f. subst (λ x. IsPairKind J (present_in ix) x k) e (p.0 (sym stands ∙ f))), (λ f. stands ∙ p.1 (subst (λ x. IsPairKind J (present_in ix) x k) (sym e) f))))
+        let stands : new c ≡ overlap_with J (installer b) (next_after M.parts (version.Installed b.0)) = judged c ∙ with_there old b.0 c (overlap_with J (installer b) (next_after M.parts (version.Installed b.0))) e in
+        let p = pair_at J M is.history (installer b) (installed ix is b near.0) k in
+        ((λ f. subst (λ x. IsPairKind J M x k) e (p.0 (sym stands ∙ f))), (λ f. stands ∙ p.1 (subst (λ x. IsPairKind J M x k) (sym e) f))))
     | inr other ↦ (
-        let stands : new c ≡ old c = judged c ∙ with_other old b.0 c (overlap_with J (installer b) (next_after (present_in ix).parts (version.Installed b.0))) other in
+        let stands : new c ≡ old c = judged c ∙ with_other old b.0 c (overlap_with J (installer b) (next_after M.parts (version.Installed b.0))) other in
         let r = right (λ x s same. other (ap (λ (y : Dated). y.0) (same_some s) ∙ same)) in
         ((λ f. r.0 (sym stands ∙ f)), (λ f. stands ∙ r.1 f)))
   ]
 
   -- one that installs came
-  pub pairs_after_coming : IsInstaller (present_in ix) (installer d) → (middle new : Stamp → Option Kind) → IsPairJudgedBefore J ix d.0 at middle → IsPairJudged J (present_in ix) (installer d) middle new
-      → ArePairKinds J (present_in ix) new
+  pub pairs_after_coming : IsInstaller M (installer d) → (middle new : Stamp → Option Kind) → IsPairJudgedBefore J M ix d.0 at middle → IsPairJudged J M (installer d) middle new
+      → ArePairKinds J M new
   pairs_after_coming is_d middle new before judged c k = elim (same_or_not d.0 c) [
     | inl e ↦ (
-        let stands : new c ≡ overlap_with J (installer d) (next_after (present_in ix).parts (version.Installed d.0)) = judged c ∙ with_there middle d.0 c (overlap_with J (installer d) (next_after (present_in ix).parts (version.Installed d.0))) e in
-        let p = pair_at J (present_in ix) is.history (installer d) is_d k in
-        ((λ f. subst (λ x. IsPairKind J (present_in ix) x k) e (p.0 (sym stands ∙ f))), (λ f. stands ∙ p.1 (subst (λ x. IsPairKind J (present_in ix) x k) (sym e) f))))
+        let stands : new c ≡ overlap_with J (installer d) (next_after M.parts (version.Installed d.0)) = judged c ∙ with_there middle d.0 c (overlap_with J (installer d) (next_after M.parts (version.Installed d.0))) e in
+        let p = pair_at J M is.history (installer d) is_d k in
+        ((λ f. subst (λ x. IsPairKind J M x k) e (p.0 (sym stands ∙ f))), (λ f. stands ∙ p.1 (subst (λ x. IsPairKind J M x k) (sym e) f))))
     | inr other ↦ (
-        let stands : new c ≡ middle c = judged c ∙ with_other middle d.0 c (overlap_with J (installer d) (next_after (present_in ix).parts (version.Installed d.0))) other in
+        let stands : new c ≡ middle c = judged c ∙ with_other middle d.0 c (overlap_with J (installer d) (next_after M.parts (version.Installed d.0))) other in
         let r = before_right before.0 before.1 at middle before.2 c k (λ not_before. kept before.0 before.1 c k (λ s. other (sym s)) not_before) in
         ((λ f. r.0 (sym stands ∙ f)), (λ f. stands ∙ r.1 f)))
   ]
 
   -- one that installed went
-  pub pairs_after_going : ((n : Installer) → IsInstaller (present_in ix) n → n.commit ≢ d.0) → (middle new : Stamp → Option Kind) → ((c : Stamp) → middle c ≡ with_kind at d.0 None c) → IsPairJudgedBefore J ix d.0 middle new
-      → ArePairKinds J (present_in ix) new
+  pub pairs_after_going : ((n : Installer) → IsInstaller M n → n.commit ≢ d.0) → (middle new : Stamp → Option Kind) → ((c : Stamp) → middle c ≡ with_kind at d.0 None c) → IsPairJudgedBefore J M ix d.0 middle new
+      → ArePairKinds J M new
   pairs_after_going gone middle new forgotten before c k = before_right before.0 before.1 middle new before.2 c k (λ not_before. elim (same_or_not d.0 c) [
     | inl e ↦ (
         let stands : middle c ≡ None = forgotten c ∙ with_there at d.0 c None e in

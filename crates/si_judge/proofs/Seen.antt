@@ -7,6 +7,7 @@ use Rattle.si_lists.proofs.Members.{same_some}
 use Rattle.si_model.specs.declared.numbers.Value.{Value}
 use Rattle.si_model.specs.declared.parts.Access.TheVariants as access
 use Rattle.si_model.specs.declared.parts.Part.{Part}
+use Rattle.si_model.specs.declared.parts.OnKey.{OnKey}
 use Rattle.si_model.specs.declared.sights.Source.TheVariants as source
 use Rattle.si_model.specs.declared.transactions.Status.{Status}
 use Rattle.si_model.specs.declared.transactions.Status.TheVariants as status
@@ -22,7 +23,7 @@ use Rattle.si_judge.specs.declared.reads.Fate.TheVariants as fate
 use Rattle.si_judge.specs.declared.reads.Reader.{Reader}
 use Rattle.si_judge.specs.declared.reads.Write.{Write}
 use Rattle.si_judge.specs.declared.indexes.Indexes.{Indexes}
-use Rattle.si_judge.specs.Indexes.{AreIndexes, fate_of, present_in, reader_of, reads_in, write_of}
+use Rattle.si_judge.specs.Indexes.{AreIndexes, fate_of, reader_of, reads_in, write_of}
 use Rattle.si_judge.specs.Spread.{at_value}
 use Rattle.si_judge.specs.Sights.{is_later_write, sight_in, source_in, source_told, source_with, write_in}
 use Rattle.si_judge.proofs.IndexEdits.{no_value}
@@ -43,43 +44,44 @@ fate_tells T v (status.Committed c) = by (option_eq same_value (last_write T.acc
     by true = refl
     by false = refl
 
-module _ (ix : Indexes) (is : AreIndexes ix) where
+module _ {M : OnKey} (ix : Indexes) (is : AreIndexes M ix) where
   -- the write that stands in the index, with its transaction
   abbrev Found : Value → Write → Type 0
-  Found w x = (U : Part) × Contains (present_in ix).parts U × ((j : ℕ) × Contains U.accesses (record { place = j; access = access.Write w }) × (write_of U j w ≡ (w, x)))
+  Found w x = (U : Part) × Contains M.parts U × ((j : ℕ) × Contains U.accesses (record { place = j; access = access.Write w }) × (write_of U j w ≡ (w, x)))
 
   found : (w : Value) (x : Write) → at_value ix.writes w ≡ Some x → Found w x
   found w x e = let u = (is.writes w x).0 e in (u.0, u.1, write_from u.0 w x u.2)
 
-  unwritten : (w : Value) → at_value ix.writes w ≡ None → (U : Part) → Contains (present_in ix).parts U → Writes U w → ⊥
+  unwritten : (w : Value) → at_value ix.writes w ≡ None → (U : Part) → Contains M.parts U → Writes U w → ⊥
   unwritten w e U c i = no_value _ (sym e ∙ (is.writes w (write_of U i.0 w).1).1 (U, c, write_to U i.0 w i.1))
 
   -- ---- where a value comes from
 
-  source_found : (w : Value) (o : Option Write) → at_value ix.writes w ≡ o → source_with o ≡ source_among (present_in ix).parts (Some w)
-  source_found w None e = ap (source_from w) (sym (none (find (part_writes w) (present_in ix).parts) refl))
+  source_found : (w : Value) (o : Option Write) → at_value ix.writes w ≡ o → source_with o ≡ source_among M.parts (Some w)
+  source_found w None e = ap (source_from w) (sym (none (find (part_writes w) M.parts) refl))
     where
-      none : (f : Option Part) → find (part_writes w) (present_in ix).parts ≡ f → f ≡ None
+      none : (f : Option Part) → find (part_writes w) M.parts ≡ f → f ≡ None
       none None g = refl
-      none (Some U) g = let c = (writer_found (present_in ix) w U is.history).0 g in absurd (unwritten w e U c.0 c.1)
+      none (Some U) g = let c = (writer_found M w U is.history).0 g in absurd (unwritten w e U c.0 c.1)
   source_found w (Some x) e =
       let u = found w x e in
       let U = u.0 in
       let x_is : (write_of U u.2.0 w).1 ≡ x = ap (λ p. p.1) u.2.2 in
-      let writer : find (part_writes w) (present_in ix).parts ≡ Some U = (writer_found (present_in ix) w U is.history).1 (u.1, (u.2.0, u.2.1)) in
+      let writer : find (part_writes w) M.parts ≡ Some U = (writer_found M w U is.history).1 (u.1, (u.2.0, u.2.1)) in
       ap (λ (y : Write). source_told y.txn y.fate) (sym x_is) ∙ fate_tells U w U.status ∙ ap (source_from w) (sym writer)
 
-  source_is : (v : Option Value) → source_in ix v (write_in ix v) ≡ source_of (present_in ix) v
+  source_is : (v : Option Value) → source_in ix v (write_in ix v) ≡ source_of M v
   unfolding source_of
-  source_is v = ap (λ s. cond (option_eq same_value v ix.initial) source.Initial s) (among v)
+  source_is v = ap (λ i. cond (option_eq same_value v i) source.Initial (source_with (write_in ix v))) is.initial
+      ∙ ap (λ s. cond (option_eq same_value v M.initial) source.Initial s) (among v)
     where
-      among : (v : Option Value) → source_with (write_in ix v) ≡ source_among (present_in ix).parts v
+      among : (v : Option Value) → source_with (write_in ix v) ≡ source_among M.parts v
       among None = refl
       among (Some w) = source_found w (at_value ix.writes w) refl
 
   -- ---- a later write
 
-  module _ (T : Part) (there : Contains (present_in ix).parts T) (i : ℕ) where
+  module _ (T : Part) (there : Contains M.parts T) (i : ℕ) where
     later_found : (w : Value) (o : Option Write) → at_value ix.writes w ≡ o → is_later_write (reader_of T i (Some w)) o ≡ writes_later T i (Some w)
     later_found w None e = same_tests false (writes_later T i (Some w)) (λ t. absurd (true≢false (sym t))) (λ t.
         let l = (later_are T i (Some w)).0 t in
@@ -92,7 +94,7 @@ module _ (ix : Indexes) (is : AreIndexes ix) where
             let u = found w x e in
             let both = and_parts (same_id x.txn T.id) (nat_lt i x.place) t in
             let id : u.0.id ≡ T.id = ap (λ p. p.1.txn) u.2.2 ∙ same_id_is x.txn T.id both.0 in
-            let part : u.0 ≡ T = one_part (present_in ix) is.history u.0 T u.1 there id in
+            let part : u.0 ≡ T = one_part M is.history u.0 T u.1 there id in
             let place : u.2.0 ≡ x.place = ap (λ p. p.1.place) u.2.2 in
             (later_are T i (Some w)).1 (
               w,
@@ -122,7 +124,7 @@ module _ (ix : Indexes) (is : AreIndexes ix) where
 
   -- ---- all of it
 
-  seen_at : (T : Part) → Contains (present_in ix).parts T → (i : ℕ) (v : Option Value) → sight_in ix (reader_of T i v, own_value T i) ≡ sight_of (present_in ix) T i v
+  seen_at : (T : Part) → Contains M.parts T → (i : ℕ) (v : Option Value) → sight_in M ix (reader_of T i v, own_value T i) ≡ sight_of M T i v
   unfolding sight_of missed_at
   seen_at T there i v = λ k. record {
     txn = T.id;
@@ -132,11 +134,11 @@ module _ (ix : Indexes) (is : AreIndexes ix) where
     own = own_value T i;
     later = later_is T there i v k;
     source = source_is v k;
-    missed = missed_of (present_in ix).parts T.start (version_of (source_is v k));
+    missed = missed_of M.parts T.start (version_of (source_is v k));
   }
 
-  pub seen_is : (T : Part) (p : Reader × Option Value) → Contains (present_in ix).parts T → Contains (reads_in T) p
-      → sight_in ix p ≡ sight_of (present_in ix) T p.0.place p.0.value
+  pub seen_is : (T : Part) (p : Reader × Option Value) → Contains M.parts T → Contains (reads_in T) p
+      → sight_in M ix p ≡ sight_of M T p.0.place p.0.value
   seen_is T p there c =
       let r = read_from T p c in
-      ap (sight_in ix) (sym r.is) ∙ seen_at T there r.place r.value ∙ ap₂ (sight_of (present_in ix) T) (ap (λ q. q.0.place) r.is) (ap (λ q. q.0.value) r.is)
+      ap (sight_in M ix) (sym r.is) ∙ seen_at T there r.place r.value ∙ ap₂ (sight_of M T) (ap (λ q. q.0.place) r.is) (ap (λ q. q.0.value) r.is)

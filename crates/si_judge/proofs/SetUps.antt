@@ -4,6 +4,7 @@ use Rattle.std.specs.List.{Contains}
 use Rattle.si_model.specs.declared.numbers.Stamp.{Stamp}
 use Rattle.si_model.specs.declared.numbers.Value.{Value}
 use Rattle.si_model.specs.declared.parts.Part.{Part}
+use Rattle.si_model.specs.declared.parts.OnKey.{OnKey}
 use Rattle.si_model.specs.declared.sights.Installer.{Installer}
 use Rattle.si_model.specs.declared.sights.VersionId.{VersionId}
 use Rattle.si_model.specs.declared.kinds.Kind.{Kind}
@@ -16,12 +17,11 @@ use Rattle.si_model.proofs.Sources.{sight_law}
 use Rattle.si_judge.specs.declared.reads.Reader.{Reader}
 use Rattle.si_judge.specs.declared.judgements.ReadId.{ReadId}
 use Rattle.si_judge.specs.declared.indexes.Indexes.{Indexes}
-use Rattle.si_judge.specs.Indexes.{AreIndexes, AreReadsOf, present_in, reader_of, readers_in}
+use Rattle.si_judge.specs.Indexes.{AreIndexes, AreReadsOf, reader_of, readers_in}
 use Rattle.si_judge.specs.Readers.{IsReaderOf}
-use Rattle.si_judge.specs.Mending.{AreReadsJudged, Found, IsPairKind, risen}
+use Rattle.si_judge.specs.Mending.{AreReadsJudged, Found, IsPairKind, IsRight, risen}
 use Rattle.si_judge.specs.Touched.{IsBoundedBy, IsTouchedBySetUp}
 use Rattle.si_judge.proofs.Coverage.{bounded, readers_once}
-use Rattle.si_judge.proofs.Edited.{IsRight}
 use Rattle.si_judge.proofs.Gathered.{both_are, readers_are}
 use Rattle.si_judge.proofs.IndexEdits.{no_value}
 use Rattle.si_judge.proofs.Mended.{IsReader, NotAmong, is_read, reader_id, reader_read, right_after}
@@ -29,10 +29,10 @@ use Rattle.si_judge.proofs.Staying.{others_stay}
 
 -- the indexes once the key is set up
 abbrev pub set_up_in : Value → Indexes → Indexes
-set_up_in w ix = record { initial = Some w; parts = ix.parts; timeline = ix.timeline; writes = ix.writes; readers = ix.readers }
+set_up_in w ix = record { initial = Some w; timeline = ix.timeline; writes = ix.writes; readers = ix.readers }
 
-pub indexes_set_up : (w : Value) (ix : Indexes) → AreIndexes ix → IsOfHistory (set_up_on w (present_in ix)) → AreIndexes (set_up_in w ix)
-indexes_set_up w ix is h = record { history = h; timeline = is.timeline; writes = is.writes; readers = is.readers; ordered = is.ordered }
+pub indexes_set_up : (w : Value) {M : OnKey} (ix : Indexes) → AreIndexes M ix → IsOfHistory (set_up_on w M) → AreIndexes (set_up_on w M) (set_up_in w ix)
+indexes_set_up w ix is h = record { history = h; initial = refl; timeline = is.timeline; writes = is.writes; readers = is.readers; ordered = is.ordered }
 
 next_again : (p q : Option Value) (parts : List Part) (a : VersionId) (n : Installer) → IsNext (record { initial = p; parts = parts }) a n → IsNext (record { initial = q; parts = parts }) a n
 next_again p q parts a n next = record { installs = next.installs; after = next.after; first = next.first }
@@ -44,14 +44,14 @@ pair_again J p q parts c k f = (f.0, f.1, f.2, f.3, next_again p q parts _ f.1 f
 abbrev IsOfEither : Value → Reader → Type 0
 IsOfEither w r = IsReaderOf None None r ⊎ IsReaderOf (Some w) None r
 
-module _ (J : Rules) (ix : Indexes) (is : AreIndexes ix) (w : Value) (unset : ix.initial ≡ None) (h : IsOfHistory (set_up_on w (present_in ix))) (old new : Found) (right : IsRight J (present_in ix) old)
-    (judged : AreReadsJudged J (set_up_in w ix) (readers_in (set_up_in w ix) None None ++ readers_in (set_up_in w ix) (Some w) None) old.reads new.reads)
+module _ (J : Rules) {M : OnKey} (ix : Indexes) (is : AreIndexes M ix) (w : Value) (unset : M.initial ≡ None) (h : IsOfHistory (set_up_on w M)) (old new : Found) (right : IsRight J M old)
+    (judged : AreReadsJudged J (set_up_on w M) (set_up_in w ix) (readers_in (set_up_in w ix) None None ++ readers_in (set_up_in w ix) (Some w) None) old.reads new.reads)
     (same : (c : Stamp) → new.overlaps c ≡ old.overlaps c)
     (counted : new.answers ≡ risen old.answers (length (readers_in (set_up_in w ix) None None ++ readers_in (set_up_in w ix) (Some w) None))) where
   set : Indexes
   set = set_up_in w ix
 
-  are_set : AreIndexes (set_up_in w ix)
+  are_set : AreIndexes (set_up_on w M) (set_up_in w ix)
   are_set = indexes_set_up w ix is h
 
   reads : List (Reader × Option Value)
@@ -61,45 +61,45 @@ module _ (J : Rules) (ix : Indexes) (is : AreIndexes ix) (w : Value) (unset : ix
   are_reads = both_are (set_up_in w ix) are_set (readers_in (set_up_in w ix) None None) (readers_in (set_up_in w ix) (Some w) None)
       (readers_are (set_up_in w ix) are_set None None) (readers_are (set_up_in w ix) are_set (Some w) None) (λ r a b. no_value w (sym a.0 ∙ b.0))
 
-  reader : (p : Reader × Option Value) → Contains (readers_in (set_up_in w ix) None None ++ readers_in (set_up_in w ix) (Some w) None) p → IsReader (set_up_in w ix) p
+  reader : (p : Reader × Option Value) → Contains (readers_in (set_up_in w ix) None None ++ readers_in (set_up_in w ix) (Some w) None) p → IsReader (set_up_on w M) p
   reader p c = (are_set.readers p.0 p.1).0 (are_reads.only p c).0
 
-  same_seen : (o : ReadId) → NotAmong (readers_in (set_up_in w ix) None None ++ readers_in (set_up_in w ix) (Some w) None) o → (X : Part) (v : Option Value) → IsRead (present_in ix) X o.place v → X.id ≡ o.txn
-      → sight_of (present_in ix) X o.place v ≡ sight_of (present_in (set_up_in w ix)) X o.place v
+  same_seen : (o : ReadId) → NotAmong (readers_in (set_up_in w ix) None None ++ readers_in (set_up_in w ix) (Some w) None) o → (X : Part) (v : Option Value) → IsRead M X o.place v → X.id ≡ o.txn
+      → sight_of M X o.place v ≡ sight_of (set_up_on w M) X o.place v
   same_seen o none X v read e =
-      let seen = (sight_law (present_in ix) X o.place v (sight_of (present_in ix) X o.place v) is.history read.part).1 refl in
-      let stays = others_stay (present_in ix) (present_in (set_up_in w ix)) w X o.place v (sight_of (present_in ix) X o.place v) (record { before = unset; after = refl; parts = refl }) read
+      let seen = (sight_law M X o.place v (sight_of M X o.place v) is.history read.part).1 refl in
+      let stays = others_stay M (set_up_on w M) w X o.place v (sight_of M X o.place v) (record { before = unset; after = refl; parts = refl }) read
       (λ n. untouched (inl (n, tt))) (λ n. untouched (inr (n, tt))) seen in
-      (sight_law (present_in (set_up_in w ix)) X o.place v (sight_of (present_in ix) X o.place v) h stays.0.part).0 stays.1
+      (sight_law (set_up_on w M) X o.place v (sight_of M X o.place v) h stays.0.part).0 stays.1
     where
       untouched : IsOfEither w (reader_of X o.place v) → ⊥
       untouched t = none (reader_of X o.place v, own_value X o.place)
-          (are_reads.all (reader_of X o.place v) (own_value X o.place) ((are_set.readers (reader_of X o.place v) (own_value X o.place)).1 (X, read.part, reader_read (present_in ix) X o.place v read)) t)
+          (are_reads.all (reader_of X o.place v) (own_value X o.place) ((are_set.readers (reader_of X o.place v) (own_value X o.place)).1 (X, read.part, reader_read M X o.place v read)) t)
           (λ i. record { txn = e i; place = o.place })
 
-  pub right_set_up : IsRight J (present_in (set_up_in w ix)) new
+  pub right_set_up : IsRight J (set_up_on w M) new
   right_set_up = record {
     reads = λ o k. right_after J (set_up_in w ix) are_set (readers_in (set_up_in w ix) None None ++ readers_in (set_up_in w ix) (Some w) None) reader old.reads new.reads judged o k (λ none. (
       (λ e. let f = (right.reads o k).0 e in
           (f.0, f.1, record { part = f.2.part; committed = f.2.committed; returned = f.2.returned }, f.3, ap J.read (sym (same_seen o none f.0 f.1 f.2 f.3)) ∙ f.4)),
-      (λ f. let read : IsRead (present_in ix) f.0 o.place f.1 = record { part = f.2.part; committed = f.2.committed; returned = f.2.returned } in
+      (λ f. let read : IsRead M f.0 o.place f.1 = record { part = f.2.part; committed = f.2.committed; returned = f.2.returned } in
           (right.reads o k).1 (f.0, f.1, read, f.3, ap J.read (same_seen o none f.0 f.1 read f.3) ∙ f.4)),
     ));
     overlaps = λ c k. (
-      (λ e. pair_again J ix.initial (Some w) (present_in ix).parts c k ((right.overlaps c k).0 (sym (same c) ∙ e))),
-      (λ f. same c ∙ (right.overlaps c k).1 (pair_again J (Some w) ix.initial (present_in ix).parts c k f)),
+      (λ e. pair_again J M.initial (Some w) M.parts c k ((right.overlaps c k).0 (sym (same c) ∙ e))),
+      (λ f. same c ∙ (right.overlaps c k).1 (pair_again J (Some w) M.initial M.parts c k f)),
     );
   }
 
-  pub bound_set_up : (n : ℕ) × IsBoundedBy (IsTouchedBySetUp (present_in (set_up_in w ix)) w) n × (new.answers ≡ risen old.answers n)
+  pub bound_set_up : (n : ℕ) × IsBoundedBy (IsTouchedBySetUp (set_up_on w M) w) n × (new.answers ≡ risen old.answers n)
   bound_set_up = (
     length (readers_in (set_up_in w ix) None None ++ readers_in (set_up_in w ix) (Some w) None),
-    bounded (IsTouchedBySetUp (present_in (set_up_in w ix)) w) (readers_in (set_up_in w ix) None None ++ readers_in (set_up_in w ix) (Some w) None)
+    bounded (IsTouchedBySetUp (set_up_on w M) w) (readers_in (set_up_in w ix) None None ++ readers_in (set_up_in w ix) (Some w) None)
         (readers_once (set_up_in w ix) are_set (IsOfEither w) (readers_in (set_up_in w ix) None None ++ readers_in (set_up_in w ix) (Some w) None) are_reads)
         (λ p c. (let x = reader p c in record {
           part = x.0;
           value = p.0.value;
-          read = is_read (present_in (set_up_in w ix)) x.0 p x.1 x.2;
+          read = is_read (set_up_on w M) x.0 p x.1 x.2;
           of = reader_id x.0 p x.2;
           touched = elim (are_reads.only p c).1 [ inl a ↦ inl a.0 | inr b ↦ inr b.0 ];
         }))

@@ -21,28 +21,28 @@ use Rattle.si_model.proofs.LastWrites.{last_is_final, last_written}
 use Rattle.si_timeline.specs.Timelines.{Dated, IsNearestBefore}
 use Rattle.si_judge.specs.declared.reads.Reader.{Reader}
 use Rattle.si_judge.specs.declared.indexes.Indexes.{Indexes}
-use Rattle.si_judge.specs.Indexes.{AreIndexes, IsTouchedBy, IsValueBefore, present_in, returned_by, version_of}
+use Rattle.si_judge.specs.Indexes.{AreIndexes, IsTouchedBy, IsValueBefore, returned_by, version_of}
 use Rattle.si_judge.specs.Mending.{installer}
 use Rattle.si_judge.specs.Touched.{InstallsMissed, RestsOn}
 use Rattle.si_judge.proofs.Neighbours.{installed, standing}
 use Rattle.si_judge.proofs.PartLists.{installs_version, version_from, version_installs, version_to}
 
--- S is what is in the indexes, with T or without it
-pub record IsSide (ix : Indexes) (T : Part) (S : OnKey) : Type 0 where
+-- S is M with T or without it
+pub record IsSide (M : OnKey) (T : Part) (S : OnKey) : Type 0 where
   pub history : IsOfHistory S
-  pub initial : ix.initial ≡ S.initial
-  pub above : (X : Part) → Contains (present_in ix).parts X → Contains S.parts X
-  pub within : (X : Part) → Contains S.parts X → Contains (present_in ix).parts X ⊎ (X ≡ T)
+  pub initial : M.initial ≡ S.initial
+  pub above : (X : Part) → Contains M.parts X → Contains S.parts X
+  pub within : (X : Part) → Contains S.parts X → Contains M.parts X ⊎ (X ≡ T)
 
 no_version : {A : Type 0} (a : A) → None ≡ Some a → ⊥
 no_version a e = cc
 
-module _ (ix : Indexes) (is : AreIndexes ix) (T : Part) (absent : (X : Part) → Contains (present_in ix).parts X → X.id ≢ T.id) (S : OnKey) (side : IsSide ix T S) where
+module _ {M : OnKey} (ix : Indexes) (is : AreIndexes M ix) (T : Part) (absent : (X : Part) → Contains M.parts X → X.id ≢ T.id) (S : OnKey) (side : IsSide M T S) where
   -- of S, what has T's id is T
   named : (X : Part) → Contains S.parts X → X.id ≡ T.id → X ≡ T
   named X c e = elim (side.within X c) [ inl m ↦ absurd (absent X m e) | inr s ↦ s ]
 
-  other : (n : Installer) → IsInstaller (present_in ix) n → IsInstaller S n
+  other : (n : Installer) → IsInstaller M n → IsInstaller S n
   other n i = (i.0, side.above i.0 i.1, i.2)
 
   standing_dated : (d : Dated) → Contains ix.timeline d → IsInstaller S (installer d)
@@ -65,7 +65,7 @@ module _ (ix : Indexes) (is : AreIndexes ix) (T : Part) (absent : (X : Part) →
               let first = next.first (installer x) (standing_dated x c) (subst (λ b. IsAfter b x.0) (same_some e) tt) in
               let same : n.commit.0 ≡ d.0.0 = ap (λ y. y.0) commit in
               omega (arith, first, same)),
-          i ∙ sym side.initial,
+          i ∙ sym side.initial ∙ sym is.initial,
         )
         by (source.Installed u ca) i e =
             let w = i.0 in let Y = i.1 in let writer = i.3 in let committed = i.4 in let final = i.5 in
@@ -74,7 +74,7 @@ module _ (ix : Indexes) (is : AreIndexes ix) (T : Part) (absent : (X : Part) →
             let same : n.commit.0 ≡ d.0.0 = ap (λ y. y.0) commit in
             let last = (last_is_final S Y w side.history writer.part).1 final in
             let dated = version_to Y ca w committed last in
-            let in_m : Contains (present_in ix).parts Y = elim (side.within Y writer.part) [
+            let in_m : Contains M.parts Y = elim (side.within Y writer.part) [
               | inl m ↦ m
               | inr s ↦ absurd (
                   let t : status.Committed ca ≡ status.Committed d.0 = sym committed ∙ ap (λ (X : Part). X.status) s ∙ (version_from T d is_T).committed in
@@ -132,7 +132,7 @@ module _ (ix : Indexes) (is : AreIndexes ix) (T : Part) (absent : (X : Part) →
         by None near same = (
           version.Initial,
           installer d,
-          (source.Initial, same ∙ side.initial, refl),
+          (source.Initial, same ∙ is.initial ∙ side.initial, refl),
           record { installs = is_n; after = tt; first = first_after d e version.Initial (λ x c after. near x c) },
           (version_from T d e).writer,
           late,

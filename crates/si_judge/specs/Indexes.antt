@@ -93,16 +93,13 @@ version_of T = version_with T (commit_of T.status) (last_write T.accesses)
 abbrev pub IsIndexOf : {K V : Type 0} → (Part → List (K × V)) → List Part → (K → Option V) → Type 0
 IsIndexOf {K} {V} f parts at = (k : K) (v : V) → (at k ≡ Some v) ↔ ((T : Part) × Contains parts T × Contains (f T) (k, v))
 
--- what is on the key
-abbrev pub present_in : Indexes → OnKey
-present_in ix = record { initial = ix.initial; parts = ix.parts }
-
 -- the indexes are those of what is on the key, which is of a history
-pub record AreIndexes (ix : Indexes) : Type 0 where
-  pub history : IsOfHistory (present_in ix)
-  pub timeline : (d : Dated) → Contains ix.timeline d ↔ ((T : Part) × Contains (present_in ix).parts T × (version_of T ≡ Some d))
-  pub writes : IsIndexOf writes_of (present_in ix).parts (at_value ix.writes)
-  pub readers : IsIndexOf reads_in (present_in ix).parts (own_at ix.readers)
+pub record AreIndexes (M : OnKey) (ix : Indexes) : Type 0 where
+  pub history : IsOfHistory M
+  pub initial : ix.initial ≡ M.initial
+  pub timeline : (d : Dated) → Contains ix.timeline d ↔ ((T : Part) × Contains M.parts T × (version_of T ≡ Some d))
+  pub writes : IsIndexOf writes_of M.parts (at_value ix.writes)
+  pub readers : IsIndexOf reads_in M.parts (own_at ix.readers)
   pub ordered : AreInOrder ix.readers
 
 -- R has T besides what M has, which has no other transaction of that id

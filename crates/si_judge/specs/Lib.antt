@@ -2,6 +2,7 @@ pub mod Following
 pub mod Held
 pub mod Indexes
 pub mod Judges
+pub mod Kept
 pub mod Maps
 pub mod Mending
 pub mod Readers

@@ -21,7 +21,7 @@ use Rattle.si_judge.specs.declared.reads.Reader.{Reader}
 use Rattle.si_judge.specs.declared.indexes.Indexes.{Indexes}
 use Rattle.si_judge.specs.declared.judgements.ReadId.{ReadId}
 use Rattle.si_judge.specs.declared.judgements.Judgements.{Judgements}
-use Rattle.si_judge.specs.Indexes.{AreTouchedReads, present_in, reads_in, version_of, writes_of}
+use Rattle.si_judge.specs.Indexes.{AreTouchedReads, reads_in, version_of, writes_of}
 use Rattle.si_judge.specs.Sights.{sight_in}
 use Rattle.si_judge.specs.Judges.{one_more}
 
@@ -66,8 +66,8 @@ abbrev pub ArePairKinds : Rules → OnKey → (Stamp → Option Kind) → Type 0
 ArePairKinds J Q at = (c : Stamp) (k : Kind) → (at c ≡ Some k) ↔ IsPairKind J Q c k
 
 -- these reads were judged, in turn
-abbrev pub AreReadsJudged : Rules → Indexes → List (Reader × Option Value) → (ReadId → Option Kind) → (ReadId → Option Kind) → Type 0
-AreReadsJudged J ix reads old new = (o : ReadId) → new o ≡ fold (λ f p. update (eq_by_cmp read_cmp) f (id_of p) (J.read (sight_in ix p))) old reads o
+abbrev pub AreReadsJudged : Rules → OnKey → Indexes → List (Reader × Option Value) → (ReadId → Option Kind) → (ReadId → Option Kind) → Type 0
+AreReadsJudged J M ix reads old new = (o : ReadId) → new o ≡ fold (λ f p. update (eq_by_cmp read_cmp) f (id_of p) (J.read (sight_in M ix p))) old reads o
 
 -- these reads were forgotten, in turn
 abbrev pub AreForgotten : List (Reader × Option Value) → (ReadId → Option Kind) → (ReadId → Option Kind) → Type 0
@@ -89,20 +89,20 @@ IsPairJudgedOf J Q None old new = (c : Stamp) → new c ≡ old c
 IsPairJudgedOf J Q (Some d) old new = IsPairJudged J Q (installer d) old new
 
 -- the version that was installed last before the stamp was judged with the next one, if there is one
-abbrev pub IsPairJudgedBefore : Rules → Indexes → Stamp → (Stamp → Option Kind) → (Stamp → Option Kind) → Type 0
-IsPairJudgedBefore J ix c old new = (o : Option Dated) × IsNearestBefore ix.timeline c o × IsPairJudgedOf J (present_in ix) o old new
+abbrev pub IsPairJudgedBefore : Rules → OnKey → Indexes → Stamp → (Stamp → Option Kind) → (Stamp → Option Kind) → Type 0
+IsPairJudgedBefore J M ix c old new = (o : Option Dated) × IsNearestBefore ix.timeline c o × IsPairJudgedOf J M o old new
 
 -- the version was judged with the one before it and with the one after it, if there is a version
-abbrev pub IsVersionJudged : Rules → Indexes → Option Dated → (Stamp → Option Kind) → (Stamp → Option Kind) → Type 0
-IsVersionJudged J ix None old new = (c : Stamp) → new c ≡ old c
-IsVersionJudged J ix (Some d) old new = (middle : Stamp → Option Kind) × IsPairJudgedBefore J ix d.0 old middle
-    × IsPairJudged J (present_in ix) (installer d) middle new
+abbrev pub IsVersionJudged : Rules → OnKey → Indexes → Option Dated → (Stamp → Option Kind) → (Stamp → Option Kind) → Type 0
+IsVersionJudged J M ix None old new = (c : Stamp) → new c ≡ old c
+IsVersionJudged J M ix (Some d) old new = (middle : Stamp → Option Kind) × IsPairJudgedBefore J M ix d.0 old middle
+    × IsPairJudged J M (installer d) middle new
 
 -- the version was forgotten, and the one before it judged with the one after it, if there is a version
-abbrev pub IsVersionForgotten : Rules → Indexes → Option Dated → (Stamp → Option Kind) → (Stamp → Option Kind) → Type 0
-IsVersionForgotten J ix None old new = (c : Stamp) → new c ≡ old c
-IsVersionForgotten J ix (Some d) old new = (middle : Stamp → Option Kind) × ((c : Stamp) → middle c ≡ with_kind old d.0 None c)
-    × IsPairJudgedBefore J ix d.0 middle new
+abbrev pub IsVersionForgotten : Rules → OnKey → Indexes → Option Dated → (Stamp → Option Kind) → (Stamp → Option Kind) → Type 0
+IsVersionForgotten J M ix None old new = (c : Stamp) → new c ≡ old c
+IsVersionForgotten J M ix (Some d) old new = (middle : Stamp → Option Kind) × ((c : Stamp) → middle c ≡ with_kind old d.0 None c)
+    × IsPairJudgedBefore J M ix d.0 middle new
 
 -- a count rose by so many answers at most
 abbrev pub RisesBy : ℕ → ℕ → ℕ → Type 0
@@ -114,24 +114,30 @@ pub record Found : Type 0 where
   pub overlaps : Stamp → Option Kind
   pub answers : ℕ
 
--- T came to what the indexes held before: the reads that it touches were judged, its own, and its version
-pub record IsJudgedWith (J : Rules) (T : Part) (before after : Indexes) (old new : Found) : Type 0 where
+-- all that a judge found is right
+pub record IsRight (J : Rules) (Q : OnKey) (m : Found) : Type 0 where
+  pub reads : AreReadKinds J Q m.reads
+  pub overlaps : ArePairKinds J Q m.overlaps
+
+-- T came to what the indexes held before, and R is on the key: the reads that it touches were judged, its own, and its version
+pub record IsJudgedWith (J : Rules) (T : Part) (R : OnKey) (before after : Indexes) (old new : Found) : Type 0 where
   pub others : List (Reader × Option Value)
   pub touched : AreTouchedReads before T (writes_of T) others
   pub middle : ReadId → Option Kind
-  pub others_judged : AreReadsJudged J after others old.reads middle
-  pub own_judged : AreReadsJudged J after (reads_in T) middle new.reads
-  pub version : IsVersionJudged J after (version_of T) old.overlaps new.overlaps
+  pub others_judged : AreReadsJudged J R after others old.reads middle
+  pub own_judged : AreReadsJudged J R after (reads_in T) middle new.reads
+  pub version : IsVersionJudged J R after (version_of T) old.overlaps new.overlaps
   pub counted : RisesBy (length others + length (reads_in T) + 2) old.answers new.answers
 
--- T went, and the indexes are without it: the reads that it touched were judged, its own were forgotten, and its version
-pub record IsJudgedWithout (J : Rules) (T : Part) (after : Indexes) (old new : Found) : Type 0 where
+-- T went from a key on which R is left, and the indexes are without it: the reads that it touched were judged, its own were
+-- forgotten, and its version
+pub record IsJudgedWithout (J : Rules) (T : Part) (R : OnKey) (after : Indexes) (old new : Found) : Type 0 where
   pub others : List (Reader × Option Value)
   pub touched : AreTouchedReads after T (writes_of T) others
   pub middle : ReadId → Option Kind
   pub own_forgotten : AreForgotten (reads_in T) old.reads middle
-  pub others_judged : AreReadsJudged J after others middle new.reads
-  pub version : IsVersionForgotten J after (version_of T) old.overlaps new.overlaps
+  pub others_judged : AreReadsJudged J R after others middle new.reads
+  pub version : IsVersionForgotten J R after (version_of T) old.overlaps new.overlaps
   pub counted : RisesBy (length others + 2) old.answers new.answers
 
 -- what a judge that is counted so found on a key

@@ -9,6 +9,7 @@ use Rattle.si_model.specs.declared.sights.VersionId.TheVariants as version
 use Rattle.si_model.specs.declared.sights.Source.{Source}
 use Rattle.si_model.specs.declared.sights.Source.TheVariants as source
 use Rattle.si_model.specs.declared.sights.Sight.{Sight}
+use Rattle.si_model.specs.declared.parts.OnKey.{OnKey}
 use Rattle.si_model.specs.Operations.{same_value}
 use Rattle.si_model.specs.Edits.{same_id}
 use Rattle.si_model.specs.Reads.{missed_of, version_of}
@@ -17,7 +18,6 @@ use Rattle.si_judge.specs.declared.reads.Fate.TheVariants as fate
 use Rattle.si_judge.specs.declared.reads.Reader.{Reader}
 use Rattle.si_judge.specs.declared.reads.Write.{Write}
 use Rattle.si_judge.specs.declared.indexes.Indexes.{Indexes}
-use Rattle.si_judge.specs.Indexes.{present_in}
 use Rattle.si_judge.specs.Spread.{at_value}
 
 -- the stamp after which the versions are that come after this one
@@ -51,9 +51,9 @@ abbrev pub is_later_write : Reader → Option Write → Bool
 is_later_write r None = false
 is_later_write r (Some w) = same_id w.txn r.txn && nat_lt r.place w.place
 
--- all that is seen at a read
-abbrev pub sight_in : Indexes → Reader × Option Value → Sight
-sight_in ix p = record {
+-- all that is seen at a read of a key on which M is
+abbrev pub sight_in : OnKey → Indexes → Reader × Option Value → Sight
+sight_in M ix p = record {
   txn = p.0.txn;
   op = p.0.place;
   start = p.0.start;
@@ -61,5 +61,5 @@ sight_in ix p = record {
   own = p.1;
   later = is_later_write p.0 (write_in ix p.0.value);
   source = source_in ix p.0.value (write_in ix p.0.value);
-  missed = missed_of (present_in ix).parts p.0.start (version_of (source_in ix p.0.value (write_in ix p.0.value)));
+  missed = missed_of M.parts p.0.start (version_of (source_in ix p.0.value (write_in ix p.0.value)));
 }

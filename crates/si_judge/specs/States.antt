@@ -9,6 +9,7 @@ use Rattle.si_model.specs.History.{IsOfHistory}
 use Rattle.si_model.specs.Laws.{HaveSame}
 use Rattle.si_judge.specs.declared.states.KeyFault.{KeyFault}
 use Rattle.si_judge.specs.declared.states.KeyFault.TheVariants as fault
+use Rattle.si_judge.specs.Kept.{Kept}
 use Rattle.si_judge.specs.Touched.{IsBoundedBy}
 use Rattle.si_judge.specs.Mending.{risen}
 
@@ -21,6 +22,10 @@ pub record State : Type 0 where
   pub judged : ℕ
   -- whether an edit of it wanted memory
   pub spoiled : Bool
+
+-- what is on the key, whose transactions these are
+abbrev pub present_of : Kept → List Part → OnKey
+present_of s parts = record { initial = s.indexes.initial; parts = parts }
 
 -- the same is on a key, in whatever order
 pub record AreSameOnKey (Q R : OnKey) : Type 0 where

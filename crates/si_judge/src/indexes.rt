@@ -1,31 +1,30 @@
 //! What is on a key, found without a walk over it.
 
-ghost use Rattle.std.specs.Prelude.{◌≡◌, ◌++◌, [], None, Some, Option, IfOk, OnOk};
+ghost use Rattle.std.specs.Prelude.{◌≡◌, ◌↔◌, ◌++◌, [], None, Some, Option, IfOk, IsTrue, OnOk};
 ghost use Rattle.std.specs.List.{Contains, filter};
-ghost use Rattle.si_model.specs.declared.parts.Part.{Part};
+ghost use Rattle.si_model.specs.declared.parts.OnKey.{OnKey};
+ghost use Rattle.si_model.specs.History.{IsOfHistory};
 ghost use Rattle.si_model.specs.Versions.{next_after};
 ghost use Rattle.si_model.specs.Reads.{missed_of};
 ghost use Rattle.si_model.specs.Reads.{version_of as version_read};
-ghost use Rattle.si_judge.specs.Indexes.{AddsVersion, AreIndexes, Fits, HasVersion, IsValueBefore, Joins, LacksVersion, RemovesVersion, readers_in, present_in, reads_in, version_of, writes_of};
+ghost use Rattle.si_judge.specs.Indexes.{AddsVersion, AreIndexes, Fits, HasVersion, IsValueBefore, Joins, LacksVersion, RemovesVersion, readers_in, reads_in, version_of, writes_of};
 ghost use Rattle.si_judge.specs.Sights.{is_later_write, sight_in, source_in, stamp_of, write_in};
 ghost use Rattle.si_judge.specs.Mending.{installer};
 
 use crate::maps::{insert_writes, remove_writes};
-use crate::parts::Parts;
 use crate::readers::Readers;
 use crate::reads::{OwnRead, Reader, Write, reads_in, version_of, writes_of};
 use si_model::reads::{if_before, version_of as version_read};
-use si_model::{Installer, OutOfMemory, Part, Sight, Source, Stamp, TxnId, Value, VersionId};
+use si_model::{Installer, OutOfMemory, Part, Sight, Source, Stamp, Value, VersionId};
 use si_sorted::SortedMap;
 use si_timeline::{Timeline, Version};
 use std::alloc::Global;
 
-/// What is on a key: the transactions by their ids, and what is looked for in them.
+/// What is looked for on a key, but for the transactions there.
 #[derive(Drop)]
 pub struct Indexes {
     /// What the initial version returns.
     pub initial: Option<Value>,
-    pub parts: Parts,
     /// The installed versions.
     pub timeline: Timeline,
     /// The writes of all transactions, by their values.
@@ -34,22 +33,22 @@ pub struct Indexes {
     pub readers: Readers,
 }
 
-/// A transaction that was taken out, with its reads and writes.
+/// The reads and writes of a transaction that was taken out.
 #[derive(Drop)]
 pub struct TakenOut {
-    pub part: Part,
     pub reads: Vec<OwnRead>,
     pub writes: Vec<(Value, Write)>,
 }
 
 impl Indexes {
     pub fn new(alloc: Global) -> Self
-        ensures indexes { AreIndexes result }
-        ensures none { present_in result ≡ record { initial = None; parts = [] } }
+        ensures initial { result.initial ≡ None }
+        ensures timeline { result.timeline ≡ [] }
+        ensures writes { result.writes ≡ [] }
+        ensures readers { result.readers ≡ [] }
     {
         Indexes {
             initial: None,
-            parts: Parts::new(alloc),
             timeline: Timeline::new(alloc),
             writes: SortedMap::new(alloc),
             readers: Readers::new(alloc),
@@ -59,46 +58,41 @@ impl Indexes {
     /// Puts a transaction in, whose reads and writes these are.
     pub fn put_in(
         &mut self,
-        alloc: Global,
-        part: Part,
+        part: &Part,
         reads: &[OwnRead],
         writes: &[(Value, Write)],
     ) -> Result<(), OutOfMemory>
-        requires indexes { AreIndexes self.old }
-        requires fits { Fits part (present_in self.old) }
-        requires reads { reads.now ≡ reads_in part }
-        requires writes { writes.now ≡ writes_of part }
-        ensures indexes { OnOk result (AreIndexes self.new) }
-        ensures joined { OnOk result (Joins part (present_in self.old) (present_in self.new)) }
+        requires fits { (M : OnKey) × AreIndexes M self.old × Fits part.now M }
+        requires reads { reads.now ≡ reads_in part.now }
+        requires writes { writes.now ≡ writes_of part.now }
+        ensures { OnOk result ((M R : OnKey) → AreIndexes M self.old → Joins part.now M R → IsOfHistory R → AreIndexes R self.new) }
     {
         insert_writes(&mut self.writes, writes)?;
         self.readers.insert_all(reads)?;
-        add_version(&mut self.timeline, &part)?;
-        self.parts.insert(alloc, part)?;
+        add_version(&mut self.timeline, part)?;
         Ok(())
     }
 
-    /// Takes the transaction of that id out.
-    pub fn take_out(&mut self, alloc: Global, id: TxnId) -> Result<TakenOut, OutOfMemory>
-        requires indexes { AreIndexes self.old }
-        requires there { (T : Part) × Contains (present_in self.old).parts T × (T.id ≡ id) }
-        ensures indexes { OnOk result (AreIndexes self.new) }
-        ensures joined { IfOk result (λ taken. Joins taken.part (present_in self.new) (present_in self.old)) }
-        ensures reads { IfOk result (λ taken. taken.reads.items ≡ reads_in taken.part) }
-        ensures writes { IfOk result (λ taken. taken.writes.items ≡ writes_of taken.part) }
-        ensures id { IfOk result (λ taken. taken.part.id ≡ id) }
+    /// Takes a transaction out that is in.
+    pub fn take_out(&mut self, alloc: Global, part: &Part) -> Result<TakenOut, OutOfMemory>
+        requires { (M : OnKey) × AreIndexes M self.old × Contains M.parts part.now }
+        ensures indexes { OnOk result ((M R : OnKey) → AreIndexes M self.old → Joins part.now R M → IsOfHistory R → AreIndexes R self.new) }
+        ensures reads { IfOk result (λ taken. taken.reads.items ≡ reads_in part.now) }
+        ensures writes { IfOk result (λ taken. taken.writes.items ≡ writes_of part.now) }
     {
-        let part = self.parts.remove(alloc, id)?;
-        let reads = reads_in(alloc, &part)?;
-        let writes = writes_of(alloc, &part)?;
+        let reads = reads_in(alloc, part)?;
+        let writes = writes_of(alloc, part)?;
         remove_writes(&mut self.writes, writes.as_slice());
         self.readers.remove_all(reads.as_slice());
-        remove_version(&mut self.timeline, &part);
-        Ok(TakenOut {
-            part,
-            reads,
-            writes,
-        })
+        remove_version(&mut self.timeline, part);
+        Ok(TakenOut { reads, writes })
+    }
+
+    /// Whether nothing is looked for on the key.
+    pub fn is_empty(&self) -> bool
+        ensures { IsTrue result ↔ ((self.now.initial ≡ None) × (self.now.writes ≡ []) × (self.now.readers ≡ [])) }
+    {
+        self.initial == None && self.writes.is_empty() && self.readers.is_empty()
     }
 
     /// Adds the reads that returned the value, by readers that started after the stamp, if there is one.
@@ -125,8 +119,7 @@ impl Indexes {
 
     /// The installer of the version next after that one.
     pub fn next_after(&self, after: VersionId) -> Option<Installer>
-        requires { AreIndexes self.now }
-        ensures { result ≡ next_after (present_in self.now).parts after }
+        ensures { (M : OnKey) → AreIndexes M self.now → result ≡ next_after M.parts after }
     {
         match self.timeline.after(stamp_of(after)) {
             Some((commit, version)) => Some(installer(commit, version)),
@@ -136,8 +129,7 @@ impl Indexes {
 
     /// All that is seen at a read.
     pub fn sight_of(&self, read: OwnRead) -> Sight
-        requires { AreIndexes self.now }
-        ensures { result ≡ sight_in self.now read }
+        ensures { (M : OnKey) → AreIndexes M self.now → result ≡ sight_in M self.now read }
     {
         let (reader, own) = read;
         let write = self.write_of(reader.value);
@@ -174,8 +166,7 @@ impl Indexes {
     }
 
     fn missed_at(&self, start: Stamp, source: Source) -> Option<Installer>
-        requires { AreIndexes self.now }
-        ensures { result ≡ missed_of (present_in self.now).parts start (version_read source) }
+        ensures { (M : OnKey) → AreIndexes M self.now → result ≡ missed_of M.parts start (version_read source) }
     {
         let read = version_read(source)?;
         if_before(start, self.next_after(read))

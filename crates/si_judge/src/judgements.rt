@@ -3,8 +3,9 @@
 ghost use Rattle.std.specs.Prelude.{◌≡◌, ◌+◌, ◌≤◌, None, Option, IfSome, OnOk, length};
 ghost use Rattle.std.specs.List.{Contains};
 ghost use Rattle.std.specs.BTreeMap.{get};
+ghost use Rattle.si_model.specs.declared.parts.OnKey.{OnKey};
 ghost use Rattle.si_model.specs.Findings.{overlap_with};
-ghost use Rattle.si_judge.specs.Indexes.{AreIndexes, present_in};
+ghost use Rattle.si_judge.specs.Indexes.{AreIndexes};
 ghost use Rattle.si_judge.specs.Mending.{AreForgotten, RisesBy, IsVersionForgotten, IsVersionJudged, AreReadsJudged, IsPairJudged, IsPairJudgedBefore, id_of, read_cmp, risen, stamp_cmp, with_kind};
 
 use crate::Judge;
@@ -48,8 +49,8 @@ impl<J: Judge + Drop> Judgements<J> {
 
     /// Judges these reads.
     pub fn judge_reads(&mut self, indexes: &Indexes, reads: &[OwnRead]) -> Result<(), OutOfMemory>
-        requires indexes { AreIndexes indexes.now }
-        ensures reads { OnOk result (AreReadsJudged J.rules indexes.now reads.now (get read_cmp self.old.reads) (get read_cmp self.new.reads)) }
+        ensures reads { OnOk result ((M : OnKey) → AreIndexes M indexes.now
+            → AreReadsJudged J.rules M indexes.now reads.now (get read_cmp self.old.reads) (get read_cmp self.new.reads)) }
         ensures overlaps { OnOk result (self.new.overlaps ≡ self.old.overlaps) }
         ensures counted { OnOk result (J.answers self.new.judge ≡ risen (J.answers self.old.judge) (length reads.now)) }
     {
@@ -73,9 +74,8 @@ impl<J: Judge + Drop> Judgements<J> {
 
     /// Judges a version with the one next after it.
     pub fn judge_pair(&mut self, indexes: &Indexes, first: Installer) -> Result<(), OutOfMemory>
-        requires { AreIndexes indexes.now }
-        ensures overlaps { OnOk result
-            (IsPairJudged J.rules (present_in indexes.now) first (get stamp_cmp self.old.overlaps) (get stamp_cmp self.new.overlaps)) }
+        ensures overlaps { OnOk result ((M : OnKey) → AreIndexes M indexes.now
+            → IsPairJudged J.rules M first (get stamp_cmp self.old.overlaps) (get stamp_cmp self.new.overlaps)) }
         ensures reads { OnOk result (self.new.reads ≡ self.old.reads) }
         ensures counted { OnOk result (RisesBy 1 (J.answers self.old.judge) (J.answers self.new.judge)) }
     {
@@ -102,8 +102,8 @@ impl<J: Judge + Drop> Judgements<J> {
 
     /// Judges the version that was installed last before the stamp with the one next after it.
     pub fn judge_pair_before(&mut self, indexes: &Indexes, stamp: Stamp) -> Result<(), OutOfMemory>
-        requires { AreIndexes indexes.now }
-        ensures overlaps { OnOk result (IsPairJudgedBefore J.rules indexes.now stamp (get stamp_cmp self.old.overlaps) (get stamp_cmp self.new.overlaps)) }
+        ensures overlaps { OnOk result ((M : OnKey) → AreIndexes M indexes.now
+            → IsPairJudgedBefore J.rules M indexes.now stamp (get stamp_cmp self.old.overlaps) (get stamp_cmp self.new.overlaps)) }
         ensures reads { OnOk result (self.new.reads ≡ self.old.reads) }
         ensures counted { OnOk result (RisesBy 1 (J.answers self.old.judge) (J.answers self.new.judge)) }
     {
@@ -128,9 +128,9 @@ impl<J: Judge + Drop> Judgements<J> {
         indexes: &Indexes,
         version: Option<(Stamp, Version)>,
     ) -> Result<(), OutOfMemory>
-        requires indexes { AreIndexes indexes.now }
-        requires stands { IfSome version (Contains indexes.now.timeline) }
-        ensures overlaps { OnOk result (IsVersionJudged J.rules indexes.now version (get stamp_cmp self.old.overlaps) (get stamp_cmp self.new.overlaps)) }
+        requires { IfSome version (Contains indexes.now.timeline) }
+        ensures overlaps { OnOk result ((M : OnKey) → AreIndexes M indexes.now
+            → IsVersionJudged J.rules M indexes.now version (get stamp_cmp self.old.overlaps) (get stamp_cmp self.new.overlaps)) }
         ensures reads { OnOk result (self.new.reads ≡ self.old.reads) }
         ensures counted { OnOk result (RisesBy 2 (J.answers self.old.judge) (J.answers self.new.judge)) }
     {
@@ -148,9 +148,9 @@ impl<J: Judge + Drop> Judgements<J> {
         commit: Stamp,
         version: Version,
     ) -> Result<(), OutOfMemory>
-        requires indexes { AreIndexes indexes.now }
-        requires stands { Contains indexes.now.timeline (commit, version) }
-        ensures overlaps { OnOk result (IsPairJudgedBefore J.rules indexes.now commit (get stamp_cmp self.old.overlaps) (get stamp_cmp self.new.overlaps)) }
+        requires { Contains indexes.now.timeline (commit, version) }
+        ensures overlaps { OnOk result ((M : OnKey) → AreIndexes M indexes.now
+            → IsPairJudgedBefore J.rules M indexes.now commit (get stamp_cmp self.old.overlaps) (get stamp_cmp self.new.overlaps)) }
         ensures reads { OnOk result (self.new.reads ≡ self.old.reads) }
         ensures counted { OnOk result (RisesBy 1 (J.answers self.old.judge) (J.answers self.new.judge)) }
     {
@@ -167,8 +167,8 @@ impl<J: Judge + Drop> Judgements<J> {
         indexes: &Indexes,
         version: Option<(Stamp, Version)>,
     ) -> Result<(), OutOfMemory>
-        requires { AreIndexes indexes.now }
-        ensures overlaps { OnOk result (IsVersionForgotten J.rules indexes.now version (get stamp_cmp self.old.overlaps) (get stamp_cmp self.new.overlaps)) }
+        ensures overlaps { OnOk result ((M : OnKey) → AreIndexes M indexes.now
+            → IsVersionForgotten J.rules M indexes.now version (get stamp_cmp self.old.overlaps) (get stamp_cmp self.new.overlaps)) }
         ensures reads { OnOk result (self.new.reads ≡ self.old.reads) }
         ensures counted { OnOk result (RisesBy 2 (J.answers self.old.judge) (J.answers self.new.judge)) }
     {

@@ -8,6 +8,7 @@ mod held;
 mod indexes;
 mod judgements;
 pub mod judges;
+pub mod key_findings;
 pub mod laws;
 mod maps;
 mod parts;
@@ -17,4 +18,5 @@ mod spread;
 pub mod states;
 
 pub use judges::{Cases, Judge};
+pub use key_findings::KeyFindings;
 pub use states::{KeyFault, KeyState};

@@ -1,6 +1,6 @@
 //! The reads of a key's committed transactions, found by what they returned.
 
-ghost use Rattle.std.specs.Prelude.{◌≡◌, ◌++◌, None, OnOk, Some};
+ghost use Rattle.std.specs.Prelude.{◌≡◌, ◌↔◌, ◌++◌, None, IsTrue, OnOk, Some};
 ghost use Rattle.std.specs.Ordering.{eq_by_cmp};
 ghost use Rattle.si_judge.specs.Maps.{AreInserted, AreTakenOut};
 ghost use Rattle.si_judge.specs.Readers.{AreInOrder, SetsOwn, beyond, is_later, is_reader_of, least_reader, own_at, reader_cmp, readers_among};
@@ -57,6 +57,13 @@ impl Readers {
         Readers {
             all: SortedMap::new(alloc),
         }
+    }
+
+    /// Whether there is none.
+    pub fn is_empty(&self) -> bool
+        ensures { IsTrue result ↔ (self.now ≡ []) }
+    {
+        self.all.is_empty()
     }
 
     /// Puts the reads in.

@@ -1,28 +1,19 @@
-ghost use Rattle.std.specs.Prelude.{◌≡◌, ◌↔◌, ◌++◌, List, [], None, Some, Option, Err, false, true, IfErr, IfOk, IsTrue, OnErr, OnOk, map};
+ghost use Rattle.std.specs.Prelude.{◌≡◌, ◌↔◌, List, [], None, Option, Err, false, true, IfErr, IfOk, IsTrue, OnErr, OnOk};
 ghost use Rattle.std.specs.List.{Contains};
 ghost use Rattle.si_model.specs.declared.parts.OnKey.{OnKey};
-ghost use Rattle.si_model.specs.declared.parts.Part.{Part};
 ghost use Rattle.si_model.specs.declared.findings.Finding.{Finding};
-ghost use Rattle.std.specs.BTreeMap.{IsOrdered, values};
-ghost use Rattle.si_model.specs.Findings.{finding_at, findings_on};
+ghost use Rattle.si_model.specs.Findings.{findings_on};
 ghost use Rattle.si_model.specs.History.{IsOfHistory};
 ghost use Rattle.si_model.specs.KeyEdits.{arrived_on, resolved_on, set_up_on, withdrawn_on};
-ghost use Rattle.si_model.specs.Versions.{Writes};
 ghost use Rattle.si_judge.specs.declared.states.KeyFault.TheVariants as fault;
 ghost use Rattle.si_judge.specs.Touched.{IsTouched, IsTouchedBySetUp};
 ghost use Rattle.si_judge.specs.States.{HasDoubt, HasPart, IsMended, IsSpoiledBy, key_fault_code};
-ghost use Rattle.si_judge.specs.declared.reads.Reader.{Reader};
-ghost use Rattle.si_judge.specs.Indexes.{AreIndexes, AreReadsBefore, AreTouchedReads, Fits, Joins, present_in, reads_in, version_of, writes_of};
-ghost use Rattle.si_judge.specs.Mending.{IsJudgedWith, IsJudgedWithout, found_by};
 
 use crate::Judge;
-use crate::indexes::{Indexes, TakenOut};
-use crate::judgements::Judgements;
-use crate::reads::{OwnRead, Write, reads_in, version_of, writes_of};
-use si_model::sorting::put_in_order;
-use si_model::{Finding, Key, Kind, OutOfMemory, Outcome, Part, TxnId, Value};
+use crate::key_findings::KeyFindings;
+use crate::parts::Parts;
+use si_model::{Finding, Key, Outcome, Part, TxnId, Value};
 use std::alloc::{AllocError, AllocFailed, Global};
-use std::collections::BTreeMap;
 use std::marker::Model;
 use thiserror::Error;
 
@@ -78,32 +69,27 @@ impl<T: Drop> From<AllocFailed<T>> for KeyFault {
 #[derive(Drop)]
 pub struct KeyState<J: Judge + Drop> {
     alloc: Global,
-    key: Key,
-    indexes: Indexes,
-    judgements: Judgements<J>,
+    findings: KeyFindings<J>,
+    parts: Parts,
     // True from the beginning of an edit until it is whole, and so for good once an edit wanted memory.
     spoiled: bool,
 }
 
 impl<J: Judge + Drop> Model for KeyState<J> {
     ghost use Rattle.std.specs.Prelude.{◌≡◌, false};
-    ghost use Rattle.std.specs.BTreeMap.{get};
-    ghost use Rattle.si_judge.specs.Indexes.{AreIndexes, present_in};
-    ghost use Rattle.si_judge.specs.Mending.{AreReadKinds, ArePairKinds, read_cmp, stamp_cmp};
-    ghost use Rattle.si_judge.specs.States.{State};
+    ghost use Rattle.si_judge.specs.Kept.{Shows};
+    ghost use Rattle.si_judge.specs.States.{State, present_of};
 
     ghost Value = { State };
 
     ghost view = { λ s. record {
-      key = s.key;
-      present = present_in s.indexes;
-      judged = J.answers s.judgements.judge;
+      key = s.findings.key;
+      present = present_of s.findings s.parts;
+      judged = s.findings.judged;
       spoiled = s.spoiled;
     } };
 
-    ghost invariant = { λ s. s.spoiled ≡ false → AreIndexes s.indexes
-        × AreReadKinds J.rules (present_in s.indexes) (get read_cmp s.judgements.reads)
-        × ArePairKinds J.rules (present_in s.indexes) (get stamp_cmp s.judgements.overlaps) };
+    ghost invariant = { λ s. s.spoiled ≡ false → Shows J.rules (present_of s.findings s.parts) s.findings };
 }
 
 impl<J: Judge + Drop> KeyState<J> {
@@ -118,9 +104,8 @@ impl<J: Judge + Drop> KeyState<J> {
     {
         KeyState {
             alloc,
-            key,
-            indexes: Indexes::new(alloc),
-            judgements: Judgements::new(alloc, judge),
+            findings: KeyFindings::new(alloc, key, judge),
+            parts: Parts::new(alloc),
             spoiled: false,
         }
     }
@@ -140,7 +125,8 @@ impl<J: Judge + Drop> KeyState<J> {
             return Err(KeyFault::Spoiled);
         }
         self.spoiled = true;
-        add(self.alloc, &mut self.indexes, &mut self.judgements, part)?;
+        self.findings.arrive(&part)?;
+        self.parts.insert(self.alloc, part)?;
         self.spoiled = false;
         Ok(())
     }
@@ -160,14 +146,9 @@ impl<J: Judge + Drop> KeyState<J> {
             return Err(KeyFault::Spoiled);
         }
         self.spoiled = true;
-        let mut taken = self.indexes.take_out(self.alloc, id)?;
-        taken.part.status = outcome.status();
-        add(
-            self.alloc,
-            &mut self.indexes,
-            &mut self.judgements,
-            taken.part,
-        )?;
+        let mut part = self.parts.remove(self.alloc, id)?;
+        self.findings.resolve(&mut part, outcome)?;
+        self.parts.insert(self.alloc, part)?;
         self.spoiled = false;
         Ok(())
     }
@@ -187,8 +168,8 @@ impl<J: Judge + Drop> KeyState<J> {
             return Err(KeyFault::Spoiled);
         }
         self.spoiled = true;
-        let taken = self.indexes.take_out(self.alloc, id)?;
-        drop_out(self.alloc, &self.indexes, &mut self.judgements, &taken)?;
+        let part = self.parts.remove(self.alloc, id)?;
+        self.findings.withdraw(&part)?;
         self.spoiled = false;
         Ok(())
     }
@@ -208,12 +189,7 @@ impl<J: Judge + Drop> KeyState<J> {
             return Err(KeyFault::Spoiled);
         }
         self.spoiled = true;
-        self.indexes.initial = Some(value);
-        let mut reads = Vec::new(self.alloc);
-        self.indexes.add_readers(&mut reads, None, None)?;
-        self.indexes.add_readers(&mut reads, Some(value), None)?;
-        self.judgements
-            .judge_reads(&self.indexes, reads.as_slice())?;
+        self.findings.set_up(value)?;
         self.spoiled = false;
         Ok(())
     }
@@ -229,18 +205,14 @@ impl<J: Judge + Drop> KeyState<J> {
         if self.spoiled {
             return Err(KeyFault::Spoiled);
         }
-        let mut found = Vec::new(self.alloc);
-        add_findings(&mut found, &self.key, &self.judgements.reads)?;
-        add_findings(&mut found, &self.key, &self.judgements.overlaps)?;
-        put_in_order(&mut found);
-        Ok(found)
+        self.findings.findings()
     }
 
     /// How many answers the judge has given, in this state's time and before it.
     pub fn judged(&self) -> u64
         ensures { result ≡ self.now.judged }
     {
-        self.judgements.judge.calls()
+        self.findings.judged()
     }
 
     /// Whether an edit wanted memory. It stays so for good.
@@ -254,112 +226,13 @@ impl<J: Judge + Drop> KeyState<J> {
     pub fn is_empty(&self) -> bool
         ensures { IsTrue result ↔ ((self.now.present.parts ≡ []) × (self.now.present.initial ≡ None)) }
     {
-        self.indexes.parts.is_empty() && self.indexes.initial == None
+        self.parts.is_empty() && self.findings.initial() == None
     }
 
     /// Whether anything is found on the key. It means nothing of a spoiled state.
     pub fn has_findings(&self) -> bool
         ensures { self.now.spoiled ≡ false → IsTrue result ↔ ((f : Finding) × Contains (findings_on J.rules self.now.key self.now.present) f) }
     {
-        let reads = self.judgements.reads.len();
-        let overlaps = self.judgements.overlaps.len();
-        reads + overlaps > 0
-    }
-}
-
-/// Adds what was found, as findings on the key.
-fn add_findings<K: Ord>(
-    found: &mut Vec<Finding>,
-    key: &Key,
-    kinds: &BTreeMap<K, Kind>,
-) -> Result<(), OutOfMemory>
-    ensures added { OnOk result (found.new.items ≡ found.old.items ++ map (finding_at key.now) (values kinds.now)) }
-    ensures ordered { IsOrdered K.cmp kinds.now }
-{
-    for kind in kinds.values() {
-        found.push(Finding {
-            key: key.try_clone()?,
-            kind: *kind,
-        })?;
-    }
-    Ok(())
-}
-
-/// Adds the transaction and judges what it touches.
-fn add<J: Judge + Drop>(
-    alloc: Global,
-    indexes: &mut Indexes,
-    judgements: &mut Judgements<J>,
-    part: Part,
-) -> Result<(), OutOfMemory>
-    requires indexes { AreIndexes indexes.old }
-    requires fits { Fits part (present_in indexes.old) }
-    ensures indexes { OnOk result (AreIndexes indexes.new) }
-    ensures joined { OnOk result (Joins part (present_in indexes.old) (present_in indexes.new)) }
-    ensures judged { OnOk result (IsJudgedWith J.rules part indexes.old indexes.new (found_by J.answers judgements.old) (found_by J.answers judgements.new)) }
-{
-    let reads = reads_in(alloc, &part)?;
-    let writes = writes_of(alloc, &part)?;
-    let others = touched(alloc, indexes, &part, writes.as_slice())?;
-    let version = version_of(&part);
-    indexes.put_in(alloc, part, reads.as_slice(), writes.as_slice())?;
-    judgements.judge_reads(indexes, others.as_slice())?;
-    judgements.judge_reads(indexes, reads.as_slice())?;
-    judgements.judge_version(indexes, version)?;
-    Ok(())
-}
-
-/// Judges what the transaction touched that was taken out.
-fn drop_out<J: Judge + Drop>(
-    alloc: Global,
-    indexes: &Indexes,
-    judgements: &mut Judgements<J>,
-    taken: &TakenOut,
-) -> Result<(), OutOfMemory>
-    requires indexes { AreIndexes indexes.now }
-    requires reads { taken.now.reads.items ≡ reads_in taken.now.part }
-    requires writes { taken.now.writes.items ≡ writes_of taken.now.part }
-    ensures { OnOk result (IsJudgedWithout J.rules taken.now.part indexes.now (found_by J.answers judgements.old) (found_by J.answers judgements.new)) }
-{
-    let others = touched(alloc, indexes, &taken.part, taken.writes.as_slice())?;
-    judgements.forget_reads(taken.reads.as_slice());
-    judgements.judge_reads(indexes, others.as_slice())?;
-    judgements.forget_version(indexes, version_of(&taken.part))?;
-    Ok(())
-}
-
-/// The reads of others that the transaction touches: those of what it writes, and those of the version before its own by
-/// readers that started after its commit.
-fn touched(
-    alloc: Global,
-    indexes: &Indexes,
-    part: &Part,
-    writes: &[(Value, Write)],
-) -> Result<Vec<OwnRead>, OutOfMemory>
-    ensures { IfOk result (λ reads. AreTouchedReads indexes.now part.now writes.now reads.items) }
-{
-    let mut reads = Vec::new(alloc);
-    for write in writes {
-        indexes.add_readers(&mut reads, Some(write.0), None)?;
-    }
-    add_readers_before(indexes, part, &mut reads)?;
-    Ok(reads)
-}
-
-/// Adds the reads of the version before the one that the transaction installs, by readers that started after its commit.
-fn add_readers_before(
-    indexes: &Indexes,
-    part: &Part,
-    reads: &mut Vec<OwnRead>,
-) -> Result<(), OutOfMemory>
-    ensures { OnOk result ((more : List (Reader × Option Value)) × AreReadsBefore indexes.now (version_of part.now) more
-        × (reads.new.items ≡ reads.old.items ++ more)) }
-{
-    match version_of(part) {
-        Some((commit, _)) => {
-            let before = indexes.value_before(commit);
-            indexes.add_readers(reads, before, Some(commit))
-        }
-        None => Ok(()),
+        self.findings.has_findings()
     }
 }

@@ -3,6 +3,7 @@ use Rattle.std.proofs.Common.{◌≡◌, ◌≤◌, ◌+◌, ◌∙◌, inl, inr
 use Rattle.std.specs.HashMap.{HashMap, get}
 use Rattle.std.proofs.lemmas.List.{length-append}
 use Rattle.si_lists.proofs.Members.{same_some}
+use Rattle.si_model.specs.declared.parts.OnKey.{OnKey}
 use Rattle.si_model.specs.declared.edits.Edit.{Edit}
 use Rattle.si_model.specs.declared.edits.Edit.TheVariants as edit
 use Rattle.si_model.specs.Operations.{same_key}
@@ -10,37 +11,46 @@ use Rattle.si_model.specs.Parts.{Present, accesses, on_key}
 use Rattle.si_model.specs.Edits.{IsAcceptable, after}
 use Rattle.si_model.specs.Journals.{IsAccepted, present}
 use Rattle.si_model.proofs.Acceptance.{accepted_push, present_push}
+use Rattle.si_judge.specs.Following.{empty_key}
 use Rattle.si_shard.specs.declared.shard_ids.ShardId.{ShardId}
 use Rattle.si_shard.specs.declared.applied.Applied.{Applied}
+use Rattle.si_shard.specs.declared.applied.Arrival.{Arrival}
 use Rattle.si_shard.specs.declared.changes.Change.{Change}
 use Rattle.si_shard.specs.declared.waiting.Waits.{Waits}
 use Rattle.si_shard.specs.ShardIds.{is_ours}
-use Rattle.si_shard.specs.Applied.{AreArrivals, IsChangeOn, SetsArrival, TouchesShard, change_by, ops_for}
+use Rattle.si_shard.specs.Applied.{AreArrivals, IsChangeOn, SetsArrival, TouchesShard, change_by, head_for, ops_for}
 use Rattle.si_shard.specs.Changes.{LeadsTo}
-use Rattle.si_shard.specs.Keyed.{AreStates, on}
+use Rattle.si_shard.specs.Keyed.{IsOn}
 use Rattle.si_shard.specs.Waiting.{AreGatheredTo, IsGathered, IsNothing, changes_in, waiting_at}
 use Rattle.si_shard.proofs.ArrivalPlaces.{after_arrival, after_resolution, after_set_up, after_withdrawal}
-use Rattle.si_shard.proofs.KeyChanges.{can_change, change_or_not, follows_change, of_history_on, stays}
-use Rattle.si_shard.proofs.Leading.{leads_also, leads_on}
+use Rattle.si_shard.proofs.KeyChanges.{can_change, change_or_not, follows_change, stays}
+use Rattle.si_shard.proofs.Leading.{leads_on}
+
+-- the arrivals after one more edit
+module _ (id : ShardId) (edits : List Edit) (e : Edit) (old : Applied) (arrivals : AreArrivals id edits (present edits).txns (get nat_eq old.arrivals)) (new : Applied) (touches : Bool)
+    (quiet : touches ≡ false → IsNothing id (ops_for (get nat_eq old.arrivals) edits e) (head_for (get nat_eq old.arrivals) edits e) e)
+    (sets : SetsArrival e touches (length edits) (get nat_eq old.arrivals) (get nat_eq new.arrivals)) where
+  arrivals_by : (f : Edit) → f ≡ e → (touches ≡ false → IsNothing id (ops_for (get nat_eq old.arrivals) edits f) (head_for (get nat_eq old.arrivals) edits f) f)
+      → SetsArrival f touches (length edits) (get nat_eq old.arrivals) (get nat_eq new.arrivals) → AreArrivals id (edits ++ f ∷ []) (after f (present edits)).txns (get nat_eq new.arrivals)
+  unfolding after
+  arrivals_by (edit.Arrive T) is quiet sets = after_arrival id edits (present edits).txns (get nat_eq old.arrivals) (get nat_eq new.arrivals) arrivals T touches (told touches refl) sets
+    where
+      told : (b : Bool) → touches ≡ b → TouchesShard id T → touches ≡ true
+      told true s t = s
+      told false s (x, a, ours, c) = absurd (quiet s x (change_by (head_for (get nat_eq old.arrivals) edits (edit.Arrive T)) (edit.Arrive T) (accesses x T.ops)) ours (a, c, refl))
+  arrivals_by (edit.Resolve u o) is quiet sets = after_resolution id edits (present edits).txns (get nat_eq old.arrivals) (get nat_eq new.arrivals) arrivals u o touches sets
+  arrivals_by (edit.Withdraw u) is quiet sets = after_withdrawal id edits (present edits).txns (get nat_eq old.arrivals) (get nat_eq new.arrivals) arrivals u touches sets
+  arrivals_by (edit.SetUp x v) is quiet sets = after_set_up id edits (present edits).txns (get nat_eq old.arrivals) (get nat_eq new.arrivals) arrivals x v touches sets
+
+  pub arrivals_next : AreArrivals id (edits ++ e ∷ []) (present (edits ++ e ∷ [])).txns (get nat_eq new.arrivals)
+  arrivals_next = subst (λ P. AreArrivals id (edits ++ e ∷ []) P.txns (get nat_eq new.arrivals)) (sym (present_push edits e)) (arrivals_by e refl quiet sets)
 
 module _ {S : Type 0} (id : ShardId) (edits : List Edit) (e : Edit) (old : Applied) (lists : HashMap (List ℕ) Waits S) (sound : AreGatheredTo id edits old lists)
     (accepted : IsAccepted (edits ++ e ∷ [])) where
-  module _ (new : Applied) (touches : Bool) (quiet : touches ≡ false → IsNothing id (ops_for (get nat_eq old.arrivals) edits e) e) (keys : new.keys ≡ old.keys)
-      (more : HashMap (List ℕ) Waits S) (adds : IsGathered id (ops_for (get nat_eq old.arrivals) edits e) e (length edits) lists more)
+  module _ (new : Applied) (touches : Bool) (quiet : touches ≡ false → IsNothing id (ops_for (get nat_eq old.arrivals) edits e) (head_for (get nat_eq old.arrivals) edits e) e) (keys : new.keys ≡ old.keys)
+      (more : HashMap (List ℕ) Waits S) (adds : IsGathered id (ops_for (get nat_eq old.arrivals) edits e) (head_for (get nat_eq old.arrivals) edits e) e (length edits) lists more)
       (sets : SetsArrival e touches (length edits) (get nat_eq old.arrivals) (get nat_eq new.arrivals)) where
-    arrivals_by : (f : Edit) → f ≡ e → (touches ≡ false → IsNothing id (ops_for (get nat_eq old.arrivals) edits f) f)
-        → SetsArrival f touches (length edits) (get nat_eq old.arrivals) (get nat_eq new.arrivals) → AreArrivals id (edits ++ f ∷ []) (after f (present edits)).txns (get nat_eq new.arrivals)
-    unfolding after
-    arrivals_by (edit.Arrive T) is quiet sets = after_arrival id edits (present edits).txns (get nat_eq old.arrivals) (get nat_eq new.arrivals) sound.arrivals T touches (told touches refl) sets
-      where
-        told : (b : Bool) → touches ≡ b → TouchesShard id T → touches ≡ true
-        told true s t = s
-        told false s (x, a, ours, c) = absurd (quiet s x (change_by (edit.Arrive T) (accesses x T.ops)) ours (a, c, refl))
-    arrivals_by (edit.Resolve u o) is quiet sets = after_resolution id edits (present edits).txns (get nat_eq old.arrivals) (get nat_eq new.arrivals) sound.arrivals u o touches sets
-    arrivals_by (edit.Withdraw u) is quiet sets = after_withdrawal id edits (present edits).txns (get nat_eq old.arrivals) (get nat_eq new.arrivals) sound.arrivals u touches sets
-    arrivals_by (edit.SetUp x v) is quiet sets = after_set_up id edits (present edits).txns (get nat_eq old.arrivals) (get nat_eq new.arrivals) sound.arrivals x v touches sets
-
-    abbrev at : ℕ → Option ℕ
+    abbrev at : ℕ → Option Arrival
     at = get nat_eq old.arrivals
 
     both : IsAccepted edits × IsAcceptable (present edits) e
@@ -49,20 +59,30 @@ module _ {S : Type 0} (id : ShardId) (edits : List Edit) (e : Edit) (old : Appli
     abbrev next : Present
     next = after e (present edits)
 
+    abbrev Leads : List ℕ → Type 0
+    Leads x = (Q : OnKey) × IsOn old.keys x Q × LeadsTo (waiting_at more x) Q (on_key x next)
+
     -- on a key where the edit is a change
-    leads_by : (x : List ℕ) (ours : is_ours id x ≡ true) (c : Change) → IsChangeOn (ops_for at edits e) e x c → LeadsTo (waiting_at more x) (on old.keys x) (on_key x next)
+    leads_by : (x : List ℕ) (ours : is_ours id x ≡ true) (c : Change) → IsChangeOn (ops_for at edits e) (head_for at edits e) e x c → Leads x
     leads_by x ours c k =
         let added = adds.changed x c ours k in
-        subst (λ ys. LeadsTo ys (on old.keys x) (on_key x next)) (sym (ap changes_in added.1 ∙ added.3))
-        (leads_on (waiting_at lists x) (on old.keys x) (on_key x (present edits)) (on_key x next) c (of_history_on old.keys sound.states x) (sound.ours x ours)
-        (λ N h same. (can_change id edits at sound.arrivals both.0 x ours N same e both.1 h c k, follows_change id edits at sound.arrivals both.0 x ours N same e both.1 h c k)))
+        let was = sound.ours x ours in (
+          was.0,
+          was.1,
+          subst (λ ys. LeadsTo ys was.0 (on_key x next)) (sym (ap changes_in added.1 ∙ added.3))
+              (subst (LeadsTo (waiting_at lists x ++ c ∷ []) was.0) (follows_change id edits at sound.arrivals both.0 x ours e both.1 c k)
+              (leads_on (waiting_at lists x) was.0 (on_key x (present edits)) c was.2 (can_change id edits at sound.arrivals both.0 x ours e both.1 c k))),
+        )
 
     -- and where it is none
-    leads_past : (x : List ℕ) (ours : is_ours id x ≡ true) → ((c : Change) → IsChangeOn (ops_for at edits e) e x c → ⊥) → LeadsTo (waiting_at more x) (on old.keys x) (on_key x next)
+    leads_past : (x : List ℕ) (ours : is_ours id x ≡ true) → ((c : Change) → IsChangeOn (ops_for at edits e) (head_for at edits e) e x c → ⊥) → Leads x
     leads_past x ours none =
-        subst (λ o. LeadsTo (changes_in o) (on old.keys x) (on_key x next)) (sym (adds.others x (λ o. none)))
-        (leads_also (waiting_at lists x) (on old.keys x) (on_key x (present edits)) (on_key x next) (of_history_on old.keys sound.states x) (sound.ours x ours)
-        (λ N h same. stays id edits at sound.arrivals both.0 x ours N same e both.1 h none))
+        let was = sound.ours x ours in (
+          was.0,
+          was.1,
+          subst (λ o. LeadsTo (changes_in o) was.0 (on_key x next)) (sym (adds.others x (λ o. none)))
+              (subst (LeadsTo (waiting_at lists x) was.0) (stays id edits at sound.arrivals both.0 x ours e both.1 none) was.2),
+        )
 
     -- the last changes are of edits up to this one
     soon : (x : List ℕ) (list : Waits) → get same_key more x ≡ Some list → list.last ≤ length edits
@@ -82,13 +102,13 @@ module _ {S : Type 0} (id : ShardId) (edits : List Edit) (e : Edit) (old : Appli
     gathered_next =
         let now = sym (present_push edits e) in
         record {
-          states = subst AreStates (sym keys) sound.states;
-          ours = λ x ours. subst (λ P. LeadsTo (waiting_at more x) (on new.keys x) (on_key x P)) now (subst (λ ks. LeadsTo (waiting_at more x) (on ks x) (on_key x next)) (sym keys)
+          ours = λ x ours. subst (λ P. (Q : OnKey) × IsOn new.keys x Q × LeadsTo (waiting_at more x) Q (on_key x P)) now
+              (subst (λ ks. (Q : OnKey) × IsOn ks x Q × LeadsTo (waiting_at more x) Q (on_key x next)) (sym keys)
               (elim (change_or_not id edits at sound.arrivals both.0 x ours e both.1) [ inl k ↦ leads_by x ours k.0 k.1 | inr none ↦ leads_past x ours none ]));
           others = λ x other. (
-            ap (λ ks. on ks x) keys ∙ (sound.others x other).0,
+            subst (λ ks. IsOn ks x empty_key) (sym keys) (sound.others x other).0,
             adds.others x (λ o. (let no : true ≡ false = sym o ∙ other in cc)) ∙ (sound.others x other).1,
           );
           before = λ x list f. (let long : length (edits ++ e ∷ []) ≡ length edits + 1 = length-append edits (e ∷ []) in let near = soon x list f in omega arith);
-          arrivals = subst (λ P. AreArrivals id (edits ++ e ∷ []) P.txns (get nat_eq new.arrivals)) now (arrivals_by e refl quiet sets);
+          arrivals = arrivals_next id edits e old sound.arrivals new touches quiet sets;
         }

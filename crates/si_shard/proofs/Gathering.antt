@@ -6,7 +6,6 @@ use Rattle.std.proofs.lemmas.List.{append-nil, append_assoc}
 use Rattle.si_lists.proofs.Members.{Contains-nil, here, same_some}
 use Rattle.si_model.specs.declared.numbers.Value.{Value}
 use Rattle.si_model.specs.declared.operations.Op.{Op}
-use Rattle.si_model.specs.declared.parts.Part.{Part}
 use Rattle.si_model.specs.declared.parts.Placed.{Placed}
 use Rattle.si_model.specs.declared.edits.Edit.{Edit}
 use Rattle.si_model.specs.declared.edits.Edit.TheVariants as edit
@@ -16,20 +15,11 @@ use Rattle.si_model.proofs.Equalities.{same_key_from, same_key_is}
 use Rattle.si_shard.specs.declared.changes.Change.{Change}
 use Rattle.si_shard.specs.declared.changes.Change.TheVariants as change
 use Rattle.si_shard.specs.declared.shard_ids.ShardId.{ShardId}
+use Rattle.si_shard.specs.declared.waiting.Head.{Head}
 use Rattle.si_shard.specs.declared.waiting.Waits.{Waits}
 use Rattle.si_shard.specs.Applied.{IsAccessChange, change_by}
 use Rattle.si_shard.specs.ShardIds.{is_ours}
-use Rattle.si_shard.specs.Waiting.{AddsAccess, AddsToLast, AddsToSome, AreBefore, IsGathered, IsNothing, changes_in}
-
--- ---- the last of a list
-
-pub same_last : {X : Type 0} (xs ys : List X) (x y : X) → xs ++ x ∷ [] ≡ ys ++ y ∷ [] → (xs ≡ ys) × (x ≡ y)
-same_last [] [] x y e = (refl, cc)
-same_last [] (z ∷ []) x y e = cc
-same_last [] (z ∷ w ∷ ys) x y e = cc
-same_last (z ∷ []) [] x y e = cc
-same_last (z ∷ w ∷ xs) [] x y e = cc
-same_last (z ∷ xs) (w ∷ ys) x y e = (let head : z ≡ w = cc in let tail : xs ++ x ∷ [] ≡ ys ++ y ∷ [] = cc in let rest = same_last xs ys x y tail in (ap (λ v. v ∷ xs) head ∙ ap (λ l. w ∷ l) rest.0, rest.1))
+use Rattle.si_shard.specs.Waiting.{AddsAccess, AddsToSome, AreBefore, IsGathered, IsNothing, changes_in}
 
 -- ---- the operations that are left
 
@@ -38,26 +28,26 @@ abbrev pub from_on : List ℕ → ℕ → List Op → List Placed
 from_on x i ops = filter_map (placed_at x) (enumerate_from i ops)
 
 -- the edit's change of a key, of whose accesses these were walked
-abbrev pub IsWalkedTo : Edit → ℕ → List Placed → Option Waits → Option Waits → Type 0
-IsWalkedTo e n [] old new = new ≡ old
-IsWalkedTo e n (a ∷ ys) old new = (list : Waits) × (new ≡ Some list) × (list.last ≡ n) × (list.changes.items ≡ changes_in old ++ change_by e (a ∷ ys) ∷ [])
+abbrev pub IsWalkedTo : Head → Edit → ℕ → List Placed → Option Waits → Option Waits → Type 0
+IsWalkedTo h e n [] old new = new ≡ old
+IsWalkedTo h e n (a ∷ ys) old new = (list : Waits) × (new ≡ Some list) × (list.last ≡ n) × (list.changes.items ≡ changes_in old ++ change_by h e (a ∷ ys) ∷ [])
 
 -- what was gathered of the operations before the place i, of which these are left
-pub record AreWalked {S : Type 0} (id : ShardId) (ops : List Op) (e : Edit) (n i : ℕ) (left : List Op) (touches : Bool) (old new : HashMap (List ℕ) Waits S) : Type 0 where
-  pub ours : (x : List ℕ) → is_ours id x ≡ true → (ys : List Placed) × (ys ++ from_on x i left ≡ accesses x ops) × IsWalkedTo e n ys (get same_key old x) (get same_key new x)
+pub record AreWalked {S : Type 0} (id : ShardId) (ops : List Op) (h : Head) (e : Edit) (n i : ℕ) (left : List Op) (touches : Bool) (old new : HashMap (List ℕ) Waits S) : Type 0 where
+  pub ours : (x : List ℕ) → is_ours id x ≡ true → (ys : List Placed) × (ys ++ from_on x i left ≡ accesses x ops) × IsWalkedTo h e n ys (get same_key old x) (get same_key new x)
   pub others : (x : List ℕ) → is_ours id x ≡ false → get same_key new x ≡ get same_key old x
   pub quiet : touches ≡ false → (x : List ℕ) → is_ours id x ≡ true → from_on x i left ≡ accesses x ops
 
 -- at the beginning
-pub none_walked : {S : Type 0} (id : ShardId) (ops : List Op) (e : Edit) (n : ℕ) (lists : HashMap (List ℕ) Waits S) → AreWalked id ops e n 0 ops false lists lists
-none_walked id ops e n lists = record { ours = λ x o. ([], refl, refl); others = λ x o. refl; quiet = λ q x o. refl }
+pub none_walked : {S : Type 0} (id : ShardId) (ops : List Op) (h : Head) (e : Edit) (n : ℕ) (lists : HashMap (List ℕ) Waits S) → AreWalked id ops h e n 0 ops false lists lists
+none_walked id ops h e n lists = record { ours = λ x o. ([], refl, refl); others = λ x o. refl; quiet = λ q x o. refl }
 
 -- one more access after those that were walked
-walked_once : (e : Edit) (n : ℕ) (ys : List Placed) (p : Placed) (old mid : Option Waits) (new : Waits) → ((list : Waits) → old ≡ Some list → list.last < n) → new.last ≡ n
-    → AddsToSome e n p mid new.changes.items → IsWalkedTo e n ys old mid → IsWalkedTo e n (ys ++ p ∷ []) old (Some new)
-walked_once e n [] p old mid new before last adds walked = (new, refl, last, by old mid walked adds before)
+walked_once : (h : Head) (e : Edit) (n : ℕ) (ys : List Placed) (p : Placed) (old mid : Option Waits) (new : Waits) → ((list : Waits) → old ≡ Some list → list.last < n) → new.last ≡ n
+    → AddsToSome h e n p mid new.changes.items → IsWalkedTo h e n ys old mid → IsWalkedTo h e n (ys ++ p ∷ []) old (Some new)
+walked_once h e n [] p old mid new before last adds walked = (new, refl, last, by old mid walked adds before)
   where
-    by : (old mid : Option Waits) → mid ≡ old → AddsToSome e n p mid new.changes.items → ((list : Waits) → old ≡ Some list → list.last < n) → new.changes.items ≡ changes_in old ++ change_by e (p ∷ []) ∷ []
+    by : (old mid : Option Waits) → mid ≡ old → AddsToSome h e n p mid new.changes.items → ((list : Waits) → old ≡ Some list → list.last < n) → new.changes.items ≡ changes_in old ++ change_by h e (p ∷ []) ∷ []
     by None None w a b = a
     by None (Some m) w a b = cc
     by (Some o) None w a b = cc
@@ -65,11 +55,11 @@ walked_once e n [] p old mid new before last adds walked = (new, refl, last, by 
         let same : m ≡ o = same_some w in
         let earlier = b o refl in
         let differs : m.last ≢ n = λ f. (let g : o.last ≡ n = ap (λ (l : Waits). l.last) (sym same) ∙ f in absurd (omega arith)) in
-        a.1 differs ∙ ap (λ (l : Waits). l.changes.items ++ change_by e (p ∷ []) ∷ []) same
-walked_once e n (y ∷ ys) p old mid new before last adds (list, is, at, items) =
-    (new, refl, last, (subst (λ o. AddsToSome e n p o new.changes.items) is adds).0 at (changes_in old) (y ∷ ys) items)
+        a.1 differs ∙ ap (λ (l : Waits). l.changes.items ++ change_by h e (p ∷ []) ∷ []) same
+walked_once h e n (y ∷ ys) p old mid new before last adds (list, is, at, items) =
+    (new, refl, last, (subst (λ o. AddsToSome h e n p o new.changes.items) is adds).0 at (changes_in old) (y ∷ ys) items)
 
-module _ {S : Type 0} (id : ShardId) (ops : List Op) (e : Edit) (n i : ℕ) (p : Op) (left : List Op) (old mid : HashMap (List ℕ) Waits S) where
+module _ {S : Type 0} (id : ShardId) (ops : List Op) (h : Head) (e : Edit) (n i : ℕ) (p : Op) (left : List Op) (old mid : HashMap (List ℕ) Waits S) where
   next : (x : List ℕ) (b : Bool) → same_key (key_of p) x ≡ b → from_on x i (p ∷ left) ≡ cons_option (cond b (Some (record { place = i; access = access_of p })) None) (from_on x (i + 1) left)
   next x b s = ap (λ t. cons_option (cond t (Some (record { place = i; access = access_of p })) None) (from_on x (i + 1) left)) s
 
@@ -81,7 +71,7 @@ module _ {S : Type 0} (id : ShardId) (ops : List Op) (e : Edit) (n i : ℕ) (p :
   a = record { place = i; access = access_of p }
 
   -- an operation on another shard's key adds nothing
-  pub walked_past : (touches : Bool) → is_ours id (key_of p) ≡ false → AreWalked id ops e n i (p ∷ left) touches old mid → AreWalked id ops e n (i + 1) left touches old mid
+  pub walked_past : (touches : Bool) → is_ours id (key_of p) ≡ false → AreWalked id ops h e n i (p ∷ left) touches old mid → AreWalked id ops h e n (i + 1) left touches old mid
   walked_past touches other w = record {
     ours = λ x o. (let k = w.ours x o in (k.0, ap (λ l. k.0 ++ l) (sym (next x false (not_same other x o (same_key (key_of p) x) refl))) ∙ k.1, k.2));
     others = w.others;
@@ -89,8 +79,8 @@ module _ {S : Type 0} (id : ShardId) (ops : List Op) (e : Edit) (n i : ℕ) (p :
   }
 
   -- one of ours adds its access
-  pub walked_on : (touches : Bool) (new : HashMap (List ℕ) Waits S) → is_ours id (key_of p) ≡ true → AreBefore n old → AddsAccess e n (key_of p) (record { place = i; access = access_of p }) mid new
-      → AreWalked id ops e n i (p ∷ left) touches old mid → AreWalked id ops e n (i + 1) left true old new
+  pub walked_on : (touches : Bool) (new : HashMap (List ℕ) Waits S) → is_ours id (key_of p) ≡ true → AreBefore n old → AddsAccess h e n (key_of p) (record { place = i; access = access_of p }) mid new
+      → AreWalked id ops h e n i (p ∷ left) touches old mid → AreWalked id ops h e n (i + 1) left true old new
   walked_on touches new ours before adds w = record {
     ours = λ x o. here_or x o (same_key (key_of p) x) refl;
     others = λ x o. else_at x (differs x o (same_key (key_of p) x) refl) ∙ w.others x o;
@@ -105,67 +95,67 @@ module _ {S : Type 0} (id : ShardId) (ops : List Op) (e : Edit) (n i : ℕ) (p :
       differs x o false s = s
 
       here_or : (x : List ℕ) → is_ours id x ≡ true → (b : Bool) → same_key (key_of p) x ≡ b
-          → (ys : List Placed) × (ys ++ from_on x (i + 1) left ≡ accesses x ops) × IsWalkedTo e n ys (get same_key old x) (get same_key new x)
-      here_or x o false s = (let k = w.ours x o in (k.0, ap (λ l. k.0 ++ l) (sym (next x false s)) ∙ k.1, subst (IsWalkedTo e n k.0 (get same_key old x)) (sym (else_at x s)) k.2))
+          → (ys : List Placed) × (ys ++ from_on x (i + 1) left ≡ accesses x ops) × IsWalkedTo h e n ys (get same_key old x) (get same_key new x)
+      here_or x o false s = (let k = w.ours x o in (k.0, ap (λ l. k.0 ++ l) (sym (next x false s)) ∙ k.1, subst (IsWalkedTo h e n k.0 (get same_key old x)) (sym (else_at x s)) k.2))
       here_or x o true s =
           let k = w.ours x o in
           let is = same_key_is (key_of p) x s in
           let at : get same_key new x ≡ Some adds.list = adds.updates.0 x ∙ ap (λ b. cond b (Some adds.list) (get same_key mid x)) s in (
             k.0 ++ a ∷ [],
             append_assoc k.0 (a ∷ []) (from_on x (i + 1) left) ∙ ap (λ l. k.0 ++ l) (sym (next x true s)) ∙ k.1,
-            subst (IsWalkedTo e n (k.0 ++ a ∷ []) (get same_key old x)) (sym at)
-                (walked_once e n k.0 a (get same_key old x) (get same_key mid x) adds.list (before x) adds.last (subst (λ y. AddsToSome e n a (get same_key mid y) adds.list.changes.items) is adds.changes) k.2),
+            subst (IsWalkedTo h e n (k.0 ++ a ∷ []) (get same_key old x)) (sym at)
+                (walked_once h e n k.0 a (get same_key old x) (get same_key mid x) adds.list (before x) adds.last (subst (λ y. AddsToSome h e n a (get same_key mid y) adds.list.changes.items) is adds.changes) k.2),
           )
 
 -- ---- at the end
 
-module _ {S : Type 0} (id : ShardId) (ops : List Op) (e : Edit) (n i : ℕ) (touches : Bool) (old new : HashMap (List ℕ) Waits S) (w : AreWalked id ops e n i [] touches old new) where
-  walked_all : (x : List ℕ) → is_ours id x ≡ true → IsWalkedTo e n (accesses x ops) (get same_key old x) (get same_key new x)
-  walked_all x o = (let k = w.ours x o in subst (λ ys. IsWalkedTo e n ys (get same_key old x) (get same_key new x)) (sym (append-nil k.0) ∙ k.1) k.2)
+module _ {S : Type 0} (id : ShardId) (ops : List Op) (h : Head) (e : Edit) (n i : ℕ) (touches : Bool) (old new : HashMap (List ℕ) Waits S) (w : AreWalked id ops h e n i [] touches old new) where
+  walked_all : (x : List ℕ) → is_ours id x ≡ true → IsWalkedTo h e n (accesses x ops) (get same_key old x) (get same_key new x)
+  walked_all x o = (let k = w.ours x o in subst (λ ys. IsWalkedTo h e n ys (get same_key old x) (get same_key new x)) (sym (append-nil k.0) ∙ k.1) k.2)
 
   abbrev WaitsThere : List ℕ → Change → Type 0
   WaitsThere x c = (list : Waits) × (get same_key new x ≡ Some list) × (list.last ≡ n) × (list.changes.items ≡ changes_in (get same_key old x) ++ c ∷ [])
 
-  changed : (x : List ℕ) (c : Change) → is_ours id x ≡ true → IsAccessChange ops e x c → WaitsThere x c
+  changed : (x : List ℕ) (c : Change) → is_ours id x ≡ true → IsAccessChange ops h e x c → WaitsThere x c
   changed x c o (a, there, is) = by (accesses x ops) refl (walked_all x o)
     where
-      by : (ys : List Placed) → accesses x ops ≡ ys → IsWalkedTo e n ys (get same_key old x) (get same_key new x)
+      by : (ys : List Placed) → accesses x ops ≡ ys → IsWalkedTo h e n ys (get same_key old x) (get same_key new x)
           → (list : Waits) × (get same_key new x ≡ Some list) × (list.last ≡ n) × (list.changes.items ≡ changes_in (get same_key old x) ++ c ∷ [])
       by [] f k = absurd (Contains-nil a (subst (λ l. Contains l a) f there))
-      by (y ∷ ys) f (list, at, last, items) = (list, at, last, items ∙ ap (λ d. changes_in (get same_key old x) ++ d ∷ []) (ap (change_by e) (sym f) ∙ sym is))
+      by (y ∷ ys) f (list, at, last, items) = (list, at, last, items ∙ ap (λ d. changes_in (get same_key old x) ++ d ∷ []) (ap (change_by h e) (sym f) ∙ sym is))
 
-  others : (x : List ℕ) → (is_ours id x ≡ true → (c : Change) → IsAccessChange ops e x c → ⊥) → get same_key new x ≡ get same_key old x
+  others : (x : List ℕ) → (is_ours id x ≡ true → (c : Change) → IsAccessChange ops h e x c → ⊥) → get same_key new x ≡ get same_key old x
   others x none = by_ours (is_ours id x) refl
     where
-      by : is_ours id x ≡ true → (ys : List Placed) → accesses x ops ≡ ys → IsWalkedTo e n ys (get same_key old x) (get same_key new x) → get same_key new x ≡ get same_key old x
+      by : is_ours id x ≡ true → (ys : List Placed) → accesses x ops ≡ ys → IsWalkedTo h e n ys (get same_key old x) (get same_key new x) → get same_key new x ≡ get same_key old x
       by o [] f k = k
-      by o (y ∷ ys) f k = absurd (none o (change_by e (accesses x ops)) (y, subst (λ l. Contains l y) (sym f) (here y ys), refl))
+      by o (y ∷ ys) f k = absurd (none o (change_by h e (accesses x ops)) (y, subst (λ l. Contains l y) (sym f) (here y ys), refl))
 
       by_ours : (b : Bool) → is_ours id x ≡ b → get same_key new x ≡ get same_key old x
       by_ours true o = by o (accesses x ops) refl (walked_all x o)
       by_ours false o = w.others x o
 
-  nothing : touches ≡ false → (x : List ℕ) (c : Change) → is_ours id x ≡ true → IsAccessChange ops e x c → ⊥
+  nothing : touches ≡ false → (x : List ℕ) (c : Change) → is_ours id x ≡ true → IsAccessChange ops h e x c → ⊥
   nothing q x c o (a, there, is) = Contains-nil a (subst (λ l. Contains l a) (sym (w.quiet q x o)) there)
 
 -- all was gathered of an edit that sets no key up
-module _ {S : Type 0} (id : ShardId) (ops : List Op) (n i : ℕ) (touches : Bool) (old new : HashMap (List ℕ) Waits S) where
-  pub gathered_all : (e : Edit) → ((x : List ℕ) (v : Value) → e ≡ edit.SetUp x v → ⊥) → AreWalked id ops e n i [] touches old new → IsGathered id ops e n old new
-  gathered_all (edit.Arrive T) other w = record { changed = changed id ops (edit.Arrive T) n i touches old new w; others = others id ops (edit.Arrive T) n i touches old new w }
-  gathered_all (edit.Resolve u o) other w = record { changed = changed id ops (edit.Resolve u o) n i touches old new w; others = others id ops (edit.Resolve u o) n i touches old new w }
-  gathered_all (edit.Withdraw u) other w = record { changed = changed id ops (edit.Withdraw u) n i touches old new w; others = others id ops (edit.Withdraw u) n i touches old new w }
+module _ {S : Type 0} (id : ShardId) (ops : List Op) (h : Head) (n i : ℕ) (touches : Bool) (old new : HashMap (List ℕ) Waits S) where
+  pub gathered_all : (e : Edit) → ((x : List ℕ) (v : Value) → e ≡ edit.SetUp x v → ⊥) → AreWalked id ops h e n i [] touches old new → IsGathered id ops h e n old new
+  gathered_all (edit.Arrive T) other w = record { changed = changed id ops h (edit.Arrive T) n i touches old new w; others = others id ops h (edit.Arrive T) n i touches old new w }
+  gathered_all (edit.Resolve u o) other w = record { changed = changed id ops h (edit.Resolve u o) n i touches old new w; others = others id ops h (edit.Resolve u o) n i touches old new w }
+  gathered_all (edit.Withdraw u) other w = record { changed = changed id ops h (edit.Withdraw u) n i touches old new w; others = others id ops h (edit.Withdraw u) n i touches old new w }
   gathered_all (edit.SetUp x v) other w = absurd (other x v refl)
 
-  pub nothing_there : (e : Edit) → ((x : List ℕ) (v : Value) → e ≡ edit.SetUp x v → ⊥) → AreWalked id ops e n i [] touches old new → touches ≡ false → IsNothing id ops e
-  nothing_there (edit.Arrive T) other w q = nothing id ops (edit.Arrive T) n i touches old new w q
-  nothing_there (edit.Resolve u o) other w q = nothing id ops (edit.Resolve u o) n i touches old new w q
-  nothing_there (edit.Withdraw u) other w q = nothing id ops (edit.Withdraw u) n i touches old new w q
+  pub nothing_there : (e : Edit) → ((x : List ℕ) (v : Value) → e ≡ edit.SetUp x v → ⊥) → AreWalked id ops h e n i [] touches old new → touches ≡ false → IsNothing id ops h e
+  nothing_there (edit.Arrive T) other w q = nothing id ops h (edit.Arrive T) n i touches old new w q
+  nothing_there (edit.Resolve u o) other w q = nothing id ops h (edit.Resolve u o) n i touches old new w q
+  nothing_there (edit.Withdraw u) other w q = nothing id ops h (edit.Withdraw u) n i touches old new w q
   nothing_there (edit.SetUp x v) other w q = absurd (other x v refl)
 
 -- ---- a set-up
 
-module _ {S : Type 0} (id : ShardId) (ops : List Op) (y : List ℕ) (v : Value) (n : ℕ) (old : HashMap (List ℕ) Waits S) where
-  pub set_up_gathered : (p : Placed) (new : HashMap (List ℕ) Waits S) → is_ours id y ≡ true → AreBefore n old → AddsAccess (edit.SetUp y v) n y p old new → IsGathered id ops (edit.SetUp y v) n old new
+module _ {S : Type 0} (id : ShardId) (ops : List Op) (h : Head) (y : List ℕ) (v : Value) (n : ℕ) (old : HashMap (List ℕ) Waits S) where
+  pub set_up_gathered : (p : Placed) (new : HashMap (List ℕ) Waits S) → is_ours id y ≡ true → AreBefore n old → AddsAccess h (edit.SetUp y v) n y p old new → IsGathered id ops h (edit.SetUp y v) n old new
   set_up_gathered p new ours before adds = record {
     changed = λ x c o k. (
       adds.list,
@@ -176,7 +166,7 @@ module _ {S : Type 0} (id : ShardId) (ops : List Op) (y : List ℕ) (v : Value) 
     others = λ x none. adds.updates.0 x ∙ by x none (same_key y x) refl;
   }
     where
-      items : (o : Option Waits) → ((list : Waits) → o ≡ Some list → list.last < n) → AddsToSome (edit.SetUp y v) n p o adds.list.changes.items → adds.list.changes.items ≡ changes_in o ++ change.SetUp v ∷ []
+      items : (o : Option Waits) → ((list : Waits) → o ≡ Some list → list.last < n) → AddsToSome h (edit.SetUp y v) n p o adds.list.changes.items → adds.list.changes.items ≡ changes_in o ++ change.SetUp v ∷ []
       items None b a = a
       items (Some l) b a = a.1 (λ f. (let earlier = b l refl in absurd (omega arith)))
 
@@ -184,36 +174,8 @@ module _ {S : Type 0} (id : ShardId) (ops : List Op) (y : List ℕ) (v : Value) 
       by x none true s = (let is = same_key_is y x s in absurd (none (ap (is_ours id) (sym is) ∙ ours) (change.SetUp v) (sym is, refl)))
       by x none false s = ap (λ b. cond b (Some adds.list) (get same_key old x)) s
 
-  pub set_up_past : is_ours id y ≡ false → IsGathered id ops (edit.SetUp y v) n old old
+  pub set_up_past : is_ours id y ≡ false → IsGathered id ops h (edit.SetUp y v) n old old
   set_up_past other = record { changed = λ x c o k. (let no : true ≡ false = sym o ∙ ap (is_ours id) k.0 ∙ other in cc); others = λ x none. refl }
 
-  pub set_up_nothing : is_ours id y ≡ false → IsNothing id ops (edit.SetUp y v)
+  pub set_up_nothing : is_ours id y ≡ false → IsNothing id ops h (edit.SetUp y v)
   set_up_nothing other x c o k = (let no : true ≡ false = sym o ∙ ap (is_ours id) k.0 ∙ other in cc)
-
--- ---- one more access in the last change
-
-last_arrival : (T : Part) (e : Edit) (p : Placed) (rest : List Change) (cs : List Change) (ys : List Placed) → rest ++ change.Arrive T ∷ [] ≡ cs ++ change_by e ys ∷ []
-    → rest ++ change.Arrive (record T { accesses = T.accesses ++ p ∷ [] }) ∷ [] ≡ cs ++ change_by e (ys ++ p ∷ []) ∷ []
-last_arrival T (edit.Arrive U) p rest cs ys is =
-    let same = same_last rest cs (change.Arrive T) (change_by (edit.Arrive U) ys) is in
-    let part : T ≡ record { id = U.id; start = U.start; status = U.status; accesses = ys } = cc in
-    ap (λ l. l ++ change.Arrive (record T { accesses = T.accesses ++ p ∷ [] }) ∷ []) same.0 ∙ ap (λ (P : Part). cs ++ change.Arrive (record P { accesses = P.accesses ++ p ∷ [] }) ∷ []) part
-last_arrival T (edit.Resolve u o) p rest cs ys is = (let same = same_last rest cs (change.Arrive T) (change.Resolve u o) is in cc)
-last_arrival T (edit.Withdraw u) p rest cs ys is = (let same = same_last rest cs (change.Arrive T) (change.Withdraw u) is in cc)
-last_arrival T (edit.SetUp x v) p rest cs ys is = (let same = same_last rest cs (change.Arrive T) (change.SetUp v) is in cc)
-
-pub arrival_added : (T : Part) (e : Edit) (p : Placed) (old rest : List Change) → old ≡ rest ++ change.Arrive T ∷ [] → AddsToLast e p old (rest ++ change.Arrive (record T { accesses = T.accesses ++ p ∷ [] }) ∷ [])
-arrival_added T e p old rest split cs ys is = last_arrival T e p rest cs ys (sym split ∙ is)
-
-pub another_stays : (e : Edit) (p : Placed) (old rest : List Change) (c : Change) → ((T : Part) → c ≡ change.Arrive T → ⊥) → old ≡ rest ++ c ∷ [] → AddsToLast e p old (rest ++ c ∷ [])
-another_stays (edit.Arrive U) p old rest c other split cs ys is = (let same = same_last rest cs c (change_by (edit.Arrive U) ys) (sym split ∙ is) in absurd (other (record { id = U.id; start = U.start; status = U.status; accesses = ys }) same.1))
-another_stays (edit.Resolve u o) p old rest c other split cs ys is = sym split ∙ is
-another_stays (edit.Withdraw u) p old rest c other split cs ys is = sym split ∙ is
-another_stays (edit.SetUp x v) p old rest c other split cs ys is = sym split ∙ is
-
-pub none_stays : (e : Edit) (p : Placed) (old new : List Change) → old ≡ [] → AddsToLast e p old new
-none_stays e p old new none cs ys is = by cs (sym none ∙ is)
-  where
-    by : (cs : List Change) → [] ≡ cs ++ change_by e ys ∷ [] → new ≡ cs ++ change_by e (ys ++ p ∷ []) ∷ []
-    by [] f = cc
-    by (c ∷ cs) f = cc

@@ -4,7 +4,10 @@ pub mod Gathering
 pub mod ArrivalPlaces
 pub mod KeyChanges
 pub mod Leading
+pub mod EachKey
 pub mod Applying
+pub mod AppliedEach
 pub mod ShardFindings
 pub mod Beginnings
 pub mod ShardsTogether
+pub mod Changing

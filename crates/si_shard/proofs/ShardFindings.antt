@@ -1,9 +1,10 @@
 -- The findings on the keys of a shard, put one after the other, are those of what is present there.
-use Rattle.std.proofs.Common.{◌≡◌, ◌∙◌, inl, inr, ℕ, Bool, true, false, List, [], ◌∷◌, ◌++◌, refl, sym, ap, subst}
+use Rattle.std.proofs.Common.{◌≡◌, ◌∙◌, inl, inr, ℕ, Bool, true, false, cond, List, [], ◌∷◌, ◌++◌, refl, sym, ap, subst}
 use Rattle.std.specs.List.{Contains, filter, flat_map}
 use Rattle.std.specs.List.Sorted.{IsStrictlySortedBy}
 use Rattle.std.specs.BTreeMap.{is_at}
 use Rattle.std.specs.BTreeSet.{IsOrdered, contains}
+use Rattle.std.specs.HashMap.{get}
 use Rattle.std.specs.Ordering.{nat_cmp, ordering_then}
 use Rattle.std.specs.declared.cmp.Ordering.TheVariants.{Less}
 use Rattle.std.specs.Cmp.Lexicographic.{slice_cmp, texts_ties}
@@ -12,27 +13,28 @@ use Rattle.std.proofs.lemmas.List.Kept.{IsStrictlySortedBy-filter}
 use Rattle.std.proofs.lemmas.Map.Keys.{sorted_head, sorted_tail}
 use Rattle.si_lists.proofs.Members.{Contains-filter, Contains-flat_map, Contains-from_filter, Contains-from_flat_map, at_each, from_each, here, there}
 use Rattle.si_lists.proofs.Tests.{any_is}
+use Rattle.si_model.specs.declared.parts.OnKey.{OnKey}
 use Rattle.si_model.specs.declared.findings.Finding.{Finding}
 use Rattle.si_model.specs.declared.edits.Edit.{Edit}
 use Rattle.si_model.specs.Operations.{same_key}
 use Rattle.si_model.specs.Parts.{on_key}
 use Rattle.si_model.specs.Order.{finding_cmp, fields}
 use Rattle.si_model.specs.Findings.{cases, findings, findings_on}
+use Rattle.si_model.specs.History.{IsOfHistory}
 use Rattle.si_model.specs.Journals.{IsAccepted, present}
 use Rattle.si_model.proofs.Equalities.{same_key_from, same_key_is}
 use Rattle.si_model.proofs.Exact.{findings_exact, key_findings_exact, keys_are_apart}
-use Rattle.si_model.proofs.Histories.{key_of_history}
 use Rattle.si_model.proofs.InOrder.{sorted-cons, sorted-nil}
-use Rattle.si_model.proofs.Orderless.{key_order_free, unique_list}
+use Rattle.si_model.proofs.Orderless.{unique_list}
 use Rattle.si_model.proofs.PresentHistories.{present_history}
+use Rattle.si_judge.specs.Following.{empty_key}
 use Rattle.si_shard.specs.declared.shard_ids.ShardId.{ShardId}
 use Rattle.si_shard.specs.declared.applied.Applied.{Applied}
 use Rattle.si_shard.specs.ShardIds.{is_ours}
 use Rattle.si_shard.specs.Applied.{AreApplied}
-use Rattle.si_shard.specs.Keyed.{findings_at, on}
+use Rattle.si_shard.specs.Keyed.{AreOn, IsOn, findings_at}
 use Rattle.si_shard.specs.Shards.{findings_in}
-use Rattle.si_shard.proofs.KeyChanges.{of_history_on}
-use Rattle.si_shard.proofs.OnKeys.{has_none}
+use Rattle.si_shard.proofs.OnKeys.{none_empty, of_history}
 
 -- ---- lists of findings one after the other
 
@@ -58,41 +60,55 @@ flat_sorted F keyed sorted (x ∷ xs) s = sorted_append (F x) (flat_map F xs) (s
 
 -- ---- the findings of a shard
 
+-- what is on the keys of the shard, and nothing on others
+abbrev pub on_shard : ShardId → List Edit → List ℕ → OnKey
+on_shard id edits x = cond (is_ours id x) (on_key x (present edits)) empty_key
+
+pub shard_on : (id : ShardId) (edits : List Edit) (a : Applied) → AreApplied id edits a → AreOn a.keys (on_shard id edits)
+shard_on id edits a sound x = by (is_ours id x) refl
+  where
+    by : (b : Bool) → is_ours id x ≡ b → IsOn a.keys x (cond (is_ours id x) (on_key x (present edits)) empty_key)
+    by true e = subst (λ b. IsOn a.keys x (cond b (on_key x (present edits)) empty_key)) (sym e) (sound.ours x e)
+    by false e = subst (λ b. IsOn a.keys x (cond b (on_key x (present edits)) empty_key)) (sym e) (sound.others x e)
+
 module _ (id : ShardId) (edits : List Edit) (a : Applied) (accepted : IsAccepted edits) (sound : AreApplied id edits a) (ordered : IsOrdered (slice_cmp nat_cmp) a.keys.found) where
-  at_key : (x : List ℕ) (f : Finding) → Contains (findings_at a.keys x) f → f.key ≡ x
-  at_key x f c = ((key_findings_exact cases (on a.keys x) (of_history_on a.keys sound.states x) x).sound f c).0
+  abbrev At : List ℕ → List Finding
+  At = findings_at (on_shard id edits)
+
+  exact : (x : List ℕ) → IsOfHistory (on_shard id edits x)
+  exact x = of_history x (get same_key a.keys.states x) (on_shard id edits x) (shard_on id edits a sound x).shows
+
+  at_key : (x : List ℕ) (f : Finding) → Contains (At x) f → f.key ≡ x
+  at_key x f c = ((key_findings_exact cases (on_shard id edits x) (exact x) x).sound f c).0
 
   -- on a key of the shard they are those of what is present
-  same_on_key : (x : List ℕ) → is_ours id x ≡ true → findings_at a.keys x ≡ filter (λ f. same_key f.key x) (findings (present edits))
-  same_on_key x ours =
-      let same = sound.ours x ours in
-      sym (key_order_free cases x (on_key x (present edits)) (on a.keys x) (key_of_history (present edits) x (present_history edits accepted)) (of_history_on a.keys sound.states x) same.initial same.parts)
-      ∙ sym (keys_are_apart (present edits) x)
+  same_on_key : (x : List ℕ) → is_ours id x ≡ true → At x ≡ filter (λ f. same_key f.key x) (findings (present edits))
+  same_on_key x ours = ap (λ b. findings_on cases x (cond b (on_key x (present edits)) empty_key)) ours ∙ sym (keys_are_apart (present edits) x)
 
   -- and there are none on another key
-  not_else : (x : List ℕ) (f : Finding) → Contains (findings_at a.keys x) f → (b : Bool) → is_ours id x ≡ b → is_ours id x ≡ true
+  not_else : (x : List ℕ) (f : Finding) → Contains (At x) f → (b : Bool) → is_ours id x ≡ b → is_ours id x ≡ true
   not_else x f c true e = e
-  not_else x f c false e = absurd (has_none x (f, subst (λ Q. Contains (findings_on cases x Q) f) (sound.others x e) c))
+  not_else x f c false e = absurd (none_empty x (f, subst (λ b. Contains (findings_on cases x (cond b (on_key x (present edits)) empty_key)) f) e c))
 
-  one_way : (f : Finding) → Contains (flat_map (findings_at a.keys) a.keys.found.keys) f → Contains (findings_in id (present edits)) f
+  one_way : (f : Finding) → Contains (flat_map At a.keys.found.keys) f → Contains (findings_in id (present edits)) f
   one_way f c =
-      let m = Contains-from_flat_map (findings_at a.keys) a.keys.found.keys f c in
+      let m = Contains-from_flat_map At a.keys.found.keys f c in
       let ours = not_else m.0 f m.2 (is_ours id m.0) refl in
       let among = Contains-from_filter (λ g. same_key g.key m.0) (findings (present edits)) f (subst (λ fs. Contains fs f) (same_on_key m.0 ours) m.2) in
       Contains-filter (λ g. is_ours id g.key) (findings (present edits)) f among.0 (ap (is_ours id) (at_key m.0 f m.2) ∙ ours)
 
-  other_way : (f : Finding) → Contains (findings_in id (present edits)) f → Contains (flat_map (findings_at a.keys) a.keys.found.keys) f
+  other_way : (f : Finding) → Contains (findings_in id (present edits)) f → Contains (flat_map At a.keys.found.keys) f
   other_way f c =
       let among = Contains-from_filter (λ g. is_ours id g.key) (findings (present edits)) f c in
       let here_is = Contains-filter (λ g. same_key g.key f.key) (findings (present edits)) f among.0 (same_key_from f.key f.key refl) in
-      let at : Contains (findings_at a.keys f.key) f = subst (λ fs. Contains fs f) (sym (same_on_key f.key among.1)) here_is in
-      let found : contains (slice_cmp nat_cmp) a.keys.found f.key ≡ true = (sound.states.found f.key).1 (f, at) in
+      let at : Contains (At f.key) f = subst (λ fs. Contains fs f) (sym (same_on_key f.key among.1)) here_is in
+      let found : contains (slice_cmp nat_cmp) a.keys.found f.key ≡ true = (shard_on id edits a sound f.key).found.1 (f, at) in
       let k = any_is (is_at (slice_cmp nat_cmp f.key)) a.keys.found.keys found in
       let key : f.key ≡ k.0 = same_key_is f.key k.0 (texts_ties f.key k.0 ∙ k.2) in
-      Contains-flat_map (findings_at a.keys) a.keys.found.keys f.key f (subst (Contains a.keys.found.keys) (sym key) k.1) at
+      Contains-flat_map At a.keys.found.keys f.key f (subst (Contains a.keys.found.keys) (sym key) k.1) at
 
-  pub shard_findings : flat_map (findings_at a.keys) a.keys.found.keys ≡ findings_in id (present edits)
-  shard_findings = unique_list (flat_map (findings_at a.keys) a.keys.found.keys) (findings_in id (present edits))
-      (flat_sorted (findings_at a.keys) at_key (λ x. (key_findings_exact cases (on a.keys x) (of_history_on a.keys sound.states x) x).ascends) a.keys.found.keys ordered)
+  pub shard_findings : flat_map (findings_at (on_shard id edits)) a.keys.found.keys ≡ findings_in id (present edits)
+  shard_findings = unique_list (flat_map At a.keys.found.keys) (findings_in id (present edits))
+      (flat_sorted At at_key (λ x. (key_findings_exact cases (on_shard id edits x) (exact x) x).ascends) a.keys.found.keys ordered)
       (IsStrictlySortedBy-filter finding_cmp (λ f. is_ours id f.key) (findings (present edits)) (findings_exact (present edits) (present_history edits accepted)).ascends)
       (λ f. (one_way f, other_way f))

@@ -14,8 +14,8 @@ use Rattle.si_model.specs.Operations.{same_key}
 use Rattle.si_model.proofs.Equalities.{same_key_from, same_key_is}
 use Rattle.si_shard.specs.declared.waiting.Waits.{Waits}
 use Rattle.si_shard.specs.declared.keyed.KeyStates.{KeyStates}
-use Rattle.si_shard.specs.Changes.{IsLedBy, LeadsTo}
-use Rattle.si_shard.specs.Keyed.{AreChangedAll, CanChangeAll, IsChangedAt, on}
+use Rattle.si_shard.specs.Changes.{LeadsTo}
+use Rattle.si_shard.specs.Keyed.{AreChangedAll, CanChangeAll, IsChangedAt, IsMadeAt, IsOn, StaysAt}
 
 abbrev pub Entries : Type 0
 Entries = List (List ℕ × Waits)
@@ -53,12 +53,12 @@ looked_up x list (p ∷ es) pairs c = elim (Contains-cons_cases p es (x, list) c
 
 -- the lists of these keys were made, and nothing else was
 pub record AreDone (es : Entries) (old new : KeyStates) : Type 0 where
-  pub changed : (x : List ℕ) (list : Waits) → Contains es (x, list) → IsLedBy list.changes.items (on old x) (on new x)
-  pub others : (x : List ℕ) → ((list : Waits) → Contains es (x, list) → ⊥) → on new x ≡ on old x
+  pub changed : (x : List ℕ) (list : Waits) → Contains es (x, list) → IsMadeAt x list.changes.items old new
+  pub others : (x : List ℕ) → ((list : Waits) → Contains es (x, list) → ⊥) → StaysAt x old new
 
 -- before any change
 pub none_done : (ks : KeyStates) → AreDone [] ks ks
-none_done ks = record { changed = λ x list at. absurd (Contains-nil (x, list) at); others = λ x none. refl }
+none_done ks = record { changed = λ x list at. absurd (Contains-nil (x, list) at); others = λ x none Q on. on }
 
 module _ {S : Type 0} (lists : HashMap (List ℕ) Waits S) (unique : IsUnique same_key lists) where
   pairs : AllPairs (λ a b. a.0 ≢ b.0) lists.entries
@@ -72,18 +72,18 @@ module _ {S : Type 0} (lists : HashMap (List ℕ) Waits S) (unique : IsUnique sa
     stands : get same_key lists x ≡ Some list
     stands = looked_up x list lists.entries pairs (subst (λ l. Contains l (x, list)) (sym split) (Contains-append_right done ((x, list) ∷ rest) (x, list) (here (x, list) rest)))
 
-    pub next_can : (old mid : KeyStates) → CanChangeAll lists old → AreDone done old mid → (R : OnKey) × LeadsTo list.changes.items (on mid x) R
-    next_can old mid can before = subst (λ Q. (R : OnKey) × LeadsTo list.changes.items Q R) (sym (before.others x new_key)) (can x list stands)
+    pub next_can : (old mid : KeyStates) → CanChangeAll lists old → AreDone done old mid → (Q R : OnKey) × IsOn mid x Q × LeadsTo list.changes.items Q R
+    next_can old mid can before = (let k = can x list stands in (k.0, k.1, before.others x new_key k.0 k.2, k.3))
 
     next_done : (old mid new : KeyStates) → AreDone done old mid → IsChangedAt x list.changes.items mid new → AreDone (done ++ (x, list) ∷ []) old new
     next_done old mid new before step = record {
       changed = λ y d at. elim (push_cases done (x, list) (y, d) at) [
-        | inl earlier ↦ subst (IsLedBy d.changes.items (on old y)) (sym (step.others y (λ e. new_key d (subst (λ z. Contains done (z, d)) e earlier)))) (before.changed y d earlier)
-        | inr last ↦ subst (λ p. IsLedBy p.1.changes.items (on old p.0) (on new p.0)) last (subst (λ Q. IsLedBy list.changes.items Q (on new x)) (before.others x new_key) step.present)
+        | inl earlier ↦ (λ Q R on leads. step.others y (λ e. new_key d (subst (λ z. Contains done (z, d)) e earlier)) R (before.changed y d earlier Q R on leads))
+        | inr last ↦ subst (λ p. IsMadeAt p.0 p.1.changes.items old new) last (λ Q R on leads. step.made Q R (before.others x new_key Q on) leads)
       ];
-      others = λ y none.
-          step.others y (λ e. none list (subst (λ z. Contains (done ++ (x, list) ∷ []) (z, list)) (sym e) (push_last done (x, list))))
-          ∙ before.others y (λ d at. none d (push_keeps done (x, list) (y, d) at));
+      others = λ y none Q on.
+          step.others y (λ e. none list (subst (λ z. Contains (done ++ (x, list) ∷ []) (z, list)) (sym e) (push_last done (x, list)))) Q
+          (before.others y (λ d at. none d (push_keeps done (x, list) (y, d) at)) Q on);
     }
 
     -- one more list was made, of those that the map has in its order

@@ -1,5 +1,5 @@
--- What is on many keys, and where something is found. All of it is this project's choice.
-use Rattle.std.specs.Prelude.{◌≡◌, ◌≢◌, ◌↔◌, ℕ, Bool, false, true, List, Some, None, Option}
+-- What is known of many keys, and where something is found. All of it is this project's choice.
+use Rattle.std.specs.Prelude.{◌≡◌, ◌≢◌, ◌↔◌, ℕ, Bool, true, List, Some, None, Option}
 use Rattle.std.specs.List.{Contains}
 use Rattle.std.specs.HashMap.{HashMap, Updates, get}
 use Rattle.std.specs.BTreeSet.{contains}
@@ -10,68 +10,73 @@ use Rattle.si_model.specs.declared.findings.Finding.{Finding}
 use Rattle.si_model.specs.Operations.{same_key}
 use Rattle.si_model.specs.Findings.{cases, findings_on}
 use Rattle.si_model.specs.History.{IsOfHistory}
-use Rattle.si_judge.specs.Following.{empty_key}
-use Rattle.si_judge.specs.States.{State}
+use Rattle.si_judge.specs.Kept.{IsBare, Kept, Shows}
 use Rattle.si_shard.specs.declared.changes.Change.{Change}
 use Rattle.si_shard.specs.declared.keyed.KeyStates.{KeyStates}
 use Rattle.si_shard.specs.declared.waiting.Waits.{Waits}
-use Rattle.si_shard.specs.Changes.{IsLedBy, LeadsTo}
+use Rattle.si_shard.specs.Changes.{LeadsTo}
 
--- what is on the key of a state, and nothing where there is none
-abbrev pub present_in : Option State → OnKey
-present_in None = empty_key
-present_in (Some s) = s.present
-
--- what is on the key x
-unfoldable pub on : KeyStates → List ℕ → OnKey
-on ks x = present_in (get same_key ks.states x)
-
--- the findings on the key x
-abbrev pub findings_at : KeyStates → List ℕ → List Finding
-findings_at ks x = findings_on cases x (on ks x)
+-- what is kept of the key x shows Q, or nothing is kept and Q is bare
+abbrev pub ShowsAt : List ℕ → Option Kept → OnKey → Type 0
+ShowsAt x None Q = IsOfHistory Q × IsBare Q
+ShowsAt x (Some s) Q = (s.key ≡ x) × Shows cases Q s
 
 -- something is found
 abbrev pub HasFinding : List ℕ → OnKey → Type 0
 HasFinding x Q = (f : Finding) × Contains (findings_on cases x Q) f
 
--- the state of the key x, which isn't spoiled
-pub record IsWhole (x : List ℕ) (s : State) : Type 0 where
-  pub key : s.key ≡ x
-  pub history : IsOfHistory s.present
-  pub whole : s.spoiled ≡ false
+-- Q may be on the key x, of which that is kept, and of which it is told whether something is found
+pub record IsOnKey (x : List ℕ) (kept : Option Kept) (told : Bool) (Q : OnKey) : Type 0 where
+  pub shows : ShowsAt x kept Q
+  pub found : (told ≡ true) ↔ HasFinding x Q
 
--- each state is that of its key, and the keys stand apart on which something is found
-pub record AreStates (ks : KeyStates) : Type 0 where
-  pub states : (x : List ℕ) (s : State) → get same_key ks.states x ≡ Some s → IsWhole x s
-  pub found : (x : List ℕ) → (contains (slice_cmp nat_cmp) ks.found x ≡ true) ↔ HasFinding x (on ks x)
+-- Q may be on the key x
+abbrev pub IsOn : KeyStates → List ℕ → OnKey → Type 0
+IsOn ks x Q = IsOnKey x (get same_key ks.states x) (contains (slice_cmp nat_cmp) ks.found x) Q
+
+-- this may be on each key
+abbrev pub AreOn : KeyStates → (List ℕ → OnKey) → Type 0
+AreOn ks on = (x : List ℕ) → IsOn ks x (on x)
+
+-- the findings on the key x
+abbrev pub findings_at : (List ℕ → OnKey) → List ℕ → List Finding
+findings_at on x = findings_on cases x (on x)
 
 -- ---- one change
 
--- whether nothing is on the key, and whether something is found there
-pub record IsLeft (is_empty has_findings : Bool) (s : State) : Type 0 where
-  pub empty : (is_empty ≡ true) ↔ (s.present ≡ empty_key)
-  pub found : (has_findings ≡ true) ↔ HasFinding s.key s.present
+-- whether what is kept can be left out, and whether something is found
+pub record IsLeft (is_bare has_findings : Bool) (s : Kept) : Type 0 where
+  pub bare : (Q : OnKey) → Shows cases Q s → (is_bare ≡ true) ↔ IsBare Q
+  pub found : (Q : OnKey) → Shows cases Q s → (has_findings ≡ true) ↔ HasFinding s.key Q
 
--- the state of the key x was changed so, or a new one, which is left so
-pub record IsChangedIn {S : Type 0} (x : List ℕ) (cs : List Change) (is_empty has_findings : Bool) (old new : HashMap (List ℕ) State S) : Type 0 where
-  pub state : State
-  pub whole : IsWhole x state
-  pub present : IsLedBy cs (present_in (get same_key old x)) state.present
-  pub left : IsLeft is_empty has_findings state
-  pub states : Updates same_key old new x (Some state)
+-- what is kept of the key x was changed so, or begun, and is left so
+pub record IsChangedIn {S : Type 0} (x : List ℕ) (cs : List Change) (is_bare has_findings : Bool) (old new : HashMap (List ℕ) Kept S) : Type 0 where
+  pub kept : Kept
+  pub key : kept.key ≡ x
+  pub shows : (Q R : OnKey) → ShowsAt x (get same_key old x) Q → LeadsTo cs Q R → Shows cases R kept
+  pub left : IsLeft is_bare has_findings kept
+  pub states : Updates same_key old new x (Some kept)
 
--- what is on x was changed so, and nothing else
+-- where Q may be on the key x, that may be there to which the changes lead
+abbrev pub IsMadeAt : List ℕ → List Change → KeyStates → KeyStates → Type 0
+IsMadeAt x cs old new = (Q R : OnKey) → IsOn old x Q → LeadsTo cs Q R → IsOn new x R
+
+-- what may be on the key x may be there still
+abbrev pub StaysAt : List ℕ → KeyStates → KeyStates → Type 0
+StaysAt x old new = (Q : OnKey) → IsOn old x Q → IsOn new x Q
+
+-- the key x was changed so, and no other
 pub record IsChangedAt (x : List ℕ) (cs : List Change) (old new : KeyStates) : Type 0 where
-  pub present : IsLedBy cs (on old x) (on new x)
-  pub others : (y : List ℕ) → y ≢ x → on new y ≡ on old y
+  pub made : IsMadeAt x cs old new
+  pub others : (y : List ℕ) → y ≢ x → StaysAt y old new
 
 -- ---- the changes of many keys
 
 -- the changes of each key can be made
 abbrev pub CanChangeAll : {S : Type 0} → HashMap (List ℕ) Waits S → KeyStates → Type 0
-CanChangeAll lists ks = (x : List ℕ) (list : Waits) → get same_key lists x ≡ Some list → (R : OnKey) × LeadsTo list.changes.items (on ks x) R
+CanChangeAll lists ks = (x : List ℕ) (list : Waits) → get same_key lists x ≡ Some list → (Q R : OnKey) × IsOn ks x Q × LeadsTo list.changes.items Q R
 
 -- each key with a list was changed so, and no other was
 pub record AreChangedAll {S : Type 0} (lists : HashMap (List ℕ) Waits S) (old new : KeyStates) : Type 0 where
-  pub changed : (x : List ℕ) (list : Waits) → get same_key lists x ≡ Some list → IsLedBy list.changes.items (on old x) (on new x)
-  pub others : (x : List ℕ) → get same_key lists x ≡ None → on new x ≡ on old x
+  pub changed : (x : List ℕ) (list : Waits) → get same_key lists x ≡ Some list → IsMadeAt x list.changes.items old new
+  pub others : (x : List ℕ) → get same_key lists x ≡ None → StaysAt x old new

@@ -4,5 +4,6 @@ pub mod Applied
 pub mod Changes
 pub mod Keyed
 pub mod Shards
+pub mod Straight
 pub mod Waiting
 pub mod Laws

@@ -3,6 +3,7 @@ use Rattle.std.specs.Prelude.{◌≡◌, ◌≢◌, ◌<◌, ℕ, true, false, n
 use Rattle.std.specs.HashMap.{HashMap, Updates, get}
 use Rattle.si_model.specs.declared.edits.Edit.{Edit}
 use Rattle.si_model.specs.declared.operations.Op.{Op}
+use Rattle.si_model.specs.declared.parts.OnKey.{OnKey}
 use Rattle.si_model.specs.declared.parts.Placed.{Placed}
 use Rattle.si_model.specs.Operations.{same_key}
 use Rattle.si_model.specs.Parts.{on_key}
@@ -11,10 +12,11 @@ use Rattle.si_judge.specs.Following.{empty_key}
 use Rattle.si_shard.specs.declared.applied.Applied.{Applied}
 use Rattle.si_shard.specs.declared.changes.Change.{Change}
 use Rattle.si_shard.specs.declared.shard_ids.ShardId.{ShardId}
+use Rattle.si_shard.specs.declared.waiting.Head.{Head}
 use Rattle.si_shard.specs.declared.waiting.Waits.{Waits}
 use Rattle.si_shard.specs.Applied.{AreArrivals, IsChangeOn, change_by}
 use Rattle.si_shard.specs.Changes.{LeadsTo}
-use Rattle.si_shard.specs.Keyed.{AreStates, on}
+use Rattle.si_shard.specs.Keyed.{IsOn}
 use Rattle.si_shard.specs.ShardIds.{is_ours}
 
 -- the changes of a list that may be absent
@@ -33,43 +35,42 @@ AreBefore n lists = (x : List ℕ) (list : Waits) → get same_key lists x ≡ S
 -- ---- one access
 
 -- the last change, where it is what the edit is on a key with these accesses, has one more
-abbrev pub AddsToLast : Edit → Placed → List Change → List Change → Type 0
-AddsToLast e p old new = (cs : List Change) (ys : List Placed) → old ≡ cs ++ change_by e ys ∷ [] → new ≡ cs ++ change_by e (ys ++ p ∷ []) ∷ []
+abbrev pub AddsToLast : Head → Edit → Placed → List Change → List Change → Type 0
+AddsToLast h e p old new = (cs : List Change) (ys : List Placed) → old ≡ cs ++ change_by h e ys ∷ [] → new ≡ cs ++ change_by h e (ys ++ p ∷ []) ∷ []
 
 -- the last change has one more access where it is of the edit, before which n are; else there is a new one with this access
-abbrev pub AddsTo : Edit → ℕ → Placed → Waits → List Change → Type 0
-AddsTo e n p old new = (old.last ≡ n → AddsToLast e p old.changes.items new) × (old.last ≢ n → new ≡ old.changes.items ++ change_by e (p ∷ []) ∷ [])
+abbrev pub AddsTo : Head → Edit → ℕ → Placed → Waits → List Change → Type 0
+AddsTo h e n p old new = (old.last ≡ n → AddsToLast h e p old.changes.items new) × (old.last ≢ n → new ≡ old.changes.items ++ change_by h e (p ∷ []) ∷ [])
 
 -- the same where there may be no list
-abbrev pub AddsToSome : Edit → ℕ → Placed → Option Waits → List Change → Type 0
-AddsToSome e n p None new = new ≡ change_by e (p ∷ []) ∷ []
-AddsToSome e n p (Some old) new = AddsTo e n p old new
+abbrev pub AddsToSome : Head → Edit → ℕ → Placed → Option Waits → List Change → Type 0
+AddsToSome h e n p None new = new ≡ change_by h e (p ∷ []) ∷ []
+AddsToSome h e n p (Some old) new = AddsTo h e n p old new
 
 -- the edit has one more access of the key x, and nothing else changes
-pub record AddsAccess {S : Type 0} (e : Edit) (n : ℕ) (x : List ℕ) (p : Placed) (old new : HashMap (List ℕ) Waits S) : Type 0 where
+pub record AddsAccess {S : Type 0} (h : Head) (e : Edit) (n : ℕ) (x : List ℕ) (p : Placed) (old new : HashMap (List ℕ) Waits S) : Type 0 where
   pub list : Waits
-  pub changes : AddsToSome e n p (get same_key old x) list.changes.items
+  pub changes : AddsToSome h e n p (get same_key old x) list.changes.items
   pub last : list.last ≡ n
   pub updates : Updates same_key old new x (Some list)
 
 -- ---- one edit
 
--- the edit, whose transaction has these operations, is nothing on the keys of the shard
-abbrev pub IsNothing : ShardId → List Op → Edit → Type 0
-IsNothing id ops e = (x : List ℕ) (c : Change) → is_ours id x ≡ true → IsChangeOn ops e x c → ⊥
+-- the edit, whose transaction is h with these operations, is nothing on the keys of the shard
+abbrev pub IsNothing : ShardId → List Op → Head → Edit → Type 0
+IsNothing id ops h e = (x : List ℕ) (c : Change) → is_ours id x ≡ true → IsChangeOn ops h e x c → ⊥
 
 -- what the edit is on a key of the shard waits there, after what waited, and nothing else changes; n edits are before it
-pub record IsGathered {S : Type 0} (id : ShardId) (ops : List Op) (e : Edit) (n : ℕ) (old new : HashMap (List ℕ) Waits S) : Type 0 where
-  pub changed : (x : List ℕ) (c : Change) → is_ours id x ≡ true → IsChangeOn ops e x c
+pub record IsGathered {S : Type 0} (id : ShardId) (ops : List Op) (h : Head) (e : Edit) (n : ℕ) (old new : HashMap (List ℕ) Waits S) : Type 0 where
+  pub changed : (x : List ℕ) (c : Change) → is_ours id x ≡ true → IsChangeOn ops h e x c
       → (list : Waits) × (get same_key new x ≡ Some list) × (list.last ≡ n) × (list.changes.items ≡ waiting_at old x ++ c ∷ [])
-  pub others : (x : List ℕ) → (is_ours id x ≡ true → (c : Change) → IsChangeOn ops e x c → ⊥) → get same_key new x ≡ get same_key old x
+  pub others : (x : List ℕ) → (is_ours id x ≡ true → (c : Change) → IsChangeOn ops h e x c → ⊥) → get same_key new x ≡ get same_key old x
 
 -- ---- many edits
 
--- what the edits made of the shard, but for changes that wait: on each of its keys these lead from what its state knows to what is present there
+-- what the edits made of the shard, but for changes that wait: on each of its keys these lead from what may be there to what is present
 pub record AreGatheredTo {S : Type 0} (id : ShardId) (edits : List Edit) (a : Applied) (lists : HashMap (List ℕ) Waits S) : Type 0 where
-  pub states : AreStates a.keys
-  pub ours : (x : List ℕ) → is_ours id x ≡ true → LeadsTo (waiting_at lists x) (on a.keys x) (on_key x (present edits))
-  pub others : (x : List ℕ) → is_ours id x ≡ false → (on a.keys x ≡ empty_key) × (get same_key lists x ≡ None)
+  pub ours : (x : List ℕ) → is_ours id x ≡ true → (Q : OnKey) × IsOn a.keys x Q × LeadsTo (waiting_at lists x) Q (on_key x (present edits))
+  pub others : (x : List ℕ) → is_ours id x ≡ false → IsOn a.keys x empty_key × (get same_key lists x ≡ None)
   pub before : AreBefore (length edits) lists
   pub arrivals : AreArrivals id edits (present edits).txns (get nat_eq a.arrivals)

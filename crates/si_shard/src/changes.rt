@@ -1,53 +1,60 @@
 //! What an edit is on one key.
 
-ghost use Rattle.std.specs.Prelude.{◌≡◌, false, OnOk};
+ghost use Rattle.std.specs.Prelude.{OnOk};
 ghost use Rattle.si_model.specs.declared.parts.OnKey.{OnKey};
-ghost use Rattle.si_model.specs.History.{IsOfHistory};
+ghost use Rattle.si_model.specs.Findings.{cases};
+ghost use Rattle.si_judge.specs.Kept.{Shows};
 ghost use Rattle.si_shard.specs.Changes.{AreMade, CanChange, IsChanged, LeadsTo};
 
-use si_judge::{Cases, KeyState};
-use si_model::{OutOfMemory, Outcome, Part, TxnId, Value};
+use si_judge::{Cases, KeyFault, KeyFindings};
+use si_model::{OutOfMemory, Outcome, Part, Value};
 use std::alloc::AllocError;
 
-/// What an edit is on one key that it touches.
+/// What an edit is on one key that it touches. A resolution and a withdrawal have the part as it is before them.
 #[derive(Debug, Drop)]
 pub enum Change {
     /// A transaction arrived that does this on the key.
     Arrive(Part),
-    /// The transaction was resolved.
-    Resolve(TxnId, Outcome),
-    /// The transaction was withdrawn.
-    Withdraw(TxnId),
+    /// The transaction that does this on the key was resolved.
+    Resolve(Part, Outcome),
+    /// The transaction that does this on the key was withdrawn.
+    Withdraw(Part),
     /// The key was set up with the value.
     SetUp(Value),
 }
 
-/// Makes the changes of one key, one after the other. Its state isn't spoiled, so that it can fail for want of memory alone.
-pub fn make_changes(state: &mut KeyState<Cases>, changes: Vec<Change>) -> Result<(), OutOfMemory>
-    requires whole { state.old.spoiled ≡ false }
-    requires history { IsOfHistory state.old.present }
-    requires can { (after : OnKey) × LeadsTo changes.items state.old.present after }
-    ensures { OnOk result (AreMade changes.items state.old state.new) }
+/// Makes the changes of one key, one after the other. Its findings aren't spoiled, so that it can fail for want of memory alone.
+pub fn make_changes(kept: &mut KeyFindings<Cases>, changes: Vec<Change>) -> Result<(), OutOfMemory>
+    requires { (Q : OnKey) × (R : OnKey) × Shows cases Q kept.old × LeadsTo changes.items Q R }
+    ensures { OnOk result (AreMade changes.items kept.old kept.new) }
 {
     for change in changes {
-        make_change(state, change)?;
+        make_change(kept, change)?;
     }
     Ok(())
 }
 
-fn make_change(state: &mut KeyState<Cases>, change: Change) -> Result<(), OutOfMemory>
-    requires whole { state.old.spoiled ≡ false }
-    requires can { CanChange change state.old.present }
-    ensures { OnOk result (IsChanged change state.old state.new) }
+fn make_change(kept: &mut KeyFindings<Cases>, change: Change) -> Result<(), OutOfMemory>
+    requires { (Q : OnKey) × Shows cases Q kept.old × CanChange change Q }
+    ensures { OnOk result (IsChanged change kept.old kept.new) }
 {
-    let changed = match change {
-        Change::Arrive(part) => state.arrive(part),
-        Change::Resolve(id, outcome) => state.resolve(id, outcome),
-        Change::Withdraw(id) => state.withdraw(id),
-        Change::SetUp(value) => state.set_up(value),
-    };
-    match changed {
+    match mend(kept, change) {
         Ok(()) => Ok(()),
         Err(_) => Err(AllocError),
+    }
+}
+
+fn mend(kept: &mut KeyFindings<Cases>, change: Change) -> Result<(), KeyFault>
+    requires { (Q : OnKey) × Shows cases Q kept.old × CanChange change Q }
+    ensures { OnOk result (IsChanged change kept.old kept.new) }
+{
+    match change {
+        Change::Arrive(part) => kept.arrive(&part),
+        Change::Resolve(part, outcome) => {
+            let mut part = part;
+            kept.resolve(&mut part, outcome)
+        }
+        Change::Withdraw(part) => kept.withdraw(&part),
+        Change::SetUp(value) => kept.set_up(value),
     }
 }

@@ -1,32 +1,34 @@
-//! The states of many keys, and the keys on which something is found.
+//! What is kept of many keys, and the keys on which something is found.
 
-ghost use Rattle.std.specs.Prelude.{◌≡◌, ◌↔◌, ℕ, List, false, true, Some, None, IsTrue, OnOk, IfOk, ◌++◌};
+ghost use Rattle.std.specs.Prelude.{◌≡◌, ℕ, List, [], ◌∷◌, OnOk, IfOk, ◌++◌};
 ghost use Rattle.std.specs.HashMap.{get};
 ghost use Rattle.std.specs.BTreeSet.{IsOrdered, Updates};
 ghost use Rattle.std.specs.Ordering.{nat_cmp};
 ghost use Rattle.std.specs.Cmp.Lexicographic.{slice_cmp};
-ghost use Rattle.std.specs.List.{Contains, flat_map};
+ghost use Rattle.std.specs.List.{flat_map};
 ghost use Rattle.si_model.specs.declared.parts.OnKey.{OnKey};
 ghost use Rattle.si_model.specs.Operations.{same_key};
 ghost use Rattle.si_model.specs.Findings.{cases, findings_on};
 ghost use Rattle.si_judge.specs.Following.{empty_key};
-ghost use Rattle.si_judge.specs.States.{State};
+ghost use Rattle.si_judge.specs.Kept.{Shows};
 ghost use Rattle.si_shard.specs.Changes.{LeadsTo};
-ghost use Rattle.si_shard.specs.Keyed.{AreChangedAll, AreStates, CanChangeAll, IsChangedAt, IsChangedIn, IsLeft, IsWhole, findings_at, on, present_in};
+ghost use Rattle.si_shard.specs.Keyed.{AreChangedAll, AreOn, CanChangeAll, IsChangedAt, IsChangedIn, IsLeft, IsOn, ShowsAt, findings_at};
 
 use crate::changes::{Change, make_changes};
 use crate::waiting::Lists;
-use si_judge::{Cases, KeyState};
+use si_judge::{Cases, KeyFindings};
 use si_model::{Finding, Key, OutOfMemory};
 use std::alloc::{AllocError, Global};
 use std::collections::{BTreeSet, HashMap};
 use std::hash::RandomState;
 
-/// The states of the keys on which anything is. A key on which nothing is has no state.
+/// What is kept of the keys. Of a key nothing is kept where it is bare.
+///
+/// Which transactions are on a key isn't known here: contracts say what is so of whatever may be on it.
 #[derive(Drop)]
 pub struct KeyStates {
     alloc: Global,
-    states: HashMap<Key, KeyState<Cases>, RandomState>,
+    states: HashMap<Key, KeyFindings<Cases>, RandomState>,
     // The keys on which something is found, in order, so that findings cost what is found.
     found: BTreeSet<Key>,
 }
@@ -34,14 +36,13 @@ pub struct KeyStates {
 /// What a change left on a key.
 #[derive(Clone, Copy)]
 struct Left {
-    is_empty: bool,
+    is_bare: bool,
     has_findings: bool,
 }
 
 impl KeyStates {
     pub fn new(alloc: Global, hash: RandomState) -> Self
-        ensures states { AreStates result }
-        ensures nothing { (x : List ℕ) → on result x ≡ empty_key }
+        ensures { (x : List ℕ) → IsOn result x empty_key }
     {
         KeyStates {
             alloc,
@@ -52,10 +53,8 @@ impl KeyStates {
 
     /// Makes the changes of each key, one key after the other, so that what is known of a key is looked for once.
     pub fn change_all(&mut self, lists: Lists) -> Result<(), OutOfMemory>
-        requires states { AreStates self.old }
-        requires can { CanChangeAll lists self.old }
-        ensures states { OnOk result (AreStates self.new) }
-        ensures changed { OnOk result (AreChangedAll lists self.old self.new) }
+        requires { CanChangeAll lists self.old }
+        ensures { OnOk result (AreChangedAll lists self.old self.new) }
     {
         for (key, list) in lists {
             self.change(&key, list.changes)?;
@@ -63,15 +62,23 @@ impl KeyStates {
         Ok(())
     }
 
+    /// Makes one change of the key.
+    pub fn change_one(&mut self, key: &Key, change: Change) -> Result<(), OutOfMemory>
+        requires { (Q : OnKey) × (R : OnKey) × IsOn self.old key.now Q × LeadsTo (change ∷ []) Q R }
+        ensures { OnOk result (IsChangedAt key.now (change ∷ []) self.old self.new) }
+    {
+        let mut changes = Vec::with_capacity(self.alloc, 1)?;
+        changes.push(change)?;
+        self.change(key, changes)
+    }
+
     fn change(&mut self, key: &Key, changes: Vec<Change>) -> Result<(), OutOfMemory>
-        requires states { AreStates self.old }
-        requires can { (after : OnKey) × LeadsTo changes.items (on self.old key.now) after }
-        ensures states { OnOk result (AreStates self.new) }
-        ensures changed { OnOk result (IsChangedAt key.now changes.items self.old self.new) }
+        requires { (Q : OnKey) × (R : OnKey) × IsOn self.old key.now Q × LeadsTo changes.items Q R }
+        ensures { OnOk result (IsChangedAt key.now changes.items self.old self.new) }
     {
         let left = change_in(self.alloc, &mut self.states, key, changes)?;
         keep_found(&mut self.found, key, left.has_findings)?;
-        if left.is_empty {
+        if left.is_bare {
             self.states.remove(key);
         }
         Ok(())
@@ -79,8 +86,7 @@ impl KeyStates {
 
     /// The findings on the keys, in order.
     pub fn findings(&self) -> Result<Vec<Finding>, OutOfMemory>
-        requires { AreStates self.now }
-        ensures found { IfOk result (λ all. all.items ≡ flat_map (findings_at self.now) self.now.found.keys) }
+        ensures found { IfOk result (λ all. (on : List ℕ → OnKey) → AreOn self.now on → all.items ≡ flat_map (findings_at on) self.now.found.keys) }
         ensures ordered { IsOrdered (slice_cmp nat_cmp) self.now.found }
     {
         let mut all = Vec::new(self.alloc);
@@ -91,11 +97,10 @@ impl KeyStates {
     }
 
     fn add_findings(&self, key: &Key, all: &mut Vec<Finding>) -> Result<(), OutOfMemory>
-        requires { AreStates self.now }
-        ensures { OnOk result (all.new.items ≡ all.old.items ++ findings_at self.now key.now) }
+        ensures { OnOk result ((Q : OnKey) → IsOn self.now key.now Q → all.new.items ≡ all.old.items ++ findings_on cases key.now Q) }
     {
-        if let Some(state) = self.states.get(key) {
-            let Ok(mut found) = state.findings() else {
+        if let Some(kept) = self.states.get(key) {
+            let Ok(mut found) = kept.findings() else {
                 return Err(AllocError);
             };
             all.append(&mut found)?;
@@ -104,25 +109,24 @@ impl KeyStates {
     }
 }
 
-/// Makes the changes in the state of the key, which is a new one where there was none.
+/// Makes the changes in what is kept of the key, which is begun where nothing was.
 fn change_in(
     alloc: Global,
-    states: &mut HashMap<Key, KeyState<Cases>, RandomState>,
+    states: &mut HashMap<Key, KeyFindings<Cases>, RandomState>,
     key: &Key,
     changes: Vec<Change>,
 ) -> Result<Left, OutOfMemory>
-    requires whole { (s : State) → get same_key states.old key.now ≡ Some s → IsWhole key.now s }
-    requires can { (after : OnKey) × LeadsTo changes.items (present_in (get same_key states.old key.now)) after }
-    ensures { IfOk result (λ left. IsChangedIn key.now changes.items left.is_empty left.has_findings states.old states.new) }
+    requires { (Q : OnKey) × (R : OnKey) × ShowsAt key.now (get same_key states.old key.now) Q × LeadsTo changes.items Q R }
+    ensures { IfOk result (λ left. IsChangedIn key.now changes.items left.is_bare left.has_findings states.old states.new) }
 {
-    if let Some(state) = states.get_mut(key) {
-        make_changes(state, changes)?;
-        return Ok(left_on(state));
+    if let Some(kept) = states.get_mut(key) {
+        make_changes(kept, changes)?;
+        return Ok(left_on(kept));
     }
-    let mut state = KeyState::new(alloc, key.try_clone()?, Cases::new());
-    make_changes(&mut state, changes)?;
-    let left = left_on(&state);
-    states.insert(key.try_clone()?, state)?;
+    let mut kept = KeyFindings::new(alloc, key.try_clone()?, Cases::new());
+    make_changes(&mut kept, changes)?;
+    let left = left_on(&kept);
+    states.insert(key.try_clone()?, kept)?;
     Ok(left)
 }
 
@@ -138,12 +142,11 @@ fn keep_found(found: &mut BTreeSet<Key>, key: &Key, has_findings: bool) -> Resul
     Ok(())
 }
 
-fn left_on(state: &KeyState<Cases>) -> Left
-    requires { state.now.spoiled ≡ false }
-    ensures { IsLeft result.is_empty result.has_findings state.now }
+fn left_on(kept: &KeyFindings<Cases>) -> Left
+    ensures { IsLeft result.is_bare result.has_findings kept.now }
 {
     Left {
-        is_empty: state.is_empty(),
-        has_findings: state.has_findings(),
+        is_bare: kept.is_bare(),
+        has_findings: kept.has_findings(),
     }
 }

@@ -10,6 +10,7 @@ mod keyed;
 pub mod laws;
 mod shard_ids;
 pub mod shards;
+mod straight;
 mod waiting;
 
 pub use shards::{MOST_SHARDS, Shard};

@@ -8,7 +8,8 @@ ghost use Rattle.si_model.specs.declared.parts.Placed.{Placed};
 ghost use Rattle.si_model.specs.declared.numbers.Value.{Value};
 ghost use Rattle.si_model.specs.Operations.{same_key};
 ghost use Rattle.si_shard.specs.declared.changes.Change.{Change};
-ghost use Rattle.si_shard.specs.Applied.{IsChangeOn, change_by};
+ghost use Rattle.si_shard.specs.declared.waiting.Head.{Head};
+ghost use Rattle.si_shard.specs.Applied.{IsChangeOn, change_by, part_by};
 ghost use Rattle.si_shard.specs.ShardIds.{is_ours};
 ghost use Rattle.si_shard.specs.Waiting.{AddsAccess, AddsTo, AddsToLast, AreBefore, IsGathered, IsNothing};
 
@@ -16,9 +17,17 @@ use crate::changes::Change;
 use crate::shard_ids::ShardId;
 use indexmap::IndexMap;
 use si_model::parts::Accesses;
-use si_model::{Edit, Key, Op, OutOfMemory, Part, Placed};
+use si_model::{Edit, Key, Op, OutOfMemory, Part, Placed, Stamp, Status, TxnId};
 use std::alloc::Global;
 use std::hash::RandomState;
+
+/// A transaction but for its operations.
+#[derive(Clone, Copy)]
+pub struct Head {
+    pub id: TxnId,
+    pub start: Stamp,
+    pub status: Status,
+}
 
 /// The changes of one key, in the order of their edits.
 #[derive(Drop)]
@@ -51,25 +60,26 @@ impl Waiting {
         }
     }
 
-    /// Gathers what the edit, before which so many are, is on the keys of the shard, where its transaction has these
-    /// operations. Answers whether it is anything there. It walks the operations once.
+    /// Gathers what the edit, before which so many are, is on the keys of the shard, where its transaction is this one with
+    /// these operations. Answers whether it is anything there. It walks the operations once.
     pub fn gather(
         &mut self,
         ops: &[Op],
+        head: Head,
         edit: &Edit,
         place: usize,
         id: ShardId,
     ) -> Result<bool, OutOfMemory>
         requires shards { 0 < id.shards }
         requires before { AreBefore place self.old.lists }
-        ensures gathered { OnOk result (IsGathered id ops.now edit.now place self.old.lists self.new.lists) }
-        ensures touches { IfOk result (λ touches. touches ≡ false → IsNothing id ops.now edit.now) }
+        ensures gathered { OnOk result (IsGathered id ops.now head edit.now place self.old.lists self.new.lists) }
+        ensures touches { IfOk result (λ touches. touches ≡ false → IsNothing id ops.now head edit.now) }
     {
         if let Edit::SetUp(key, _) = edit {
-            return gather_set_up(self.alloc, &mut self.lists, key, edit, place, id);
+            return gather_set_up(self.alloc, &mut self.lists, key, head, edit, place, id);
         }
         self.count = self.count.saturating_add(ops.len());
-        gather_ops(self.alloc, &mut self.lists, ops, edit, place, id)
+        gather_ops(self.alloc, &mut self.lists, ops, head, edit, place, id)
     }
 }
 
@@ -77,18 +87,19 @@ fn gather_set_up(
     alloc: Global,
     lists: &mut Lists,
     key: &Key,
+    head: Head,
     edit: &Edit,
     place: usize,
     id: ShardId,
 ) -> Result<bool, OutOfMemory>
     requires shards { 0 < id.shards }
     requires before { AreBefore place lists.old }
-    ensures gathered { OnOk result ((v : Value) (ops : List Op) → edit.now ≡ variant.SetUp key.now v → IsGathered id ops edit.now place lists.old lists.new) }
-    ensures touches { IfOk result (λ touches. touches ≡ false → (v : Value) (ops : List Op) → edit.now ≡ variant.SetUp key.now v → IsNothing id ops edit.now) }
+    ensures gathered { OnOk result ((v : Value) (ops : List Op) → edit.now ≡ variant.SetUp key.now v → IsGathered id ops head edit.now place lists.old lists.new) }
+    ensures touches { IfOk result (λ touches. touches ≡ false → (v : Value) (ops : List Op) → edit.now ≡ variant.SetUp key.now v → IsNothing id ops head edit.now) }
 {
     let ours = id.has(key);
     if ours {
-        add_access(alloc, lists, key, Placed::default(), edit, place)?;
+        add_access(alloc, lists, key, Placed::default(), head, edit, place)?;
     }
     Ok(ours)
 }
@@ -97,6 +108,7 @@ fn gather_ops(
     alloc: Global,
     lists: &mut Lists,
     ops: &[Op],
+    head: Head,
     edit: &Edit,
     place: usize,
     id: ShardId,
@@ -104,8 +116,8 @@ fn gather_ops(
     requires shards { 0 < id.shards }
     requires before { AreBefore place lists.old }
     requires other { (x : List ℕ) (v : Value) → edit.now ≡ variant.SetUp x v → ⊥ }
-    ensures gathered { OnOk result (IsGathered id ops.now edit.now place lists.old lists.new) }
-    ensures touches { IfOk result (λ touches. touches ≡ false → IsNothing id ops.now edit.now) }
+    ensures gathered { OnOk result (IsGathered id ops.now head edit.now place lists.old lists.new) }
+    ensures touches { IfOk result (λ touches. touches ≡ false → IsNothing id ops.now head edit.now) }
 {
     let mut touches = false;
     for (index, op) in ops.iter().enumerate() {
@@ -114,7 +126,7 @@ fn gather_ops(
                 place: index,
                 access: op.access(),
             };
-            add_access(alloc, lists, op.key(), placed, edit, place)?;
+            add_access(alloc, lists, op.key(), placed, head, edit, place)?;
             touches = true;
         }
     }
@@ -127,20 +139,21 @@ fn add_access(
     lists: &mut Lists,
     key: &Key,
     placed: Placed,
+    head: Head,
     edit: &Edit,
     place: usize,
 ) -> Result<(), OutOfMemory>
-    ensures { OnOk result (AddsAccess edit.now place key.now placed lists.old lists.new) }
+    ensures { OnOk result (AddsAccess head edit.now place key.now placed lists.old lists.new) }
 {
     if let Some(list) = lists.get_mut(key) {
-        add_to(alloc, list, placed, edit, place)?;
+        add_to(alloc, list, placed, head, edit, place)?;
         return Ok(());
     }
     let mut list = Waits {
         changes: Vec::with_capacity(alloc, 1)?,
         last: place,
     };
-    list.changes.push(change_of(alloc, edit, placed)?)?;
+    list.changes.push(change_of(alloc, head, edit, placed)?)?;
     lists.insert(key.try_clone()?, list)?;
     Ok(())
 }
@@ -150,53 +163,76 @@ fn add_to(
     alloc: Global,
     list: &mut Waits,
     placed: Placed,
+    head: Head,
     edit: &Edit,
     place: usize,
 ) -> Result<(), OutOfMemory>
-    ensures changes { OnOk result (AddsTo edit.now place placed list.old list.new.changes.items) }
+    ensures changes { OnOk result (AddsTo head edit.now place placed list.old list.new.changes.items) }
     ensures last { OnOk result (list.new.last ≡ place) }
 {
     if list.last == place {
         return add_to_last(&mut list.changes, placed);
     }
-    list.changes.push(change_of(alloc, edit, placed)?)?;
+    list.changes.push(change_of(alloc, head, edit, placed)?)?;
     list.last = place;
     Ok(())
 }
 
 /// One more access in the last change.
 fn add_to_last(changes: &mut Vec<Change>, placed: Placed) -> Result<(), OutOfMemory>
-    ensures { OnOk result ((e : Edit) → AddsToLast e placed changes.old.items changes.new.items) }
+    ensures { OnOk result ((h : Head) (e : Edit) → AddsToLast h e placed changes.old.items changes.new.items) }
 {
     match changes.pop() {
-        Some(Change::Arrive(part)) => {
-            let mut part = part;
-            part.accesses.push(placed)?;
-            changes.push(Change::Arrive(part))?;
+        Some(Change::Arrive(part)) => changes.push(Change::Arrive(with_access(part, placed)?))?,
+        Some(Change::Resolve(part, outcome)) => {
+            let part = with_access(part, placed)?;
+            changes.push(Change::Resolve(part, outcome))?;
         }
-        Some(other) => changes.push(other)?,
+        Some(Change::Withdraw(part)) => {
+            let part = with_access(part, placed)?;
+            changes.push(Change::Withdraw(part))?;
+        }
+        Some(set_up) => changes.push(set_up)?,
         None => {}
     }
     Ok(())
 }
 
+fn with_access(part: Part, placed: Placed) -> Result<Part, OutOfMemory>
+    ensures { IfOk result (λ more. more ≡ record part { accesses = part.accesses ++ placed ∷ [] }) }
+{
+    let mut part = part;
+    part.accesses.push(placed)?;
+    Ok(part)
+}
+
 /// What the edit is on a key where its transaction has this access.
-fn change_of(alloc: Global, edit: &Edit, placed: Placed) -> Result<Change, OutOfMemory>
-    ensures { IfOk result (λ change. change ≡ change_by edit.now (placed ∷ [])) }
+pub fn change_of(
+    alloc: Global,
+    head: Head,
+    edit: &Edit,
+    placed: Placed,
+) -> Result<Change, OutOfMemory>
+    ensures { IfOk result (λ change. change ≡ change_by head edit.now (placed ∷ [])) }
 {
     Ok(match edit {
-        Edit::Arrive(txn) => {
-            let mut accesses = Accesses::new(alloc);
-            accesses.push(placed)?;
-            Change::Arrive(Part {
-                id: txn.id,
-                start: txn.start,
-                status: txn.status,
-                accesses,
-            })
-        }
-        Edit::Resolve(id, outcome) => Change::Resolve(*id, *outcome),
-        Edit::Withdraw(id) => Change::Withdraw(*id),
+        Edit::Arrive(_) => Change::Arrive(part_by(alloc, head, placed)?),
+        Edit::Resolve(_, outcome) => Change::Resolve(part_by(alloc, head, placed)?, *outcome),
+        Edit::Withdraw(_) => Change::Withdraw(part_by(alloc, head, placed)?),
         Edit::SetUp(_, value) => Change::SetUp(*value),
+    })
+}
+
+/// What the transaction does on a key where it has this access.
+fn part_by(alloc: Global, head: Head, placed: Placed) -> Result<Part, OutOfMemory>
+    ensures { IfOk result (λ part. part ≡ part_by head (placed ∷ [])) }
+{
+    let mut accesses = Accesses::new(alloc);
+    accesses.push(placed)?;
+    Ok(Part {
+        id: head.id,
+        start: head.start,
+        status: head.status,
+        accesses,
     })
 }

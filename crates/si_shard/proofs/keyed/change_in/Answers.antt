@@ -1,18 +1,42 @@
-use Rattle.std.proofs.Common.{rules, ◌≡◌, subst}
-use Rattle.si_model.specs.Operations.{same_key}
+use Rattle.std.proofs.Common.{rules, ◌≡◌, ◌∙◌, Some, None, subst}
 use Rattle.std.specs.HashMap.{get}
-use Rattle.si_shard.specs.Changes.{IsLedBy}
-use Rattle.si_shard.specs.Keyed.{present_in}
+use Rattle.si_model.specs.Operations.{same_key}
+use Rattle.si_shard.specs.Keyed.{ShowsAt}
 use Rattle.si_shard.proofs.keyed.change_in.Goals as goal
+
+pub make_changes-requires : goal.make_changes-requires
+make_changes-requires c =
+    let there : get same_key c.args.states.now c.args.key.now ≡ Some c.in-Some.kept.now = search rules in
+    let shown = subst (λ o. ShowsAt c.args.key.now o c.requires.0) there c.requires.2 in
+    (c.requires.0, c.requires.1, shown.1, c.requires.3)
+
+pub returns-in-Some : goal.returns-in-Some
+returns-in-Some c =
+    let there : get same_key c.args.states.now c.args.key.now ≡ Some c.in-Some.kept.now = search rules in
+    let made = c.in_ok-make_changes.ensures in
+    let shown = subst (λ o. ShowsAt c.args.key.now o c.requires.0) there c.requires.2 in
+    record {
+      kept = c.make_changes.new.kept;
+      key = made.key ∙ shown.0;
+      shows = λ Q R on leads. made.shows Q R (subst (λ o. ShowsAt c.args.key.now o Q) there on).1 leads;
+      left = c.left_on.ensures;
+      states = search rules;
+    }
+
+pub make_changes-requires-2 : goal.make_changes-requires-2
+make_changes-requires-2 c =
+    let none : get same_key c.args.states.now c.args.key.now ≡ None = search rules in
+    let bare = subst (λ o. ShowsAt c.args.key.now o c.requires.0) none c.requires.2 in
+    (c.requires.0, c.requires.1, c.new-kept.ensures.shows c.requires.0 bare.0 bare.1, c.requires.3)
 
 pub returns : goal.returns
 returns c =
+    let none : get same_key c.args.states.now c.args.key.now ≡ None = search rules in
     let made = c.in_ok-make_changes-2.ensures in
-    let none : c.new-state.result.present ≡ present_in (get same_key c.args.states.now c.args.key.now) = search rules in
     record {
-      state = c.make_changes-2.new.state;
-      whole = record { key = search rules; history = made.history; whole = made.whole };
-      present = subst (λ Q. IsLedBy c.args.changes.items Q c.make_changes-2.new.state.present) none made.present;
+      kept = c.make_changes-2.new.kept;
+      key = search rules;
+      shows = λ Q R on leads. (let bare = subst (λ o. ShowsAt c.args.key.now o Q) none on in made.shows Q R (c.new-kept.ensures.shows Q bare.0 bare.1) leads);
       left = c.left_on-left.ensures;
       states = search rules;
     }

@@ -9,7 +9,7 @@ returns-in-Some c =
     let there : Some c.in-Some.list.now ≡ get same_key c.args.lists.now c.args.key.now = search rules in
     record {
       list = c.add_to.new.list;
-      changes = subst (λ o. AddsToSome c.args.edit.now c.args.place c.args.placed o c.add_to.new.list.changes.items) there c.in_ok-add_to.ensures.changes;
+      changes = subst (λ o. AddsToSome c.args.head c.args.edit.now c.args.place c.args.placed o c.add_to.new.list.changes.items) there c.in_ok-add_to.ensures.changes;
       last = c.in_ok-add_to.ensures.last;
       updates = search rules;
     }
@@ -19,7 +19,7 @@ returns c =
     let none : None ≡ get same_key c.args.lists.now c.args.key.now = search rules in
     record {
       list = record { changes = c.push.new.self; last = c.args.place };
-      changes = subst (λ o. AddsToSome c.args.edit.now c.args.place c.args.placed o c.push.new.self.items) none (search rules);
+      changes = subst (λ o. AddsToSome c.args.head c.args.edit.now c.args.place c.args.placed o c.push.new.self.items) none (search rules);
       last = search rules;
       updates = search rules;
     }

@@ -3,28 +3,19 @@ use Rattle.std.specs.Ordering.{eq_by_cmp}
 use Rattle.si_judge.specs.declared.indexes.Indexes.{Indexes}
 use Rattle.si_judge.specs.Maps.{AreInserted}
 use Rattle.si_judge.specs.Spread.{at_value, value_cmp}
-use Rattle.si_judge.specs.Indexes.{AreIndexes, Joins, present_in}
 use Rattle.si_judge.specs.Readers.{reader_cmp, own_at}
 use Rattle.si_judge.proofs.Coming.{came, lacks_version}
 use Rattle.si_judge.proofs.indexes.Indexes.put_in.Goals as goal
 
 pub add_version-requires : goal.add_version-requires
-add_version-requires c = lacks_version c.args.self.now c.args.part c.requires.indexes c.requires.fits
+add_version-requires c = lacks_version c.args.self.now c.args.part.now c.requires.fits.1 c.requires.fits.2
 
-after : goal.In_ok-insert → Indexes
-after c = record { initial = c.args.self.now.initial; parts = c.insert.new.self; timeline = c.add_version.new.timeline; writes = c.insert_writes.new.map; readers = c.insert_all.new.self }
+after : goal.In_ok-add_version → Indexes
+after c = record { initial = c.args.self.now.initial; timeline = c.add_version.new.timeline; writes = c.insert_writes.new.map; readers = c.insert_all.new.self }
 
-whole : (c : goal.In_ok-insert) → AreIndexes (after c) × Joins c.args.part (present_in c.args.self.now) (present_in (after c))
+pub returns : goal.returns
 unfolding after
-whole c = came c.args.self.now (after c) c.args.part c.requires.indexes c.requires.fits refl c.in_ok-insert.ensures
+returns c = λ M R is joins history. came c.args.self.now (after c) c.args.part.now is joins history refl
     (subst (λ l. AreInserted (eq_by_cmp value_cmp) (at_value c.args.self.now.writes) l (at_value c.insert_writes.new.map)) c.requires.writes c.in_ok-insert_writes.ensures)
     (subst (λ l. AreInserted (eq_by_cmp reader_cmp) (own_at c.args.self.now.readers) l (own_at c.insert_all.new.self)) c.requires.reads c.in_ok-insert_all.ensures.values)
-    c.in_ok-add_version.ensures (c.in_ok-insert_all.ensures.ordered c.requires.indexes.ordered)
-
-pub returns-clause-indexes : goal.returns-clause-indexes
-unfolding after
-returns-clause-indexes c = (whole c).0
-
-pub returns-clause-joined : goal.returns-clause-joined
-unfolding after
-returns-clause-joined c = (whole c).1
+    c.in_ok-add_version.ensures (c.in_ok-insert_all.ensures.ordered is.ordered)

@@ -1,30 +1,11 @@
-use Rattle.std.proofs.Common.{◌≡◌, ◌∙◌, ◌⊎◌, inl, inr, ◌↔◌, ℕ, ◌+◌, ◌<◌, IsTrue, nat_lt, length, ap, arith, subst}
+use Rattle.std.proofs.Common.{◌∙◌, ◌↔◌, IsTrue, ap, subst}
 use Rattle.std.specs.List.{Contains}
-use Rattle.std.proofs.lemmas.Bool.{cases_lt, lt-ltb, ltb-true}
 use Rattle.si_model.specs.declared.findings.Finding.{Finding}
 use Rattle.si_model.specs.Findings.{findings_on}
-use Rattle.si_judge.specs.Indexes.{present_in}
-use Rattle.si_judge.proofs.Listed.{some_found, some_kept}
+use Rattle.si_judge.specs.States.{present_of}
 use Rattle.si_judge.proofs.states.KeyState.has_findings.Goals as goal
-
-either : (a b m n : ℕ) → a ≡ m → b ≡ n → 0 < a + b → (0 < m) ⊎ (0 < n)
-either a b m n e f lt = elim (cases_lt 0 m) [ inl some ↦ inl some | inr none ↦ inr (omega (arith, e, f, lt, none)) ]
-
-together : (a b m n : ℕ) → a ≡ m → b ≡ n → (0 < m) ⊎ (0 < n) → 0 < a + b
-together a b m n e f (inl some) = omega (arith, e, f, some)
-together a b m n e f (inr some) = omega (arith, e, f, some)
 
 pub returns : goal.returns
 returns g c = λ whole.
-    let inv = c.self.invariant (ap (λ s. s.spoiled) c.self.view_is ∙ whole) in
-    let J = g.J.Judge.rules in
-    let Q = present_in c.self.inside.indexes in
-    let m = c.self.inside.judgements in
-    let a = c.len-reads.result in
-    let b = c.len-overlaps.result in
-    subst (λ s. IsTrue (nat_lt 0 (a + b)) ↔ ((f : Finding) × Contains (findings_on J s.key s.present) f)) c.self.view_is (
-      (λ t. some_found J Q inv.0.history m.reads m.overlaps inv.1 inv.2 c.len-reads.ensures.ordered c.len-overlaps.ensures.ordered c.self.inside.key
-          (either a b (length m.reads.entries) (length m.overlaps.entries) c.len-reads.ensures.len c.len-overlaps.ensures.len (ltb-true 0 (a + b) t))),
-      (λ x. lt-ltb 0 (a + b) (together a b (length m.reads.entries) (length m.overlaps.entries) c.len-reads.ensures.len c.len-overlaps.ensures.len
-          (some_kept J Q inv.0.history m.reads m.overlaps inv.1 inv.2 c.self.inside.key x.0 x.1))),
-    )
+    subst (λ s. IsTrue c.has_findings.result ↔ ((f : Finding) × Contains (findings_on g.J.Judge.rules s.key s.present) f)) c.self.view_is
+    (c.has_findings.ensures (present_of c.self.inside.findings c.self.inside.parts) (c.self.invariant (ap (λ s. s.spoiled) c.self.view_is ∙ whole)))

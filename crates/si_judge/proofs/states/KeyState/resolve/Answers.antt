@@ -1,46 +1,60 @@
-use Rattle.std.proofs.Common.{◌≡◌, false, subst, sym}
-use Rattle.si_model.specs.KeyEdits.{resolved_on}
+use Rattle.std.proofs.Common.{◌≡◌, ◌∙◌, ◌∷◌, [], ◌++◌, ap, false, subst, sym}
+use Rattle.si_model.specs.declared.parts.OnKey.{OnKey}
+use Rattle.si_model.specs.declared.parts.Part.{Part}
+use Rattle.si_model.specs.Edits.{status_after}
+use Rattle.si_model.specs.KeyEdits.{arrived_on, resolved_on}
 use Rattle.si_model.specs.History.{IsOfHistory}
-use Rattle.si_judge.specs.Indexes.{Fits, Joins, present_in}
-use Rattle.si_judge.specs.Mending.{IsJudgedWith, found_by}
-use Rattle.si_judge.specs.States.{HasDoubt, IsMended}
+use Rattle.si_judge.specs.Indexes.{Joins}
+use Rattle.si_judge.specs.Kept.{IsShown}
+use Rattle.si_judge.specs.States.{HasDoubt, IsMended, present_of}
 use Rattle.si_judge.specs.Touched.{IsTouched}
-use Rattle.si_judge.proofs.Mendings.{IsWhole, mended, resolution_fits, resolved, taken_in_doubt}
+use Rattle.si_judge.proofs.Beside.{asked_of, joins_rest, mended_beside, resolved_history, resolved_same, shows_beside, without}
 use Rattle.si_judge.proofs.states.KeyState.resolve.Goals as goal
 
-pub add-requires-clause-fits : goal.add-requires-clause-fits
-add-requires-clause-fits g c =
-    let Q = present_in c.self.inside.indexes in
-    let T = c.in_ok-taken.taken.part in
-    let M = present_in c.take_out.new.self in
-    let asked = subst (λ s. s.spoiled ≡ false → HasDoubt s.present c.args.id × IsOfHistory (resolved_on c.args.id c.args.outcome s.present)) (sym c.self.view_is) c.requires c.if-self.false in
-    let history = subst (λ u. IsOfHistory (resolved_on u c.args.outcome Q)) (sym c.in_ok-taken.ensures.id) asked.1 in
-    subst (λ s. Fits (record T { status = s }) M) (sym c.status-taken.ensures) (resolution_fits T c.args.outcome M Q c.in_ok-taken.ensures.joined history)
+pub resolve-requires : goal.resolve-requires
+resolve-requires g c = λ whole.
+    let T = c.in_ok-part.part in
+    let Q = present_of c.self.inside.findings c.self.inside.parts in
+    let shows = c.self.invariant c.if-self.false in
+    let of_id = subst (λ s. s.spoiled ≡ false → HasDoubt s.present c.args.id × IsOfHistory (resolved_on c.args.id c.args.outcome s.present)) (sym c.self.view_is) c.requires c.if-self.false in
+    let asked = asked_of T (without Q c.remove.new.self) Q c.args.id c.args.outcome shows.indexes.history (joins_rest T Q c.remove.new.self c.in_ok-part.ensures.left) c.in_ok-part.ensures.id of_id in
+    (Q, shows, asked.0, asked.1)
 
-whole : (g : _) (c : goal.After-drop-taken-3 g) → IsWhole g.J.Judge.rules (resolved_on c.args.id c.args.outcome (present_in c.self.inside.indexes)) (present_in c.self.inside.indexes) (present_in c.add.new.indexes) c.args.id
-    (found_by g.J.Judge.answers c.self.inside.judgements) (found_by g.J.Judge.answers c.add.new.judgements)
-whole g c =
-    let J = g.J.Judge.rules in
-    let inv = c.self.invariant c.if-self.false in
-    let Q = present_in c.self.inside.indexes in
-    let T = c.in_ok-taken.taken.part in
-    let o = c.args.outcome in
-    let ix = c.take_out.new.self in
-    let new_ix = c.add.new.indexes in
-    let old = found_by g.J.Judge.answers c.self.inside.judgements in
-    let new = found_by g.J.Judge.answers c.add.new.judgements in
-    let asked = subst (λ s. s.spoiled ≡ false → HasDoubt s.present c.args.id × IsOfHistory (resolved_on c.args.id o s.present)) (sym c.self.view_is) c.requires c.if-self.false in
-    let doubt = taken_in_doubt T (present_in ix) Q inv.0.history c.in_ok-taken.ensures.joined (subst (HasDoubt Q) (sym c.in_ok-taken.ensures.id) asked.0) in
-    let joined = subst (λ s. Joins (record T { status = s }) (present_in ix) (present_in new_ix)) c.status-taken.ensures c.in_ok-add.ensures.joined in
-    let judged = subst (λ s. IsJudgedWith J (record T { status = s }) ix new_ix old new) c.status-taken.ensures c.in_ok-add.ensures.judged in
-    subst (λ u. IsWhole J (resolved_on u o Q) Q (present_in new_ix) u old new) c.in_ok-taken.ensures.id
-    (resolved J ix new_ix T o Q old new c.in_ok-taken.ensures.indexes c.in_ok-add.ensures.indexes inv.0.history c.in_ok-taken.ensures.joined doubt joined (record { reads = inv.1; overlaps = inv.2 }) judged)
+module _ (g : _) (c : goal.After-self-2-1 g) where
+  abbrev Q : OnKey
+  Q = present_of c.self.inside.findings c.self.inside.parts
+
+  abbrev T : Part
+  T = c.in_ok-part.part
+
+  abbrev R : OnKey
+  R = arrived_on (record T { status = status_after c.args.outcome }) (without Q c.remove.new.self)
+
+  joins : Joins T (without Q c.remove.new.self) Q
+  joins = joins_rest T Q c.remove.new.self c.in_ok-part.ensures.left
+
+  shown : IsShown g.J.Judge.rules (IsTouched Q R T.id) R c.self.inside.findings c.resolve.new.self
+  shown =
+      let shows = c.self.invariant c.if-self.false in
+      let of_id = subst (λ s. s.spoiled ≡ false → HasDoubt s.present c.args.id × IsOfHistory (resolved_on c.args.id c.args.outcome s.present)) (sym c.self.view_is) c.requires c.if-self.false in
+      let asked = asked_of T (without Q c.remove.new.self) Q c.args.id c.args.outcome shows.indexes.history joins c.in_ok-part.ensures.id of_id in
+      c.in_ok-resolve.ensures.ok Q R shows asked.0 (resolved_same T (without Q c.remove.new.self) Q c.args.outcome joins)
+      (resolved_history T (without Q c.remove.new.self) Q c.args.outcome joins c.in_ok-part.ensures.named asked.1)
+
+  parts_are : c.insert.new.self ≡ R.parts
+  parts_are = c.in_ok-insert.ensures ∙ ap (λ X. c.remove.new.self ++ X ∷ []) c.in_ok-resolve.ensures.part
 
 pub invariant_of-self-2 : goal.invariant_of-self-2
-invariant_of-self-2 g c = λ e. let w = whole g c in (c.in_ok-add.ensures.indexes, w.right.reads, w.right.overlaps)
+invariant_of-self-2 g c = λ e. shows_beside g.J.Judge.rules (R g c) c.resolve.new.self c.insert.new.self (shown g c).shows (parts_are g c)
 
 pub returns-clause-ok : goal.returns-clause-ok
-returns-clause-ok g c = subst (λ s. IsMended (IsTouched s.present (present_in c.add.new.indexes) c.args.id) (resolved_on c.args.id c.args.outcome s.present) s
-    (record { key = c.self.inside.key; present = present_in c.add.new.indexes; judged = g.J.Judge.answers c.add.new.judgements.judge; spoiled = false })) c.self.view_is
-    (mended g.J.Judge.rules (resolved_on c.args.id c.args.outcome (present_in c.self.inside.indexes)) (present_in c.self.inside.indexes) (present_in c.add.new.indexes) c.args.id
-    (found_by g.J.Judge.answers c.self.inside.judgements) (found_by g.J.Judge.answers c.add.new.judgements) c.self.inside.key c.self.inside.spoiled (whole g c) c.in_ok-add.ensures.indexes.history)
+returns-clause-ok g c =
+    let findings = c.resolve.new.self in
+    let parts = c.insert.new.self in
+    let o = c.args.outcome in
+    subst (λ s. IsMended (IsTouched s.present (present_of findings parts) c.args.id) (resolved_on c.args.id o s.present) s
+    (record { key = findings.key; present = present_of findings parts; judged = findings.judged; spoiled = false })) c.self.view_is
+    (subst (λ u. IsMended (IsTouched (Q g c) (present_of findings parts) u) (resolved_on u o (Q g c)) (record { key = c.self.inside.findings.key; present = Q g c; judged = c.self.inside.findings.judged; spoiled = c.self.inside.spoiled })
+    (record { key = findings.key; present = present_of findings parts; judged = findings.judged; spoiled = false })) c.in_ok-part.ensures.id
+    (mended_beside g.J.Judge.rules (λ N. IsTouched (Q g c) N (T g c).id) (resolved_on (T g c).id o (Q g c)) (Q g c) (R g c) c.self.inside.findings findings parts c.self.inside.spoiled (shown g c)
+    (resolved_same (T g c) (without (Q g c) c.remove.new.self) (Q g c) o (joins g c)) (parts_are g c) c.resolve.ensures.key))

@@ -1,30 +1,51 @@
-use Rattle.std.proofs.Common.{false, subst}
+use Rattle.std.proofs.Common.{false, inl, refl, subst}
+use Rattle.si_model.specs.declared.parts.OnKey.{OnKey}
 use Rattle.si_model.specs.KeyEdits.{withdrawn_on}
-use Rattle.si_judge.specs.Indexes.{present_in}
-use Rattle.si_judge.specs.Mending.{found_by}
-use Rattle.si_judge.specs.States.{IsMended}
+use Rattle.si_judge.specs.Indexes.{Joins}
+use Rattle.si_judge.specs.Kept.{IsShown}
+use Rattle.si_judge.specs.States.{AreSameOnKey, IsMended, present_of}
 use Rattle.si_judge.specs.Touched.{IsTouched}
-use Rattle.si_judge.proofs.Mendings.{IsWhole, mended, withdrawn}
+use Rattle.si_judge.proofs.Asked.{same_without, withdrawal_joins}
+use Rattle.si_judge.proofs.Beside.{joins_rest, mended_beside, shows_beside, taken_there, without}
+use Rattle.si_judge.proofs.Coming.{history_within}
 use Rattle.si_judge.proofs.states.KeyState.withdraw.Goals as goal
 
-whole : (g : _) (c : goal.After-drop-taken-4 g) → IsWhole g.J.Judge.rules (withdrawn_on c.args.id (present_in c.self.inside.indexes)) (present_in c.self.inside.indexes) (present_in c.take_out.new.self) c.args.id
-    (found_by g.J.Judge.answers c.self.inside.judgements) (found_by g.J.Judge.answers c.drop_out.new.judgements)
-whole g c =
-    let J = g.J.Judge.rules in
-    let inv = c.self.invariant c.if-self.false in
-    let Q = present_in c.self.inside.indexes in
-    let T = c.in_ok-taken.taken.part in
-    let ix = c.take_out.new.self in
-    let old = found_by g.J.Judge.answers c.self.inside.judgements in
-    let new = found_by g.J.Judge.answers c.drop_out.new.judgements in
-    subst (λ u. IsWhole J (withdrawn_on u Q) Q (present_in ix) u old new) c.in_ok-taken.ensures.id
-    (withdrawn J ix T Q old new c.in_ok-taken.ensures.indexes inv.0.history c.in_ok-taken.ensures.joined (record { reads = inv.1; overlaps = inv.2 }) c.in_ok-drop_out.ensures)
+pub withdraw-requires : goal.withdraw-requires
+withdraw-requires g c = λ whole.
+    let Q = present_of c.self.inside.findings c.self.inside.parts in
+    (Q, c.self.invariant c.if-self.false, taken_there c.in_ok-part.part (without Q c.remove.new.self) Q (joins_rest c.in_ok-part.part Q c.remove.new.self c.in_ok-part.ensures.left))
+
+module _ (g : _) (c : goal.Joined-part-2 g) where
+  abbrev Q : OnKey
+  Q = present_of c.self.inside.findings c.self.inside.parts
+
+  abbrev R : OnKey
+  R = without Q c.remove.new.self
+
+  joins : Joins c.in_ok-part.part R Q
+  joins = joins_rest c.in_ok-part.part Q c.remove.new.self c.in_ok-part.ensures.left
+
+  same : AreSameOnKey (withdrawn_on c.in_ok-part.part.id Q) R
+  same =
+      let T = c.in_ok-part.part in
+      same_without T (withdrawn_on T.id Q) R Q (withdrawal_joins T Q (c.self.invariant c.if-self.false).indexes.history (taken_there T R Q joins)) joins
+
+  shown : IsShown g.J.Judge.rules (IsTouched Q R c.in_ok-part.part.id) R c.self.inside.findings c.withdraw.new.self
+  shown =
+      let shows = c.self.invariant c.if-self.false in
+      c.in_ok-withdraw.ensures.ok Q R shows (taken_there c.in_ok-part.part R Q joins) same
+      (history_within Q R shows.indexes.history refl (λ X h. (joins.parts X).1 (inl h)) c.in_ok-part.ensures.named)
 
 pub invariant_of-self-2 : goal.invariant_of-self-2
-invariant_of-self-2 g c = λ e. let w = whole g c in (c.in_ok-taken.ensures.indexes, w.right.reads, w.right.overlaps)
+invariant_of-self-2 g c = λ e. shows_beside g.J.Judge.rules (R g c) c.withdraw.new.self c.remove.new.self (shown g c).shows refl
 
 pub returns-clause-ok : goal.returns-clause-ok
-returns-clause-ok g c = subst (λ s. IsMended (IsTouched s.present (present_in c.take_out.new.self) c.args.id) (withdrawn_on c.args.id s.present) s
-    (record { key = c.self.inside.key; present = present_in c.take_out.new.self; judged = g.J.Judge.answers c.drop_out.new.judgements.judge; spoiled = false })) c.self.view_is
-    (mended g.J.Judge.rules (withdrawn_on c.args.id (present_in c.self.inside.indexes)) (present_in c.self.inside.indexes) (present_in c.take_out.new.self) c.args.id
-    (found_by g.J.Judge.answers c.self.inside.judgements) (found_by g.J.Judge.answers c.drop_out.new.judgements) c.self.inside.key c.self.inside.spoiled (whole g c) c.in_ok-taken.ensures.indexes.history)
+returns-clause-ok g c =
+    let findings = c.withdraw.new.self in
+    let parts = c.remove.new.self in
+    subst (λ s. IsMended (IsTouched s.present (present_of findings parts) c.args.id) (withdrawn_on c.args.id s.present) s
+    (record { key = findings.key; present = present_of findings parts; judged = findings.judged; spoiled = false })) c.self.view_is
+    (subst (λ u. IsMended (IsTouched (Q g c) (present_of findings parts) u) (withdrawn_on u (Q g c)) (record { key = c.self.inside.findings.key; present = Q g c; judged = c.self.inside.findings.judged; spoiled = c.self.inside.spoiled })
+    (record { key = findings.key; present = present_of findings parts; judged = findings.judged; spoiled = false })) c.in_ok-part.ensures.id
+    (mended_beside g.J.Judge.rules (λ N. IsTouched (Q g c) N c.in_ok-part.part.id) (withdrawn_on c.in_ok-part.part.id (Q g c)) (Q g c) (R g c) c.self.inside.findings findings parts c.self.inside.spoiled (shown g c)
+    (same g c) refl c.withdraw.ensures.key))

@@ -3,4 +3,4 @@ use Rattle.si_shard.proofs.KeyChanges.{none_applied}
 use Rattle.si_shard.proofs.applied.Applied.new.Goals as goal
 
 pub returns : goal.returns
-returns c = λ id. none_applied id (record { alloc = c.args.alloc; hash = c.args.hash; keys = c.new.result; arrivals = c.with_hasher.result }) c.new.ensures.states c.new.ensures.nothing (λ n. search rules)
+returns c = λ id. none_applied id (record { alloc = c.args.alloc; hash = c.args.hash; keys = c.new.result; arrivals = c.with_hasher.result }) c.new.ensures (λ n. search rules)

@@ -4,35 +4,31 @@ use Rattle.si_shard.proofs.Together.{AreDone, all_done, goes_on, next_can, none_
 use Rattle.si_shard.proofs.keyed.KeyStates.change_all.Goals as goal
 
 pub loop-key-init : goal.loop-key-init
-loop-key-init c = (c.requires.states, ([], none_done c.args.self.now, sym c.into_iter-key-iterator.ensures.into_iter_gives.0))
+loop-key-init c = ([], none_done c.args.self.now, sym c.into_iter-key-iterator.ensures.into_iter_gives.0)
 
-pub change-requires-clause-can : goal.change-requires-clause-can
-change-requires-clause-can c =
-    let done = c.loop-key.invariant.1 in
+pub change-requires : goal.change-requires
+change-requires c =
+    let done = c.loop-key.invariant in
     let split = done.2 ∙ ap (λ l. done.0 ++ l) c.in-Some.ensures.steps in
-    next_can c.args.lists c.into_iter-key-iterator.ensures.into_iter_gives.4 done.0 c.next.new.self c.in-Some.key c.in-Some.list split c.args.self.now c.loop-key.self c.requires.can done.1
+    next_can c.args.lists c.into_iter-key-iterator.ensures.into_iter_gives.4 done.0 c.next.new.self c.in-Some.key c.in-Some.list split c.args.self.now c.loop-key.self c.requires done.1
 
 -- a key goes with its text, short or long
 pub loop-key-preserved : goal.loop-key-preserved
 loop-key-preserved c =
-    let done = c.loop-key.invariant.1 in
-    let split = done.2 ∙ ap (λ l. done.0 ++ l) c.in-Some.ensures.steps in (
-      c.in_ok-change.ensures.states,
-      goes_on c.args.lists c.into_iter-key-iterator.ensures.into_iter_gives.4 done.0 c.next.new.self c.in-Some.key c.in-Some.list split c.args.self.now c.loop-key.self c.change.new.self done.1
-          c.in_ok-change.ensures.changed,
-    )
+    let done = c.loop-key.invariant in
+    let split = done.2 ∙ ap (λ l. done.0 ++ l) c.in-Some.ensures.steps in
+    goes_on c.args.lists c.into_iter-key-iterator.ensures.into_iter_gives.4 done.0 c.next.new.self c.in-Some.key c.in-Some.list split c.args.self.now c.loop-key.self c.change.new.self done.1
+    c.in_ok-change.ensures
 
 pub loop-key-preserved-in_ok-change : goal.loop-key-preserved-in_ok-change
 loop-key-preserved-in_ok-change c =
-    let done = c.loop-key.invariant.1 in
-    let split = done.2 ∙ ap (λ l. done.0 ++ l) c.in-Some.ensures.steps in (
-      c.in_ok-change.ensures.states,
-      goes_on c.args.lists c.into_iter-key-iterator.ensures.into_iter_gives.4 done.0 c.next.new.self c.in-Some.key c.in-Some.list split c.args.self.now c.loop-key.self c.change.new.self done.1
-          c.in_ok-change.ensures.changed,
-    )
+    let done = c.loop-key.invariant in
+    let split = done.2 ∙ ap (λ l. done.0 ++ l) c.in-Some.ensures.steps in
+    goes_on c.args.lists c.into_iter-key-iterator.ensures.into_iter_gives.4 done.0 c.next.new.self c.in-Some.key c.in-Some.list split c.args.self.now c.loop-key.self c.change.new.self done.1
+    c.in_ok-change.ensures
 
-pub returns-clause-changed : goal.returns-clause-changed
-returns-clause-changed c =
-    let done = c.loop-key.invariant.1 in
+pub returns : goal.returns
+returns c =
+    let done = c.loop-key.invariant in
     all_done c.args.lists c.into_iter-key-iterator.ensures.into_iter_gives.4 c.args.self.now c.loop-key.self
     (subst (λ es. AreDone es c.args.self.now c.loop-key.self) (sym (done.2 ∙ ap (λ l. done.0 ++ l) c.in-None.ensures.steps.0 ∙ append-nil done.0)) done.1)

@@ -1,0 +1,24 @@
+use Rattle.std.proofs.Common.{◌≡◌, ◌∙◌, ◌++◌, ap, map, subst, sym}
+use Rattle.std.specs.BTreeMap.{values}
+use Rattle.std.proofs.lemmas.List.{map-append}
+use Rattle.si_model.specs.declared.parts.OnKey.{OnKey}
+use Rattle.si_model.specs.Findings.{finding_at, findings_on}
+use Rattle.si_model.specs.Order.{finding_cmp, in_order}
+use Rattle.si_model.proofs.FindingOrder.{exact_findings}
+use Rattle.si_judge.specs.Kept.{Shows}
+use Rattle.si_judge.proofs.Listed.{listed}
+use Rattle.si_judge.proofs.key_findings.KeyFindings.findings.Goals as goal
+
+pub put_in_order-requires : goal.put_in_order-requires
+put_in_order-requires g c = record { exact = exact_findings }
+
+pub returns-clause-ok : goal.returns-clause-ok
+returns-clause-ok g c =
+    let J = g.J.Judge.rules in
+    let m = c.self.inside.judgements in
+    let at = finding_at c.self.inside.key in
+    let items = c.in_ok-add_findings-2.ensures.added ∙ ap (λ l. l ++ map at (values m.overlaps)) (c.in_ok-add_findings.ensures.added ∙ ap (λ l. l ++ map at (values m.reads)) c.new-found.ensures.items)
+    ∙ sym (map-append at (values m.reads) (values m.overlaps)) in
+    subst (λ s. (M : OnKey) → Shows J M s → c.put_in_order.new.items.items ≡ findings_on J s.key M) c.self.view_is (λ M shows.
+    let all = listed J M shows.indexes.history m.reads m.overlaps shows.right.reads shows.right.overlaps c.in_ok-add_findings.ensures.ordered c.in_ok-add_findings-2.ensures.ordered c.self.inside.key in
+    c.put_in_order.ensures ∙ ap (in_order finding_cmp) items ∙ all)

@@ -1,0 +1,329 @@
+ghost use Rattle.std.specs.Prelude.{◌≡◌, ◌↔◌, ◌++◌, List, None, Some, Option, Err, false, true, IfOk, IsTrue, OnErr, OnOk, map};
+ghost use Rattle.std.specs.List.{Contains};
+ghost use Rattle.si_model.specs.declared.parts.OnKey.{OnKey};
+ghost use Rattle.si_model.specs.declared.findings.Finding.{Finding};
+ghost use Rattle.std.specs.BTreeMap.{IsOrdered, values};
+ghost use Rattle.si_model.specs.Edits.{status_after};
+ghost use Rattle.si_model.specs.Findings.{finding_at, findings_on};
+ghost use Rattle.si_model.specs.History.{IsOfHistory};
+ghost use Rattle.si_model.specs.KeyEdits.{arrived_on, resolved_on, set_up_on, withdrawn_on};
+ghost use Rattle.si_judge.specs.declared.states.KeyFault.TheVariants as fault;
+ghost use Rattle.si_judge.specs.Touched.{IsTouched, IsTouchedBySetUp};
+ghost use Rattle.si_judge.specs.States.{AreSameOnKey};
+ghost use Rattle.si_judge.specs.Kept.{IsBare, IsInDoubt, IsShown, Shows};
+ghost use Rattle.si_judge.specs.declared.reads.Reader.{Reader};
+ghost use Rattle.si_judge.specs.Indexes.{AreIndexes, AreReadsBefore, AreTouchedReads, Fits, Joins, reads_in, version_of, writes_of};
+ghost use Rattle.si_judge.specs.Mending.{IsJudgedWith, IsJudgedWithout, found_by};
+
+use crate::Judge;
+use crate::indexes::{Indexes, TakenOut};
+use crate::judgements::Judgements;
+use crate::reads::{OwnRead, Write, reads_in, version_of, writes_of};
+use crate::states::KeyFault;
+use si_model::sorting::put_in_order;
+use si_model::{Finding, Key, Kind, OutOfMemory, Outcome, Part, Value};
+use std::alloc::Global;
+use std::collections::BTreeMap;
+use std::marker::Model;
+
+/// The findings on one key, mended after each edit, without the transactions there.
+///
+/// Who asks for an edit knows what is on the key, and hands over the part of the transaction. Contracts say what the edit makes
+/// of whatever is on the key. An edit for which the growth of some memory is refused spoils the findings for good.
+#[derive(Drop)]
+pub struct KeyFindings<J: Judge + Drop> {
+    alloc: Global,
+    key: Key,
+    indexes: Indexes,
+    judgements: Judgements<J>,
+    // True from the beginning of an edit until it is whole, and so for good once an edit wanted memory.
+    spoiled: bool,
+}
+
+impl<J: Judge + Drop> Model for KeyFindings<J> {
+    ghost use Rattle.si_judge.specs.Kept.{Kept};
+
+    ghost Value = { Kept };
+
+    ghost view = { λ s. record {
+      key = s.key;
+      indexes = s.indexes;
+      reads = s.judgements.reads.entries;
+      overlaps = s.judgements.overlaps.entries;
+      judged = J.answers s.judgements.judge;
+      spoiled = s.spoiled;
+    } };
+}
+
+impl<J: Judge + Drop> KeyFindings<J> {
+    /// The findings on a key on which nothing is. It takes no memory.
+    pub fn new(alloc: Global, key: Key, judge: J) -> Self
+        ensures key { result.key ≡ key }
+        ensures judged { result.judged ≡ J.answers judge }
+        ensures shows { (M : OnKey) → IsOfHistory M → IsBare M → Shows J.rules M result }
+    {
+        KeyFindings {
+            alloc,
+            key,
+            indexes: Indexes::new(alloc),
+            judgements: Judgements::new(alloc, judge),
+            spoiled: false,
+        }
+    }
+
+    /// A transaction arrives that does this on the key.
+    ///
+    /// `Spoiled` says that an earlier edit wanted memory, and nothing changes; `OutOfMemory` that the growth of some memory was
+    /// refused, and the findings are spoiled from then on.
+    pub fn arrive(&mut self, part: &Part) -> Result<(), KeyFault>
+        requires { self.old.spoiled ≡ false → (M : OnKey) × Shows J.rules M self.old × IsOfHistory (arrived_on part.now M) }
+        ensures ok { OnOk result ((M : OnKey) → Shows J.rules M self.old → IsOfHistory (arrived_on part.now M)
+            → IsShown J.rules (IsTouched M (arrived_on part.now M) part.now.id) (arrived_on part.now M) self.old self.new) }
+        ensures spoiled { (result ≡ Err fault.Spoiled) ↔ (self.old.spoiled ≡ true) }
+        ensures unchanged { self.old.spoiled ≡ true → self.new ≡ self.old }
+        ensures wanting { OnErr result (self.new.spoiled ≡ true) }
+        ensures key { self.new.key ≡ self.old.key }
+    {
+        if self.spoiled {
+            return Err(KeyFault::Spoiled);
+        }
+        self.spoiled = true;
+        add(self.alloc, &mut self.indexes, &mut self.judgements, part)?;
+        self.spoiled = false;
+        Ok(())
+    }
+
+    /// The transaction that does this on the key, and is in doubt, is resolved. It becomes what it is from then on.
+    ///
+    /// `Spoiled` says that an earlier edit wanted memory, and nothing changes; `OutOfMemory` that the growth of some memory was
+    /// refused, and the findings are spoiled from then on.
+    pub fn resolve(&mut self, part: &mut Part, outcome: Outcome) -> Result<(), KeyFault>
+        requires { self.old.spoiled ≡ false → (M : OnKey) × Shows J.rules M self.old × IsInDoubt part.old M
+            × IsOfHistory (resolved_on part.old.id outcome M) }
+        ensures ok { OnOk result ((M R : OnKey) → Shows J.rules M self.old → IsInDoubt part.old M → AreSameOnKey (resolved_on part.old.id outcome M) R
+            → IsOfHistory R → IsShown J.rules (IsTouched M R part.old.id) R self.old self.new) }
+        ensures part { OnOk result (part.new ≡ record part.old { status = status_after outcome }) }
+        ensures spoiled { (result ≡ Err fault.Spoiled) ↔ (self.old.spoiled ≡ true) }
+        ensures unchanged { self.old.spoiled ≡ true → self.new ≡ self.old }
+        ensures wanting { OnErr result (self.new.spoiled ≡ true) }
+        ensures key { self.new.key ≡ self.old.key }
+    {
+        if self.spoiled {
+            return Err(KeyFault::Spoiled);
+        }
+        self.spoiled = true;
+        self.indexes.take_out(self.alloc, part)?;
+        part.status = outcome.status();
+        add(self.alloc, &mut self.indexes, &mut self.judgements, part)?;
+        self.spoiled = false;
+        Ok(())
+    }
+
+    /// The transaction that does this on the key is withdrawn.
+    ///
+    /// `Spoiled` says that an earlier edit wanted memory, and nothing changes; `OutOfMemory` that the growth of some memory was
+    /// refused, and the findings are spoiled from then on.
+    pub fn withdraw(&mut self, part: &Part) -> Result<(), KeyFault>
+        requires { self.old.spoiled ≡ false → (M : OnKey) × Shows J.rules M self.old × Contains M.parts part.now }
+        ensures ok { OnOk result ((M R : OnKey) → Shows J.rules M self.old → Contains M.parts part.now → AreSameOnKey (withdrawn_on part.now.id M) R
+            → IsOfHistory R → IsShown J.rules (IsTouched M R part.now.id) R self.old self.new) }
+        ensures spoiled { (result ≡ Err fault.Spoiled) ↔ (self.old.spoiled ≡ true) }
+        ensures unchanged { self.old.spoiled ≡ true → self.new ≡ self.old }
+        ensures wanting { OnErr result (self.new.spoiled ≡ true) }
+        ensures key { self.new.key ≡ self.old.key }
+    {
+        if self.spoiled {
+            return Err(KeyFault::Spoiled);
+        }
+        self.spoiled = true;
+        let taken = self.indexes.take_out(self.alloc, part)?;
+        drop_out(
+            self.alloc,
+            &self.indexes,
+            &mut self.judgements,
+            part,
+            &taken,
+        )?;
+        self.spoiled = false;
+        Ok(())
+    }
+
+    /// The key, which isn't set up, is set up with the value.
+    ///
+    /// `Spoiled` says that an earlier edit wanted memory, and nothing changes; `OutOfMemory` that the growth of some memory was
+    /// refused, and the findings are spoiled from then on.
+    pub fn set_up(&mut self, value: Value) -> Result<(), KeyFault>
+        ensures ok { OnOk result ((M : OnKey) → Shows J.rules M self.old → M.initial ≡ None → IsOfHistory (set_up_on value M)
+            → IsShown J.rules (IsTouchedBySetUp (set_up_on value M) value) (set_up_on value M) self.old self.new) }
+        ensures initial { OnOk result (self.new.indexes.initial ≡ Some value) }
+        ensures spoiled { (result ≡ Err fault.Spoiled) ↔ (self.old.spoiled ≡ true) }
+        ensures unchanged { self.old.spoiled ≡ true → self.new ≡ self.old }
+        ensures wanting { OnErr result (self.new.spoiled ≡ true) }
+        ensures key { self.new.key ≡ self.old.key }
+    {
+        if self.spoiled {
+            return Err(KeyFault::Spoiled);
+        }
+        self.spoiled = true;
+        self.indexes.initial = Some(value);
+        let mut reads = Vec::new(self.alloc);
+        self.indexes.add_readers(&mut reads, None, None)?;
+        self.indexes.add_readers(&mut reads, Some(value), None)?;
+        self.judgements
+            .judge_reads(&self.indexes, reads.as_slice())?;
+        self.spoiled = false;
+        Ok(())
+    }
+
+    /// The findings on the key, in order.
+    ///
+    /// `Spoiled` says that an earlier edit wanted memory, `OutOfMemory` that the growth of some memory was refused for them.
+    /// Nothing changes.
+    pub fn findings(&self) -> Result<Vec<Finding>, KeyFault>
+        ensures ok { IfOk result (λ found. (M : OnKey) → Shows J.rules M self.now → found.items ≡ findings_on J.rules self.now.key M) }
+        ensures spoiled { (result ≡ Err fault.Spoiled) ↔ (self.now.spoiled ≡ true) }
+    {
+        if self.spoiled {
+            return Err(KeyFault::Spoiled);
+        }
+        let mut found = Vec::new(self.alloc);
+        add_findings(&mut found, &self.key, &self.judgements.reads)?;
+        add_findings(&mut found, &self.key, &self.judgements.overlaps)?;
+        put_in_order(&mut found);
+        Ok(found)
+    }
+
+    /// How many answers the judge has given, in this time and before it.
+    pub fn judged(&self) -> u64
+        ensures { result ≡ self.now.judged }
+    {
+        self.judgements.judge.calls()
+    }
+
+    /// Whether an edit wanted memory. It stays so for good.
+    pub fn is_spoiled(&self) -> bool
+        ensures { result ≡ self.now.spoiled }
+    {
+        self.spoiled
+    }
+
+    /// What the initial version returns.
+    pub fn initial(&self) -> Option<Value>
+        ensures { result ≡ self.now.indexes.initial }
+    {
+        self.indexes.initial
+    }
+
+    /// Whether no write, no read of a committed transaction and no set-up value is on the key, so that new findings of it would
+    /// show the same. It means nothing where they are spoiled.
+    pub fn is_bare(&self) -> bool
+        ensures { (M : OnKey) → Shows J.rules M self.now → IsTrue result ↔ IsBare M }
+    {
+        self.indexes.is_empty()
+    }
+
+    /// Whether anything is found on the key. It means nothing where the findings are spoiled.
+    pub fn has_findings(&self) -> bool
+        ensures { (M : OnKey) → Shows J.rules M self.now → IsTrue result ↔ ((f : Finding) × Contains (findings_on J.rules self.now.key M) f) }
+    {
+        let reads = self.judgements.reads.len();
+        let overlaps = self.judgements.overlaps.len();
+        reads + overlaps > 0
+    }
+}
+
+/// Adds what was found, as findings on the key.
+fn add_findings<K: Ord>(
+    found: &mut Vec<Finding>,
+    key: &Key,
+    kinds: &BTreeMap<K, Kind>,
+) -> Result<(), OutOfMemory>
+    ensures added { OnOk result (found.new.items ≡ found.old.items ++ map (finding_at key.now) (values kinds.now)) }
+    ensures ordered { IsOrdered K.cmp kinds.now }
+{
+    for kind in kinds.values() {
+        found.push(Finding {
+            key: key.try_clone()?,
+            kind: *kind,
+        })?;
+    }
+    Ok(())
+}
+
+/// Adds the transaction and judges what it touches.
+fn add<J: Judge + Drop>(
+    alloc: Global,
+    indexes: &mut Indexes,
+    judgements: &mut Judgements<J>,
+    part: &Part,
+) -> Result<(), OutOfMemory>
+    requires { (M : OnKey) × AreIndexes M indexes.old × Fits part.now M }
+    ensures indexes { OnOk result ((M R : OnKey) → AreIndexes M indexes.old → Joins part.now M R → IsOfHistory R → AreIndexes R indexes.new) }
+    ensures judged { OnOk result ((R : OnKey) → AreIndexes R indexes.new
+        → IsJudgedWith J.rules part.now R indexes.old indexes.new (found_by J.answers judgements.old) (found_by J.answers judgements.new)) }
+{
+    let reads = reads_in(alloc, part)?;
+    let writes = writes_of(alloc, part)?;
+    let others = touched(alloc, indexes, part, writes.as_slice())?;
+    indexes.put_in(part, reads.as_slice(), writes.as_slice())?;
+    judgements.judge_reads(indexes, others.as_slice())?;
+    judgements.judge_reads(indexes, reads.as_slice())?;
+    judgements.judge_version(indexes, version_of(part))?;
+    Ok(())
+}
+
+/// Judges what the transaction touched that was taken out.
+fn drop_out<J: Judge + Drop>(
+    alloc: Global,
+    indexes: &Indexes,
+    judgements: &mut Judgements<J>,
+    part: &Part,
+    taken: &TakenOut,
+) -> Result<(), OutOfMemory>
+    requires reads { taken.now.reads.items ≡ reads_in part.now }
+    requires writes { taken.now.writes.items ≡ writes_of part.now }
+    ensures { OnOk result ((R : OnKey) → AreIndexes R indexes.now
+        → IsJudgedWithout J.rules part.now R indexes.now (found_by J.answers judgements.old) (found_by J.answers judgements.new)) }
+{
+    let others = touched(alloc, indexes, part, taken.writes.as_slice())?;
+    judgements.forget_reads(taken.reads.as_slice());
+    judgements.judge_reads(indexes, others.as_slice())?;
+    judgements.forget_version(indexes, version_of(part))?;
+    Ok(())
+}
+
+/// The reads of others that the transaction touches: those of what it writes, and those of the version before its own by
+/// readers that started after its commit.
+fn touched(
+    alloc: Global,
+    indexes: &Indexes,
+    part: &Part,
+    writes: &[(Value, Write)],
+) -> Result<Vec<OwnRead>, OutOfMemory>
+    ensures { IfOk result (λ reads. AreTouchedReads indexes.now part.now writes.now reads.items) }
+{
+    let mut reads = Vec::new(alloc);
+    for write in writes {
+        indexes.add_readers(&mut reads, Some(write.0), None)?;
+    }
+    add_readers_before(indexes, part, &mut reads)?;
+    Ok(reads)
+}
+
+/// Adds the reads of the version before the one that the transaction installs, by readers that started after its commit.
+fn add_readers_before(
+    indexes: &Indexes,
+    part: &Part,
+    reads: &mut Vec<OwnRead>,
+) -> Result<(), OutOfMemory>
+    ensures { OnOk result ((more : List (Reader × Option Value)) × AreReadsBefore indexes.now (version_of part.now) more
+        × (reads.new.items ≡ reads.old.items ++ more)) }
+{
+    match version_of(part) {
+        Some((commit, _)) => {
+            let before = indexes.value_before(commit);
+            indexes.add_readers(reads, before, Some(commit))
+        }
+        None => Ok(()),
+    }
+}

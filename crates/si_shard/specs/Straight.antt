@@ -1,0 +1,28 @@
+-- What an edit is on the keys of a shard, made on each of them by itself. All of it is this project's choice.
+use Rattle.std.specs.Prelude.{◌≡◌, ◌≢◌, ℕ, true, List, [], ◌∷◌}
+use Rattle.std.specs.List.{AllPairs}
+use Rattle.si_model.specs.declared.operations.Op.{Op}
+use Rattle.si_model.specs.declared.edits.Edit.{Edit}
+use Rattle.si_model.specs.declared.parts.OnKey.{OnKey}
+use Rattle.si_model.specs.Operations.{key_of}
+use Rattle.si_shard.specs.declared.shard_ids.ShardId.{ShardId}
+use Rattle.si_shard.specs.declared.changes.Change.{Change}
+use Rattle.si_shard.specs.declared.keyed.KeyStates.{KeyStates}
+use Rattle.si_shard.specs.declared.waiting.Head.{Head}
+use Rattle.si_shard.specs.ShardIds.{is_ours}
+use Rattle.si_shard.specs.Applied.{IsChangeOn}
+use Rattle.si_shard.specs.Changes.{LeadsTo}
+use Rattle.si_shard.specs.Keyed.{IsMadeAt, IsOn, StaysAt}
+
+-- no two operations access one key
+abbrev pub AreApart : List Op → Type 0
+AreApart ops = AllPairs (λ a b. key_of a ≢ key_of b) ops
+
+-- what the edit is on a key of the shard can be made there
+abbrev pub CanBeMadeBy : ShardId → List Op → Head → Edit → KeyStates → Type 0
+CanBeMadeBy id ops h e ks = (x : List ℕ) (c : Change) → is_ours id x ≡ true → IsChangeOn ops h e x c → (Q R : OnKey) × IsOn ks x Q × LeadsTo (c ∷ []) Q R
+
+-- what the edit is on a key of the shard was made there, and nothing else
+pub record IsMadeBy (id : ShardId) (ops : List Op) (h : Head) (e : Edit) (old new : KeyStates) : Type 0 where
+  pub changed : (x : List ℕ) (c : Change) → is_ours id x ≡ true → IsChangeOn ops h e x c → IsMadeAt x (c ∷ []) old new
+  pub others : (x : List ℕ) → (is_ours id x ≡ true → (c : Change) → IsChangeOn ops h e x c → ⊥) → StaysAt x old new
