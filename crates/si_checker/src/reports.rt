@@ -42,7 +42,7 @@ pub struct ShardReport {
 /// Why a report wasn't had.
 #[derive(Clone, Copy, Debug, PartialEq, Eq, Error)]
 pub enum ReportFault {
-    /// An application by the shard of this number wanted memory, and no rebuild came since.
+    /// Memory was refused to an application by the shard of this number, and no rebuild came since.
     #[error("shard {0} is spoiled")]
     Spoiled(usize),
     /// The growth of some memory was refused.
