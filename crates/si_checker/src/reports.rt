@@ -39,7 +39,7 @@ pub struct ShardReport {
     pub findings: Vec<Finding>,
 }
 
-/// Why a report wasn't had.
+/// Why no report was made.
 #[derive(Clone, Copy, Debug, PartialEq, Eq, Error)]
 pub enum ReportFault {
     /// Memory was refused to an application by the shard of this number, and no rebuild came since.

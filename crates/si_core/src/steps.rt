@@ -36,7 +36,7 @@ pub enum Reply {
     Spoiled(usize),
 }
 
-/// Why findings weren't had.
+/// Why the machine doesn't tell its findings.
 #[derive(Clone, Copy, Debug, PartialEq, Eq, Error)]
 pub enum WorldFault {
     /// Memory was refused to an application by this shard, and no rebuild came since. Its number is the least of those.

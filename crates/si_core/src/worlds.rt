@@ -139,8 +139,8 @@ impl World {
 
     /// The findings of what is present, in order.
     ///
-    /// They are had only where the machine is settled. Before that it answers [`WorldFault::Spoiled`] with the least shard that
-    /// is spoiled, and where none is [`WorldFault::Unsettled`] with the least position.
+    /// Only a settled machine tells them. Before that it answers [`WorldFault::Spoiled`] with the least shard that is spoiled, and
+    /// where none is [`WorldFault::Unsettled`] with the least position.
     pub fn findings(&self) -> Result<Vec<Finding>, WorldFault>
         ensures found { IfOk result (λ found. found.items ≡ findings (present self.now.journal)) }
         ensures empty { IfOk result (λ found. (found.items ≡ []) ↔ (IsWellFormed (present self.now.journal) × IsPlSi (present self.now.journal))) }
