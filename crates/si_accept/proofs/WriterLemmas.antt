@@ -1,5 +1,5 @@
 -- Who writes what, after one pair of key and value has another writer.
-use Rattle.std.proofs.Common.{◌≡◌, ℕ, ◌<◌, Bool, true, false, ◌&&◌, ◌||◌, nat_eq, List, [], ◌∷◌, ◌++◌, Option, Some, None, refl, sym, ap, ◌∙◌, arith, cond}
+use Rattle.std.proofs.Common.{◌≡◌, ℕ, ◌<◌, Bool, true, false, ◌&&◌, ◌||◌, nat_eq, List, ◌++◌, Option, Some, None, refl, sym, ap, ◌∙◌, arith, cond}
 use Rattle.std.specs.List.{list_any}
 use Rattle.std.specs.Map.{lookup}
 use Rattle.std.specs.Option.{option_and_then}
@@ -71,26 +71,7 @@ numbered_set x v n u old new s e m w l =
     ∙ ap (λ b. cond b u (id_at old w m)) (past_all n m v.0 w.0 (omega arith))
     ∙ s.numbered m w (omega arith)
 
--- a key that has a number but no pairs yet changes nothing
-pub writers_same : (old new : Written) → IsGrown old.keys new.keys → AreNumbered old → new.ids ≡ old.ids → SameWriters old new
-writers_same old new g f e (op.Read y r) = refl
-writers_same old new g f e (op.Write y w) = elim (number_of new.keys y) as (λ o. number_of new.keys y ≡ o → option_and_then (id_at new w) o ≡ writer_of old (op.Write y w)) [
-  | None ↦ λ h. rw (no_number old new.keys y g h) refl
-  | Some m ↦ λ h. ap (lookup (same_pair (m, w.0))) e ∙ old_writer old new.keys y m w g f h
-] refl
-
 -- ---- several operations
-
-one_more_test : (a b : Bool) (u w : Option TxnId) → cond (a || (b || false)) u w ≡ cond b u (cond a u w)
-one_more_test true true u w = refl
-one_more_test true false u w = refl
-one_more_test false true u w = refl
-one_more_test false false u w = refl
-
-pub one_more_set : (ps : List Op) (p : Op) (u : Option TxnId) (A B C : Written) → SetsWriters ps u A B → SetsWriter p u B C → SetsWriters (ps ++ p ∷ []) u A C
-one_more_set ps p u A B C h s q =
-    s q ∙ ap (λ w. cond (same_write q p) u w) (h q)
-    ∙ sym (ap (λ b. cond b u (writer_of A q)) (list_any-append (same_write q) ps (p ∷ [])) ∙ one_more_test (list_any (same_write q) ps) (same_write q p) u (writer_of A q))
 
 undo_test : (a : Bool) (u w : Option TxnId) → (a ≡ true → w ≡ None) → cond a None (cond a u w) ≡ w
 undo_test true u w f = sym (f refl)

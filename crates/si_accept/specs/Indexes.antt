@@ -25,7 +25,7 @@ install_of writes c = if writes then c else None
 abbrev pub other_of : Bool → Option Stamp → Option Stamp
 other_of writes c = if writes then None else c
 
--- what an index has of one transaction at a place k, as stated by P, is had exactly at the places of those that are present
+-- an index has what P states of one transaction at a place k exactly where that transaction is present
 abbrev pub IsExact : {K : Type 0} → (K → Type 0) → (Txn → K → Type 0) → List Txn → Type 0
 IsExact {K} there of_txn P = (k : K) → there k ↔ ((T : Txn) × Contains P T × of_txn T k)
 

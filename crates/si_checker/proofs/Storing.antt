@@ -1,7 +1,7 @@
 -- What a shard has stored is a beginning of what it is due, before and after it applies more.
-use Rattle.std.proofs.Common.{◌≡◌, ◌∙◌, ◌≤◌, ◌+◌, ◌-◌, ℕ, zero, suc, List, [], ◌∷◌, ◌++◌, length, map, take, drop, refl, sym, ap, subst, arith, append_assoc, length-append, length-drop}
-use Rattle.std.proofs.Math.Seq.{drop-nil, take-length, take-nil}
-use Rattle.std.proofs.lemmas.List.{append-nil, length-map, length-take-le, take-append-drop, take-append-le}
+use Rattle.std.proofs.Common.{◌≡◌, ◌∙◌, ◌≤◌, ◌+◌, ◌-◌, ℕ, zero, suc, List, [], ◌∷◌, ◌++◌, length, take, drop, refl, sym, ap, subst, arith, append_assoc, length-drop}
+use Rattle.std.proofs.Math.Seq.{drop-nil, take-nil}
+use Rattle.std.proofs.lemmas.List.{length-map, length-take-le, take-append-drop}
 use Rattle.si_model.specs.declared.edits.Edit.{Edit}
 use Rattle.si_model.specs.Journals.{IsAccepted}
 use Rattle.si_model.specs.Laws.{AcceptedBegins}
@@ -65,10 +65,6 @@ accepted_next begins old before rest all e is accepted =
     ap (λ l. old ++ l) is ∙ sym (append_assoc old before (e ∷ rest)) ∙ sym (append_assoc (old ++ before) (e ∷ []) rest)
     in
     begins ((old ++ before) ++ e ∷ []) rest (subst IsAccepted same accepted)
-
--- the first of a list that goes on
-pub first_of : {X : Type 0} (xs ys all : List X) → all ≡ xs ++ ys → take (length xs) all ≡ xs
-first_of xs ys all is = (let le : length xs ≤ length xs = omega arith in ap (take (length xs)) is ∙ take-append-le (length xs) xs ys le ∙ take-length xs)
 
 pub edits_length : (xs : List Entry) → length (edits_of xs) ≡ length xs
 edits_length xs = length-map xs edit_in

@@ -1,5 +1,5 @@
 -- The laws that tie the words to the machine of the core, each the contract of a public function of `laws` with an empty body.
-use Rattle.std.specs.Prelude.{◌≡◌, ℕ, zero, suc, ◌+◌, ◌≤◌, false, List, [], ◌∷◌, ◌++◌, length}
+use Rattle.std.specs.Prelude.{ℕ, zero, suc, ◌≤◌, false, List, [], ◌∷◌, ◌++◌, length}
 use Rattle.atomic_table.specs.Table.{State}
 use Rattle.si_model.specs.declared.edits.Edit.{Edit}
 use Rattle.si_model.specs.Journals.{IsAccepted}

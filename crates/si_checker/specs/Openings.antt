@@ -1,7 +1,6 @@
 -- What is opened, before it is named. All of it is this project's choice.
 use Rattle.std.specs.Prelude.{◌≡◌, ℕ, ◌≤◌, ◌⊎◌, ◌<◌, List}
 use Rattle.std.specs.List.{Contains}
-use Rattle.atomic_table.specs.Seated.{TableId}
 use Rattle.si_model.specs.declared.edits.TheConstants.{MOST_EDITS}
 use Rattle.si_words.specs.declared.views.BookView.{BookView}
 use Rattle.si_words.specs.declared.views.ShardView.{ShardView}

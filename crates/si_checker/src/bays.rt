@@ -74,7 +74,7 @@ impl<N: Name> Bay<N> {
         self.shard.position()
     }
 
-    /// Whether an edit wanted memory, and no rebuild came since.
+    /// Whether memory was refused to an edit, and no rebuild came since.
     pub fn is_spoiled(&self) -> bool
         ensures { result ≡ self.now.spoiled }
     {
@@ -94,7 +94,7 @@ impl<N: Name> Bay<N> {
 
     /// Applies the edits, which are the next of those that the shard is due, and publishes how far it came.
     ///
-    /// Where one of them wants memory those before it stand, and the shard is spoiled.
+    /// If memory is refused to one of them, those before it stand, and the shard is spoiled.
     pub fn apply(&mut self, words: &Words, edits: Vec<Edit>)
         requires words { words.now ≡ N.board }
         requires next { edits.items ≡ take (vec_len edits) (drop self.old.seat.done (edits_of self.old.seat.due)) }
@@ -186,7 +186,7 @@ impl<N: Name> Bay<N> {
 
     /// Makes all that the shard of this number knows anew from the edits that it has applied, and so ends a spoiled state.
     ///
-    /// For want of memory everything stays as it was.
+    /// If memory is refused, everything stays as it was.
     pub fn rebuild(&mut self, number: usize) -> Result<(), OutOfMemory>
         requires { number ≡ self.old.seat.number }
         ensures ok { OnOk result (self.new ≡ record self.old { spoiled = false }) }
@@ -215,7 +215,7 @@ impl<N: Name> Bay<N> {
     }
 }
 
-/// The shard stores these edits, one after the other, until one of them wants memory.
+/// The shard stores these edits, one after the other, until memory is refused to one of them.
 fn store(shard: &mut Shard, edits: Vec<Edit>)
     requires accepted { IsAccepted (shard.old.stored ++ edits.items) }
     requires room { length shard.old.stored + vec_len edits ≤ MOST_EDITS }

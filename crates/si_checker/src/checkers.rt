@@ -237,7 +237,7 @@ impl<N: Name> Checker<N> {
 
     /// Makes all that the shard knows anew from the edits that it has applied, and so ends a spoiled state.
     ///
-    /// For want of memory everything stays as it was.
+    /// If memory is refused, everything stays as it was.
     pub fn rebuild<R: Wait>(&self, rt: &R, k: usize) -> Result<(), OutOfMemory>
         requires { k < N.board.shards }
     {

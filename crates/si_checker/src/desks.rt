@@ -117,8 +117,8 @@ impl<N: Name> Desk<N> {
         words.close(&mut self.seat);
     }
 
-    /// Copies of the edits from this position on, [`MOST_AT_ONCE`] at most, which share the operations. For want of memory there
-    /// are fewer.
+    /// Copies of the edits from this position on, [`MOST_AT_ONCE`] at most, which share the operations. If memory is
+    /// refused, there are fewer.
     pub fn copy(&self, alloc: Global, position: u64) -> Vec<Edit>
         requires { position ≤ length self.now.journal }
         ensures edits { result.items ≡ take (vec_len result) (drop position (edits_of self.now.journal)) }

@@ -39,10 +39,10 @@ pub struct ShardReport {
     pub findings: Vec<Finding>,
 }
 
-/// Why a report wasn't had.
+/// Why no report was made.
 #[derive(Clone, Copy, Debug, PartialEq, Eq, Error)]
 pub enum ReportFault {
-    /// An application by the shard of this number wanted memory, and no rebuild came since.
+    /// Memory was refused to an application by the shard of this number, and no rebuild came since.
     #[error("shard {0} is spoiled")]
     Spoiled(usize),
     /// The growth of some memory was refused.

@@ -18,7 +18,7 @@ const SLEEP_MICROS: u64 = 500;
 /// What became of one turn of a worker.
 #[derive(Clone, Copy, Debug, PartialEq, Eq)]
 pub enum Worked {
-    /// Edits were applied, and the shard has applied so many. Where one of them wanted memory the next turn says so.
+    /// Edits were applied, and the shard has applied so many. Where memory was refused to one of them, the next turn says so.
     Applied(u64),
     /// Nothing is left for the shard, and the checker isn't closed.
     Idle,

@@ -4,11 +4,9 @@ use Rattle.std.specs.Prelude.{slice_index_or}
 use Rattle.std.specs.Option.{option_map}
 use Rattle.std.specs.Io.KnownBytes.{Keeps}
 use Rattle.std.specs.Borrow.{Bor}
-use Rattle.std.specs.List.{slice_get}
 use Rattle.std.proofs.Math.Seq.{take-suc}
-use Rattle.std.proofs.lemmas.List.{length-map, map-append}
-use Rattle.std.proofs.lemmas.Option.{none-some, same_Some, slice_get-get_or, slice_get-map, slice_get_within}
-use Rattle.clap.specs.Words.{Text}
+use Rattle.std.proofs.lemmas.List.{map-append}
+use Rattle.std.proofs.lemmas.Option.{none-some}
 use Rattle.si_lists.proofs.Tests.{mapped_some}
 use Rattle.si_run.specs.declared.statuses.ExitStatus.{ExitStatus}
 use Rattle.si_run.specs.declared.faults.RunFault.{RunFault}
@@ -17,7 +15,7 @@ use Rattle.si_run.specs.Outputs.{Terms}
 use Rattle.si_run.specs.Runs.{BeginsSome, BeginsText, IsTrueDeviceFault, MayBeTooLong, WritesBeginning, WritesOutput, WritesSome, WritesText, all_known}
 use Rattle.si_run.specs.Takings.{Device}
 use Rattle.si_cli.specs.Openings.{AreKept}
-use Rattle.si_cli.specs.Programs.{EndsCheck, EndsNamed}
+use Rattle.si_cli.specs.Programs.{EndsCheck, EndsFiles, EndsNamed, Files, Input}
 
 pub as_many : (files lefts : List (Option (List ℕ))) → AreKept files lefts → length lefts ≡ length files
 as_many [] [] k = refl
@@ -123,27 +121,18 @@ kept_next bytes names place lefts left below k one =
     (sym (ap (λ n. map bytes (take n names)) next ∙ ap (map bytes) (take-suc names place [] below) ∙ map-append bytes (take place names) (slice_index_or names place [] ∷ [])))
     (kept_push (map bytes (take place names)) lefts (bytes (slice_index_or names place [])) left k one)
 
--- a name at its place
-pub name_at : (files : List (Bor (List ℕ))) (place : ℕ) (file : Bor (List ℕ)) → slice_get files place ≡ Some file → slice_index_or (map (λ (f : Bor (List ℕ)). f.now) files) place [] ≡ file.now
-name_at files place file at =
-    let names = map (λ (f : Bor (List ℕ)). f.now) files in
-    let below = slice_get_within files place file at in
-    let many : length names ≡ length files = length-map files (λ (f : Bor (List ℕ)). f.now) in
-    same_Some (slice_index_or names place []) file.now
-    (sym (slice_get-get_or names place [] (omega arith)) ∙ slice_get-map (λ (f : Bor (List ℕ)). f.now) files place ∙ ap (option_map (λ (f : Bor (List ℕ)). f.now)) at)
-
 -- ---- the program's end
 
 -- where files are named, the end is that of their check
-pub files_named : (files : List (Bor (List ℕ))) (names : List Text) (Input : Type 0) (Files : List Text → Type 0)
-    → map (λ (f : Bor (List ℕ)). f.now) files ≡ names → 1 ≤ length files → Files (map (λ (f : Bor (List ℕ)). f.now) files) → EndsNamed names Input Files
-files_named [] names Input Files is some ends = absurd (omega arith)
-files_named (f ∷ files) names Input Files is some ends = subst (λ n. EndsNamed n Input Files) is ends
+pub files_named : (names : List (Bor (List ℕ))) (terms : Terms) (input : Input) (files : Files) (out err : Device) (result : ℕ) → 1 ≤ length names
+    → EndsFiles terms files (map (λ (f : Bor (List ℕ)). f.now) names) out err result → EndsNamed terms input files (map (λ (f : Bor (List ℕ)). f.now) names) out err result
+files_named [] terms input files out err result some ends = absurd (omega arith)
+files_named (name ∷ names) terms input files out err result some ends = ends
 
-pub none_named : (files : List (Bor (List ℕ))) (names : List Text) (Input : Type 0) (Files : List Text → Type 0)
-    → map (λ (f : Bor (List ℕ)). f.now) files ≡ names → length files ≡ 0 → Input → EndsNamed names Input Files
-none_named [] names Input Files is none ends = subst (λ n. EndsNamed n Input Files) is ends
-none_named (f ∷ files) names Input Files is none ends = absurd (omega arith)
+pub none_named : (names : List (Bor (List ℕ))) (terms : Terms) (input : Input) (files : Files) (out err : Device) (result : ℕ) → length names ≡ 0
+    → EndsCheck terms (input.left ∷ []) (input.failed ∷ []) out err result → EndsNamed terms input files (map (λ (f : Bor (List ℕ)). f.now) names) out err result
+none_named [] terms input files out err result none ends = ends
+none_named (name ∷ names) terms input files out err result none ends = absurd (omega arith)
 
 -- a list of one element
 pub one_image : {X Y : Type 0} (f : X → Y) (xs : List X) (d : X) → length xs ≡ 1 → map f xs ≡ f (slice_index_or xs 0 d) ∷ []

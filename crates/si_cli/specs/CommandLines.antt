@@ -99,7 +99,7 @@ pub record IsGiven (rows : List Row) (settings : Settings) : Type 0 where
   pub few : length (files_given rows) ≤ MOST_FILES
 
 -- settings come where clap has no fault to tell of the words and they name few enough files; a fault is one of clap's, or
--- want of memory, or that the files are too many
+-- that memory was refused, or that the files are too many
 abbrev pub IsToldBy : List Text → Result Settings SettingsFault → Type 0
 IsToldBy words (Ok settings) = (fault_of sicheck_app words ≡ []) × IsGiven (rows_given words) settings
 IsToldBy words (Err (Line error)) = HasKind (fault_of sicheck_app words) error
@@ -114,7 +114,7 @@ pub record NumbersFit (rows : List Row) : Type 0 where
   pub shards : NumberFits (codes "shards") MOST_SHARDS rows
   pub every : NumberFits (codes "every") MOST_EVERY rows
 
--- what reading the rows gives: the settings, too many files, or want of memory
+-- what reading the rows gives: the settings, too many files, or that memory was refused
 abbrev pub IsReadOf : List Row → Result Settings SettingsFault → Type 0
 IsReadOf rows (Ok settings) = IsGiven rows settings
 IsReadOf rows (Err (Line error)) = kind_of error ≡ OutOfMemory

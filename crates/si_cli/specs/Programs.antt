@@ -16,6 +16,28 @@ use Rattle.si_run.specs.Outputs.{Terms, exit_code}
 use Rattle.si_run.specs.Runs.{AppendsBeginning, BeginsText, IsTrueDeviceFault, WritesText}
 use Rattle.si_run.specs.Takings.{Device}
 
+-- ---- what the program is lent
+
+-- the input: the bytes that it has left at the beginning, where they are known, and whether it has failed at the end
+pub record Input : Type 0 where
+  pub left : Option (List ℕ)
+  pub failed : Bool
+
+abbrev pub input_with : Option (List ℕ) → Bool → Input
+input_with left failed = record { left = left; failed = failed }
+
+-- the files that are opened by their names
+pub record Files : Type 1 where
+  -- the bytes of the file of that name, where they are known
+  pub bytes : Text → Option (List ℕ)
+  -- whether there may be none of that name
+  pub may_lack : Text → Bool
+  -- some source of that kind has failed, or has not
+  pub MayBe : Bool → Type 0
+
+abbrev pub files_with : (Text → Option (List ℕ)) → (Text → Bool) → (Bool → Type 0) → Files
+files_with bytes may_lack MayBe = record { bytes = bytes; may_lack = may_lack; MayBe = MayBe }
+
 -- ---- what is written
 
 -- nothing was written
@@ -70,11 +92,16 @@ EndsCheck terms inputs failed out err result =
 
 -- a file couldn't be opened, which may be, or memory was refused before all were, and nothing was written; or the check of all files ends so, each with a
 -- source that may have failed
-abbrev pub EndsFiles : Terms → (Text → Option (List ℕ)) → (Text → Bool) → (Bool → Type 0) → List Text → Device → Device → ℕ → Type 0
-EndsFiles terms bytes may_lack May_be names out err result =
-    ((place : ℕ) × (place < length names) × (may_lack (slice_index_or names place []) ≡ true) × IsUntouched out × Fails err (open_line place) result)
+abbrev pub EndsFiles : Terms → Files → List Text → Device → Device → ℕ → Type 0
+EndsFiles terms files names out err result =
+    ((place : ℕ) × (place < length names) × (files.may_lack (slice_index_or names place []) ≡ true) × IsUntouched out × Fails err (open_line place) result)
     ⊎ (IsUntouched out × Fails err memory_line result)
-    ⊎ ((failed : List Bool) × (length failed ≡ length names) × All May_be failed × EndsCheck terms (map bytes names) failed out err result)
+    ⊎ ((failed : List Bool) × (length failed ≡ length names) × All files.MayBe failed × EndsCheck terms (map files.bytes names) failed out err result)
+
+-- the check of the input ends so where no file is named, and else that of the files
+abbrev pub EndsNamed : Terms → Input → Files → List Text → Device → Device → ℕ → Type 0
+EndsNamed terms input files [] out err result = EndsCheck terms (input.left ∷ []) (input.failed ∷ []) out err result
+EndsNamed terms input files (name ∷ others) out err result = EndsFiles terms files (name ∷ others) out err result
 
 -- ---- how the program ends
 
@@ -102,22 +129,17 @@ EndsUnsettled unsettled.TooManyFiles out err result = IsUntouched out × Fails e
 abbrev pub terms_given : List Text → Terms
 terms_given words = record { limit = MOST_EDITS; every = every_given (rows_given words); explain = explain_given (rows_given words) }
 
--- the check is that of the input where no file is named, and else that of the files
-abbrev pub EndsNamed : List Text → Type 0 → (List Text → Type 0) → Type 0
-EndsNamed [] Input Files = Input
-EndsNamed (name ∷ others) Input Files = Files (name ∷ others)
-
--- clap tells something of the words, or want of memory; or it has no fault to tell, and they name too many files, or the check ends as that of the
--- input or of the files, by the terms of the words
-abbrev pub EndsProgram : List Text → (Terms → Type 0) → (Terms → List Text → Type 0) → Device → Device → ℕ → Type 0
-EndsProgram words Input Files out err result =
+-- clap tells something of the words, or that memory was refused; or it has no fault to tell, and they name too many files, or the check of
+-- the input or of the files ends, by the terms of the words
+abbrev pub EndsProgram : List Text → Input → Files → Device → Device → ℕ → Type 0
+EndsProgram words input files out err result =
     ((error : Error) × HasKind (fault_of sicheck_app words) error × EndsLine error out err result)
     ⊎ ((fault_of sicheck_app words ≡ [])
     × (((MOST_FILES < length (files_given (rows_given words))) × IsUntouched out × Fails err files_line result)
     ⊎ ((length (files_given (rows_given words)) ≤ MOST_FILES)
-    × EndsNamed (files_given (rows_given words)) (Input (terms_given words)) (Files (terms_given words)))))
+    × EndsNamed (terms_given words) input files (files_given (rows_given words)) out err result)))
 
--- with no secret key: clap tells something of the words, or want of memory; or it has no fault to tell, and they name too many files, or ask for a check,
+-- with no secret key: clap tells something of the words, or that memory was refused; or it has no fault to tell, and they name too many files, or ask for a check,
 -- which couldn't be made
 abbrev pub EndsWithoutKey : List Text → Device → Device → ℕ → Type 0
 EndsWithoutKey words out err result =

@@ -71,7 +71,7 @@ Try it: sicheck check --explain samples/stale_read.jsonl";
 
 /// Reads the words of a command line, of which the first is the program's name.
 ///
-/// The fault is one that `clap`'s definition of the command tells of the words, or want of memory.
+/// The fault is one that `clap`'s definition of the command tells of the words, or that memory was refused.
 pub fn parse<'a, S: AsStr>(alloc: Global, words: &'a [S]) -> Result<ArgMatches<'a>, clap::Error>
     ensures kinds { FailsBy (fault_of sicheck_app (map S.text words.entry.now)) result }
     ensures check { IfOk result (λ matches. subcommand_rows_of matches

@@ -3,7 +3,7 @@ ghost use Rattle.std.specs.Io.KnownBytes.{Appends};
 ghost use Rattle.std.specs.Mem.{FitsInMemory};
 ghost use Rattle.si_cli.specs.declared.settings.TheConstants.{MOST_FILES};
 ghost use Rattle.si_cli.specs.Openings.{AreKept, IsNotOpened};
-ghost use Rattle.si_cli.specs.Programs.{EndsCheck, EndsFiles, EndsLine, EndsNamed, EndsProgram, EndsUnsettled, EndsWithoutKey, Fails, fault_line, source_line};
+ghost use Rattle.si_cli.specs.Programs.{EndsCheck, EndsFiles, EndsLine, EndsNamed, EndsProgram, EndsUnsettled, EndsWithoutKey, Fails, fault_line, files_with, input_with, memory_line, output_line, source_line};
 ghost use Rattle.si_run.specs.Runs.{IsRunnable, terms_by};
 ghost use Rattle.si_run.specs.Takings.{device};
 
@@ -48,13 +48,8 @@ pub fn main_with<
     requires input { I.failed input.old ≡ false }
     requires out { O.failed out.old ≡ false }
     ensures { EndsProgram (map S.text words.now)
-        (λ terms. EndsCheck terms (I.left input.old ∷ []) (I.failed input.new ∷ [])
-        (device (O.written out.old) (O.written out.new) (O.failed out.new))
-        (device (E.written err.old) (E.written err.new) (E.failed err.new)) result)
-        (λ terms names. EndsFiles terms (F.bytes files.now) (F.may_lack files.now)
-        (λ has_failed. (source : F.Source) × (F.Source.failed source ≡ has_failed)) names
-        (device (O.written out.old) (O.written out.new) (O.failed out.new))
-        (device (E.written err.old) (E.written err.new) (E.failed err.new)) result)
+        (input_with (I.left input.old) (I.failed input.new))
+        (files_with (F.bytes files.now) (F.may_lack files.now) (λ has_failed. (source : F.Source) × (F.Source.failed source ≡ has_failed)))
         (device (O.written out.old) (O.written out.new) (O.failed out.new))
         (device (E.written err.old) (E.written err.new) (E.failed err.new)) result }
 {
@@ -133,14 +128,12 @@ fn check_by<
     requires few { length names.now ≤ MOST_FILES }
     requires input { I.failed input.old ≡ false }
     requires out { O.failed out.old ≡ false }
-    ensures { EndsNamed (map (λ name. name.now) names.now)
-        (EndsCheck (terms_by options) (I.left input.old ∷ []) (I.failed input.new ∷ [])
+    ensures { EndsNamed (terms_by options)
+        (input_with (I.left input.old) (I.failed input.new))
+        (files_with (F.bytes files.now) (F.may_lack files.now) (λ has_failed. (source : F.Source) × (F.Source.failed source ≡ has_failed)))
+        (map (λ name. name.now) names.now)
         (device (O.written out.old) (O.written out.new) (O.failed out.new))
-        (device (E.written err.old) (E.written err.new) (E.failed err.new)) result)
-        (λ given. EndsFiles (terms_by options) (F.bytes files.now) (F.may_lack files.now)
-        (λ has_failed. (source : F.Source) × (F.Source.failed source ≡ has_failed)) given
-        (device (O.written out.old) (O.written out.new) (O.failed out.new))
-        (device (E.written err.old) (E.written err.new) (E.failed err.new)) result) }
+        (device (E.written err.old) (E.written err.new) (E.failed err.new)) result }
 {
     if names.is_empty() {
         check(rt, alloc, hash, slice::from_mut(input), out, err, options)
@@ -172,15 +165,16 @@ fn check_files<R: Threads + Wait + Sync, F: NamedFiles, O: ByteSink, E: ByteSink
     requires options { IsRunnable options }
     requires some { (1 ≤ length names.now) × (length names.now ≤ MOST_FILES) }
     requires out { O.failed out.old ≡ false }
-    ensures { EndsFiles (terms_by options) (F.bytes files.now) (F.may_lack files.now)
-        (λ has_failed. (source : F.Source) × (F.Source.failed source ≡ has_failed)) (map (λ name. name.now) names.now)
+    ensures { EndsFiles (terms_by options)
+        (files_with (F.bytes files.now) (F.may_lack files.now) (λ has_failed. (source : F.Source) × (F.Source.failed source ≡ has_failed)))
+        (map (λ name. name.now) names.now)
         (device (O.written out.old) (O.written out.new) (O.failed out.new))
         (device (E.written err.old) (E.written err.new) (E.failed err.new)) result }
 {
     match open_all(files, alloc, names) {
         Ok(mut sources) => check(rt, alloc, hash, sources.as_mut_slice(), out, err, options),
         Err(NotOpened::File(place)) => tell_of_source(err, b"sicheck: cannot open source ", place),
-        Err(NotOpened::Memory) => tell(err, b"sicheck: out of memory\n"),
+        Err(NotOpened::Memory) => tell_out_of_memory(err),
     }
 }
 
@@ -237,8 +231,8 @@ fn tell_fault<E: ByteSink>(err: &mut E, fault: RunFault) -> u8
     match fault {
         RunFault::Input(source) => tell_of_source(err, b"sicheck: cannot read source ", source),
         RunFault::Open(_) => tell(err, b"sicheck: options out of range\n"),
-        RunFault::Output => tell(err, b"sicheck: cannot write\n"),
-        RunFault::Memory => tell(err, b"sicheck: out of memory\n"),
+        RunFault::Output => tell_unwritten(err),
+        RunFault::Memory => tell_out_of_memory(err),
     }
 }
 
@@ -253,18 +247,32 @@ fn tell_line<O: ByteSink, E: ByteSink>(
         (device (E.written err.old) (E.written err.new) (E.failed err.new)) result }
 {
     if error.kind() == ErrorKind::OutOfMemory {
-        return tell(err, b"sicheck: out of memory\n");
+        return tell_out_of_memory(err);
     }
     let Ok(text) = format!(in alloc; "{error}") else {
-        return tell(err, b"sicheck: out of memory\n");
+        return tell_out_of_memory(err);
     };
     if error.use_stderr() {
         return tell(err, text.as_bytes());
     }
     match write_all(out, text.as_bytes()) {
         Ok(()) => 0,
-        Err(_) => tell(err, b"sicheck: cannot write\n"),
+        Err(_) => tell_unwritten(err),
     }
+}
+
+/// Tells that memory was refused.
+fn tell_out_of_memory<E: ByteSink>(err: &mut E) -> u8
+    ensures { Fails (device (E.written err.old) (E.written err.new) (E.failed err.new)) memory_line result }
+{
+    tell(err, b"sicheck: out of memory\n")
+}
+
+/// Tells that the output couldn't be written.
+fn tell_unwritten<E: ByteSink>(err: &mut E) -> u8
+    ensures { Fails (device (E.written err.old) (E.written err.new) (E.failed err.new)) output_line result }
+{
+    tell(err, b"sicheck: cannot write\n")
 }
 
 /// Writes a text to `err`, and answers the status of what went wrong.

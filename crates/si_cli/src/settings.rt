@@ -46,8 +46,8 @@ impl std::error::Error for SettingsFault {}
 /// What the words of a command line ask for, of which the first is the program's name.
 ///
 /// They are `sicheck check [--shards K] [--every N] [--explain] [FILE]...`, with K from 1 to `MOST_SHARDS`, `USUAL_SHARDS` where it isn't
-/// given, and N from 1 to `MOST_EVERY`. A fault is one that `clap`'s definition of the command tells of the words, or want of
-/// memory, or that they name too many files.
+/// given, and N from 1 to `MOST_EVERY`. A fault is one that `clap`'s definition of the command tells of the words, or that
+/// memory was refused, or that they name too many files.
 pub fn settings_of<'a, S: AsStr>(
     alloc: Global,
     words: &'a [S],

@@ -1,5 +1,5 @@
 -- Where no memory was refused the machine is a function.
-use Rattle.std.proofs.Common.{◌≡◌, ◌∙◌, ◌<◌, inl, inr, ℕ, zero, suc, ◌+◌, Bool, true, false, [], ◌∷◌, Some, None, length, slice_get, refl, sym, ap, ap₂, subst, arith}
+use Rattle.std.proofs.Common.{◌≡◌, ◌∙◌, ◌≤◌, inl, inr, ℕ, zero, suc, ◌+◌, false, [], ◌∷◌, Some, None, length, slice_get, refl, sym, ap, ap₂, subst, arith}
 use Rattle.si_lists.proofs.Members.{here, same_some, there}
 use Rattle.si_model.specs.declared.edits.Edit.{Edit}
 use Rattle.si_core.specs.declared.steps.Step.{Step}
@@ -7,54 +7,65 @@ use Rattle.si_core.specs.declared.steps.Step.TheVariants as step
 use Rattle.si_core.specs.declared.steps.Reply.{Reply}
 use Rattle.si_core.specs.declared.steps.Reply.TheVariants as reply
 use Rattle.si_core.specs.Laws.{RunIsFunction}
-use Rattle.si_core.specs.Machine.{AppliesUntil, AreApplied, IsAccept, IsApplicationOf, IsApply, IsIdle, IsOther, IsRun, IsStep, Machine, Progress, SettlesFrom, TellsNoWant}
+use Rattle.si_core.specs.Machine.{AppliesUntil, AreApplied, HasEditLeft, IsAccept, IsApply, IsOther, IsRun, IsStep, Machine, Progress, SettlesFrom, TellsNoRefusedMemory, applied, edit_accepted, edit_out_of_memory, edit_refused, no_shard, nothing_left, out_of_memory, spoiled_before, spoiled_now, with_progress}
 
 -- the same reply and the same state
 abbrev Alike : Reply → Reply → Machine → Machine → Type 0
 Alike r s N P = (r ≡ s) × (N ≡ P)
 
-applied_tells : (p : ℕ) → TellsNoWant (reply.Applied p)
+applied_tells : (p : ℕ) → TellsNoRefusedMemory (reply.Applied p)
 applied_tells p = ((λ e. cc), (λ k e. cc))
 
-idle_tells : TellsNoWant reply.Idle
+idle_tells : TellsNoRefusedMemory reply.Idle
 idle_tells = ((λ e. cc), (λ k e. cc))
 
 -- ---- Accept
 
-accept_alike : (M : Machine) (e : Edit) (r s : Reply) (N P : Machine) → TellsNoWant r → TellsNoWant s → IsAccept M e r N → IsAccept M e s P → Alike r s N P
-accept_alike M e r s N P x y (inl (f, a, b, c)) (inl (g, u, v, w)) = (b ∙ ap (λ h. reply.Refused h) (same_some (sym a ∙ u)) ∙ sym v, c ∙ sym w)
-accept_alike M e r s N P x y (inl (f, a, b, c)) (inr (inl (u, v, w))) = (let no : Some f ≡ None = sym a ∙ u in cc)
-accept_alike M e r s N P x y (inl a) (inr (inr (u, v, w))) = absurd (y.0 v)
-accept_alike M e r s N P x y (inr (inl (a, b, c))) (inl (g, u, v, w)) = (let no : Some g ≡ None = sym u ∙ a in cc)
-accept_alike M e r s N P x y (inr (inl (a, b, c))) (inr (inl (u, v, w))) = (b ∙ sym v, c ∙ sym w)
-accept_alike M e r s N P x y (inr (inl a)) (inr (inr (u, v, w))) = absurd (y.0 v)
-accept_alike M e r s N P x y (inr (inr (a, b, c))) q = absurd (x.0 b)
+accept_alike : (M : Machine) (e : Edit) (r s : Reply) (N P : Machine) → TellsNoRefusedMemory r → TellsNoRefusedMemory s → IsAccept M e r N → IsAccept M e s P → Alike r s N P
+accept_alike M e r s N P x y (edit_refused f a) (edit_refused g b) = (ap (λ h. reply.Refused h) (same_some (sym a ∙ b)), refl)
+accept_alike M e r s N P x y (edit_refused f a) (edit_accepted b) = (let no : Some f ≡ None = sym a ∙ b in cc)
+accept_alike M e r s N P x y (edit_accepted a) (edit_refused g b) = (let no : Some g ≡ None = sym b ∙ a in cc)
+accept_alike M e r s N P x y (edit_accepted a) (edit_accepted b) = (refl, refl)
+accept_alike M e r s N P x y (edit_out_of_memory a) q = absurd (x.0 refl)
+accept_alike M e r s N P x y p (edit_out_of_memory b) = absurd (y.0 refl)
 
 -- ---- Apply
 
-application_alike : (M : Machine) (k : ℕ) (p : Progress) (b : Bool) (r s : Reply) (N P : Machine) → TellsNoWant r → TellsNoWant s → IsApplicationOf M k p b r N → IsApplicationOf M k p b s P → Alike r s N P
-application_alike M k p true r s N P x y e f = absurd (x.1 k e.0)
-application_alike M k p false r s N P x y (inl e) (inl f) = (e.0 ∙ sym f.0, e.1 ∙ sym f.1)
-application_alike M k p false r s N P x y (inl e) (inr (inl f)) = absurd (y.0 f.0)
-application_alike M k p false r s N P x y (inl e) (inr (inr f)) = absurd (y.1 k f.0)
-application_alike M k p false r s N P x y (inr (inl e)) f = absurd (x.0 e.0)
-application_alike M k p false r s N P x y (inr (inr e)) f = absurd (x.1 k e.0)
+-- a shard with an edit left is one, and has not applied the whole journal
+is_there : (M : Machine) (k : ℕ) (p : Progress) → HasEditLeft M k p → slice_get M.shards k ≡ None → ⊥
+is_there M k p has none = let no : Some p ≡ None = sym has.at ∙ none in cc
 
--- a shard with an edit left isn't idle
-not_idle : (M : Machine) (k : ℕ) (p : Progress) → slice_get M.shards k ≡ Some p → p.position < length M.journal → IsIdle M k → ⊥
-not_idle M k p at left (inl none) = (let no : Some p ≡ None = sym at ∙ none in cc)
-not_idle M k p at left (inr (q, here, all)) = (let same : q.position ≡ p.position = ap (λ (w : Progress). w.position) (same_some (sym here ∙ at)) in omega arith)
+same_progress : (M : Machine) (k : ℕ) (p q : Progress) → slice_get M.shards k ≡ Some p → slice_get M.shards k ≡ Some q → p ≡ q
+same_progress M k p q at also = same_some (sym at ∙ also)
 
-apply_alike : (M : Machine) (k : ℕ) (r s : Reply) (N P : Machine) → TellsNoWant r → TellsNoWant s → IsApply M k r N → IsApply M k s P → Alike r s N P
-apply_alike M k r s N P x y (inl e) (inl f) = (e.1 ∙ sym f.1, e.2 ∙ sym f.2)
-apply_alike M k r s N P x y (inl e) (inr (q, at, left, f)) = absurd (not_idle M k q at left e.0)
-apply_alike M k r s N P x y (inr (p, at, left, e)) (inl f) = absurd (not_idle M k p at left f.0)
-apply_alike M k r s N P x y (inr (p, at, left, e)) (inr (q, there_, left_, f)) =
-    application_alike M k p p.spoiled r s N P x y e (subst (λ (w : Progress). IsApplicationOf M k w w.spoiled s P) (same_some (sym there_ ∙ at)) f)
+has_left : (M : Machine) (k : ℕ) (p q : Progress) → HasEditLeft M k p → slice_get M.shards k ≡ Some q → length M.journal ≤ q.position → ⊥
+has_left M k p q has at all =
+    let same : q.position ≡ p.position = ap (λ (w : Progress). w.position) (same_progress M k q p at has.at) in
+    let left = has.left in
+    omega arith
+
+apply_alike : (M : Machine) (k : ℕ) (r s : Reply) (N P : Machine) → TellsNoRefusedMemory r → TellsNoRefusedMemory s → IsApply M k r N → IsApply M k s P → Alike r s N P
+apply_alike M k r s N P x y (no_shard a) (no_shard b) = (refl, refl)
+apply_alike M k r s N P x y (no_shard a) (nothing_left q b all) = (refl, refl)
+apply_alike M k r s N P x y (no_shard a) (applied q b whole) = absurd (is_there M k q b a)
+apply_alike M k r s N P x y (nothing_left p a all) (no_shard b) = (refl, refl)
+apply_alike M k r s N P x y (nothing_left p a all) (nothing_left q b all_) = (refl, refl)
+apply_alike M k r s N P x y (nothing_left p a all) (applied q b whole) = absurd (has_left M k q p b a all)
+apply_alike M k r s N P x y (applied p a whole) (no_shard b) = absurd (is_there M k p a b)
+apply_alike M k r s N P x y (applied p a whole) (nothing_left q b all) = absurd (has_left M k p q a b all)
+apply_alike M k r s N P x y (applied p a whole) (applied q b whole_) =
+    let same : p.position ≡ q.position = ap (λ (w : Progress). w.position) (same_progress M k p q a.at b.at) in
+    (ap (λ n. reply.Applied (n + 1)) same, ap (λ n. with_progress M k (record { position = n + 1; spoiled = false })) same)
+apply_alike M k r s N P x y (spoiled_before p a was) f = absurd (x.1 k refl)
+apply_alike M k r s N P x y (out_of_memory p a whole) f = absurd (x.0 refl)
+apply_alike M k r s N P x y (spoiled_now p a whole) f = absurd (x.1 k refl)
+apply_alike M k r s N P x y e (spoiled_before q b was) = absurd (y.1 k refl)
+apply_alike M k r s N P x y e (out_of_memory q b whole) = absurd (y.0 refl)
+apply_alike M k r s N P x y e (spoiled_now q b whole) = absurd (y.1 k refl)
 
 -- ---- Settle
 
-many_alike : (n m k : ℕ) (M Q R : Machine) (r s : Reply) (N P : Machine) → TellsNoWant r → TellsNoWant s → IsOther r → IsOther s
+many_alike : (n m k : ℕ) (M Q R : Machine) (r s : Reply) (N P : Machine) → TellsNoRefusedMemory r → TellsNoRefusedMemory s → IsOther r → IsOther s
     → AreApplied n M k Q → IsApply Q k r N → AreApplied m M k R → IsApply R k s P → Alike r s N P
 many_alike zero zero k M Q R r s N P x y o u a e b f = apply_alike M k r s N P x y (subst (λ W. IsApply W k r N) a e) (subst (λ W. IsApply W k s P) b f)
 many_alike zero (suc m) k M Q R r s N P x y o u a e (q, S, first, rest) f =
@@ -65,10 +76,10 @@ many_alike (suc n) (suc m) k M Q R r s N P x y o u (p, S, first, rest) e (q, T, 
     let same = (apply_alike M k (reply.Applied p) (reply.Applied q) S T (applied_tells p) (applied_tells q) first other).1 in
     many_alike n m k S Q R r s N P x y o u rest e (subst (λ W. AreApplied m W k R) (sym same) more) f
 
-until_alike : (k : ℕ) (M : Machine) (r s : Reply) (N P : Machine) → TellsNoWant r → TellsNoWant s → AppliesUntil M k r N → AppliesUntil M k s P → Alike r s N P
+until_alike : (k : ℕ) (M : Machine) (r s : Reply) (N P : Machine) → TellsNoRefusedMemory r → TellsNoRefusedMemory s → AppliesUntil M k r N → AppliesUntil M k s P → Alike r s N P
 until_alike k M r s N P x y (n, Q, a, e, o) (m, R, b, f, u) = many_alike n m k M Q R r s N P x y o u a e b f
 
-settles_alike : (n k : ℕ) (M : Machine) (r s : Reply) (N P : Machine) → TellsNoWant r → TellsNoWant s → SettlesFrom n k M r N → SettlesFrom n k M s P → Alike r s N P
+settles_alike : (n k : ℕ) (M : Machine) (r s : Reply) (N P : Machine) → TellsNoRefusedMemory r → TellsNoRefusedMemory s → SettlesFrom n k M r N → SettlesFrom n k M s P → Alike r s N P
 settles_alike zero k M r s N P x y e f = (e.0 ∙ sym f.0, e.1 ∙ sym f.1)
 settles_alike (suc n) k M r s N P x y (inl (Q, until, rest)) (inl (R, also, more)) =
     let same = (until_alike k M reply.Idle reply.Idle Q R idle_tells idle_tells until also).1 in
@@ -79,7 +90,7 @@ settles_alike (suc n) k M r s N P x y (inr e) (inr f) = until_alike k M r s N P 
 
 -- ---- steps and runs
 
-step_alike : (M : Machine) (t : Step) (r s : Reply) (N P : Machine) → TellsNoWant r → TellsNoWant s → IsStep M t r N → IsStep M t s P → Alike r s N P
+step_alike : (M : Machine) (t : Step) (r s : Reply) (N P : Machine) → TellsNoRefusedMemory r → TellsNoRefusedMemory s → IsStep M t r N → IsStep M t s P → Alike r s N P
 step_alike M (step.Accept d) r s N P x y e f = accept_alike M d r s N P x y e f
 step_alike M (step.Apply k) r s N P x y e f = apply_alike M k r s N P x y e f
 step_alike M step.Settle r s N P x y e f = settles_alike (length M.shards) 0 M r s N P x y e f

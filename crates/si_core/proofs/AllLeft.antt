@@ -7,12 +7,12 @@ use Rattle.si_accept.proofs.SlotLemmas.{set_same}
 use Rattle.si_shard.specs.Shards.{ShardState}
 use Rattle.si_core.specs.declared.steps.Reply.{Reply}
 use Rattle.si_core.specs.declared.steps.Reply.TheVariants as reply
-use Rattle.si_core.specs.Machine.{AppliesUntil, AreApplied, IsApplicationOf, IsOther, Machine, Progress, with_progress}
+use Rattle.si_core.specs.Machine.{AppliesUntil, AreApplied, IsOther, Machine, Progress, applied, nothing_left, spoiled_before, spoiled_now, with_progress}
 use Rattle.si_core.specs.Worlds.{AppliesAll, AppliesAllLeft, IsShardOf, IsWorld, machine_of, progress_of}
-use Rattle.si_core.proofs.Progressing.{at_progress, progressed, set_again, world_put}
+use Rattle.si_core.proofs.Progressing.{at_progress, progressed, set_again, so_told, world_put}
 
 -- what stands at k is what was put there last
-set_twice : {X : Type 0} (xs : List X) (k : ℕ) (x y : X) → slice_set (slice_set xs k x) k y ≡ slice_set xs k y
+pub set_twice : {X : Type 0} (xs : List X) (k : ℕ) (x y : X) → slice_set (slice_set xs k x) k y ≡ slice_set xs k y
 set_twice [] k x y = refl
 set_twice (z ∷ xs) zero x y = refl
 set_twice (z ∷ xs) (suc k) x y = ap (λ l. z ∷ l) (set_twice xs k x y)
@@ -39,11 +39,11 @@ many (suc n) M k p at whole le =
     ap (λ l. record M { shards = l }) (set_twice M.shards k next (at_position (p.position + 1 + n)) ∙ ap (λ m. slice_set M.shards k (at_position m)) sum) in (
       p.position + 1,
       Q,
-      inr (p, at, lt, subst (λ b. IsApplicationOf M k p b (reply.Applied (p.position + 1)) Q) (sym whole) (inl (refl, refl))),
+      applied p (record { at = at; left = lt }) whole,
       subst (AreApplied n Q k) end rest,
     )
 
-idle_is_other : (r : Reply) → r ≡ reply.Idle → IsOther r
+pub idle_is_other : (r : Reply) → r ≡ reply.Idle → IsOther r
 idle_is_other r e p f = (let no : reply.Idle ≡ reply.Applied p = sym e ∙ f in cc)
 
 spoiled_is_other : (r : Reply) (k : ℕ) → r ≡ reply.Spoiled k → IsOther r
@@ -79,7 +79,7 @@ module _ (book : BookState) (shards : List ShardState) (k : ℕ) (s t : ShardSta
 
   pub applies_all : AppliesUntil (machine_of book shards) k r (machine_of book (slice_set shards k t))
   applies_all = elim step [
-    | inl idle ↦ (0, M, refl, inl (inr (progress_of s, at_progress book shards k s t at, idle.0), idle.1, unchanged idle.2), idle_is_other r idle.1)
+    | inl idle ↦ (0, M, refl, so_told M N M k r reply.Idle idle.1 (unchanged idle.2) (nothing_left (progress_of s) (at_progress book shards k s t at) idle.0), idle_is_other r idle.1)
     | inr left ↦ by s.spoiled refl left.0 left.1
   ]
     where
@@ -88,7 +88,7 @@ module _ (book : BookState) (shards : List ShardState) (k : ℕ) (s t : ShardSta
         0,
         M,
         refl,
-        inr (progress_of s, at_progress book shards k s t at, lt, subst (λ b. IsApplicationOf M k (progress_of s) b r N) (sym is) (e.0, unchanged e.1)),
+        so_told M N M k r (reply.Spoiled k) e.0 (unchanged e.1) (spoiled_before (progress_of s) (record { at = at_progress book shards k s t at; left = lt }) is),
         spoiled_is_other r k e.0,
       )
       by false is lt (inl e) =
@@ -103,18 +103,15 @@ module _ (book : BookState) (shards : List ShardState) (k : ℕ) (s t : ShardSta
             n,
             N,
             subst (AreApplied n M k) (sym end) (many n M k (progress_of s) (at_progress book shards k s t at) is within),
-            inl (inr (at_position (length s.stored + n), ap (λ P. slice_get P.shards k) end ∙ set_same M.shards k (at_position (length s.stored + n)) (progress_of s) (at_progress book shards k s t at), idle), e.0, refl),
+            so_told N N N k r reply.Idle e.0 refl (nothing_left (at_position (length s.stored + n)) (ap (λ P. slice_get P.shards k) end ∙ set_same M.shards k (at_position (length s.stored + n)) (progress_of s) (at_progress book shards k s t at)) (subst (λ W. length W.journal ≤ length s.stored + n) (sym end) idle)),
             idle_is_other r e.0,
           )
       by false is lt (inr e) = (
         0,
         M,
         refl,
-        inr (
-          progress_of s,
-          at_progress book shards k s t at,
-          lt,
-          subst (λ b. IsApplicationOf M k (progress_of s) b r N) (sym is) (inr (inr (e.0, progressed book shards k s t at (record { position = length s.stored; spoiled = true }) (ap progress_of e.1)))),
-        ),
+        so_told M N (with_progress M k (record { position = length s.stored; spoiled = true })) k r (reply.Spoiled k) e.0
+            (progressed book shards k s t at (record { position = length s.stored; spoiled = true }) (ap progress_of e.1))
+            (spoiled_now (progress_of s) (record { at = at_progress book shards k s t at; left = lt }) is),
         spoiled_is_other r k e.0,
       )

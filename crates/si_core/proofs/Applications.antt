@@ -1,62 +1,31 @@
 -- Applications of one shard, one after the other.
-use Rattle.std.proofs.Common.{◌≡◌, ◌≢◌, ◌∙◌, inl, inr, ℕ, zero, suc, ◌+◌, ◌-◌, ◌<◌, ◌≤◌, Bool, true, false, List, [], ◌∷◌, ◌++◌, Some, None, Option, length, slice_get, refl, sym, ap, subst, arith}
+use Rattle.std.proofs.Common.{◌≡◌, ◌≢◌, ◌∙◌, inl, inr, ℕ, zero, suc, ◌+◌, ◌-◌, ◌<◌, true, false, List, [], ◌∷◌, ◌++◌, length, refl, sym, ap, subst, arith}
 use Rattle.std.proofs.lemmas.List.{length-set}
-use Rattle.si_lists.proofs.Members.{same_some}
 use Rattle.si_accept.proofs.SlotLemmas.{set_same}
 use Rattle.si_core.specs.declared.steps.Step.{Step}
 use Rattle.si_core.specs.declared.steps.Reply.{Reply}
 use Rattle.si_core.specs.declared.steps.Reply.TheVariants as reply
 use Rattle.si_core.specs.Laws.{JournalStays}
-use Rattle.si_core.specs.Machine.{AppliesUntil, AreApplied, IsApplicationOf, IsApply, IsIdle, IsRun, IsStep, LeavesJournal, Machine, Progress, SettlesFrom, TellsPosition, with_progress}
+use Rattle.si_core.specs.Machine.{AppliesUntil, AreApplied, IsApply, IsRun, IsStep, LeavesJournal, Machine, Progress, SettlesFrom, TellsPosition, applied, no_shard, nothing_left, out_of_memory, spoiled_before, spoiled_now, with_progress}
 
 -- ---- what an application leaves
 
 beside_itself : (M N : Machine) → N ≡ M → LeavesJournal M N
 beside_itself M N e = record { limit = ap (λ P. P.limit) e; journal = ap (λ P. P.journal) e; shards = ap (λ P. length P.shards) e }
 
-beside_progress : (M : Machine) (k : ℕ) (p : Progress) (N : Machine) → N ≡ with_progress M k p → LeavesJournal M N
-beside_progress M k p N e = record { limit = ap (λ P. P.limit) e; journal = ap (λ P. P.journal) e; shards = ap (λ P. length P.shards) e ∙ length-set M.shards k p }
-
-beside_by : (M N : Machine) (k : ℕ) (p : Progress) (r : Reply) (b : Bool) → IsApplicationOf M k p b r N → LeavesJournal M N
-beside_by M N k p r true a = beside_itself M N a.1
-beside_by M N k p r false (inl a) = beside_progress M k _ N a.1
-beside_by M N k p r false (inr (inl a)) = beside_itself M N a.1
-beside_by M N k p r false (inr (inr a)) = beside_progress M k _ N a.1
+beside_progress : (M : Machine) (k : ℕ) (p : Progress) → LeavesJournal M (with_progress M k p)
+beside_progress M k p = record { limit = refl; journal = refl; shards = length-set M.shards k p }
 
 pub apply_beside : (M N : Machine) (k : ℕ) (r : Reply) → IsApply M k r N → LeavesJournal M N
-apply_beside M N k r (inl a) = beside_itself M N a.2
-apply_beside M N k r (inr a) = beside_by M N k a.0 r a.0.spoiled a.3
+apply_beside M N k r (no_shard at) = beside_itself M M refl
+apply_beside M N k r (nothing_left p at all) = beside_itself M M refl
+apply_beside M N k r (spoiled_before p has was) = beside_itself M M refl
+apply_beside M N k r (applied p has whole) = beside_progress M k (record { position = p.position + 1; spoiled = false })
+apply_beside M N k r (out_of_memory p has whole) = beside_itself M M refl
+apply_beside M N k r (spoiled_now p has whole) = beside_progress M k (record { position = p.position; spoiled = true })
 
 pub beside_both : (M N P : Machine) → LeavesJournal M N → LeavesJournal N P → LeavesJournal M P
 beside_both M N P a b = record { limit = b.limit ∙ a.limit; journal = b.journal ∙ a.journal; shards = b.shards ∙ a.shards }
-
--- ---- how far the shard is
-
--- the shard k has applied so many at least, if it is one
-abbrev pub HasApplied : Machine → ℕ → ℕ → Type 0
-HasApplied M k n = (p : Progress) → slice_get M.shards k ≡ Some p → n ≤ p.position
-
-further_by : (M N : Machine) (k n m : ℕ) (p : Progress) (b : Bool) → slice_get M.shards k ≡ Some p → n ≤ p.position → IsApplicationOf M k p b (reply.Applied m) N → HasApplied N k (n + 1)
-further_by M N k n m p true at le a q e = cc a.0
-further_by M N k n m p false at le (inl a) q e =
-    let new : Progress = record { position = p.position + 1; spoiled = false } in
-    let is : new ≡ q = same_some (sym (set_same M.shards k new p at) ∙ ap (λ P. slice_get P.shards k) (sym a.1) ∙ e) in
-    let far : n + 1 ≤ p.position + 1 = omega arith in
-    subst (λ (w : Progress). n + 1 ≤ w.position) is far
-further_by M N k n m p false at le (inr (inl a)) q e = cc a.0
-further_by M N k n m p false at le (inr (inr a)) q e = cc a.0
-
-pub further : (M N : Machine) (k n m : ℕ) → HasApplied M k n → IsApply M k (reply.Applied m) N → HasApplied N k (n + 1)
-further M N k n m before (inl a) = cc a.1
-further M N k n m before (inr a) = further_by M N k n m a.0 a.0.spoiled a.1 (before a.0 a.1) a.3
-
--- a shard that has applied as many as the journal has is idle
-pub idle_there : (M : Machine) (k : ℕ) → HasApplied M k (length M.journal) → IsApply M k reply.Idle M
-idle_there M k all = inl (by (slice_get M.shards k) refl, refl, refl)
-  where
-    by : (o : Option Progress) → slice_get M.shards k ≡ o → IsIdle M k
-    by None e = inl e
-    by (Some p) e = inr (p, e, all p e)
 
 -- ---- many applications
 
@@ -69,18 +38,9 @@ one_more_applied n M N P k p done next = subst (λ m. AreApplied m M k P) (let s
 
 -- ---- how far it came
 
-told_by : (M N : Machine) (k m : ℕ) (p : Progress) (b : Bool) → slice_get M.shards k ≡ Some p → IsApplicationOf M k p b (reply.Applied m) N → TellsPosition N k (reply.Applied m)
-told_by M N k m p true at a = cc a.0
-told_by M N k m p false at (inl a) =
-    let new : Progress = record { position = p.position + 1; spoiled = false } in
-    (new, ap (λ P. slice_get P.shards k) a.1 ∙ set_same M.shards k new p at, a.0)
-told_by M N k m p false at (inr (inl a)) = cc a.0
-told_by M N k m p false at (inr (inr a)) = cc a.0
-
 -- the reply to an application tells how far the shard is after it
 pub told_position : (M N : Machine) (k m : ℕ) → IsApply M k (reply.Applied m) N → TellsPosition N k (reply.Applied m)
-told_position M N k m (inl a) = cc a.1
-told_position M N k m (inr a) = told_by M N k m a.0 a.0.spoiled a.1 a.3
+told_position M N k m (applied p has whole) = (let new : Progress = record { position = p.position + 1; spoiled = false } in (new, set_same M.shards k new p has.at, refl))
 
 -- ---- runs
 
@@ -111,18 +71,6 @@ settles_next K k start M Q lt with_ until r N rest = with_ r N (subst (λ n. Set
 
 pub settles_ended : (K k : ℕ) (start M N : Machine) (r : Reply) → k < K → SettlesWith K k start M → r ≢ reply.Idle → AppliesUntil M k r N → SettlesFrom K 0 start r N
 settles_ended K k start M N r lt with_ other until = with_ r N (subst (λ n. SettlesFrom n k M r N) (sym (left_over K k lt)) (inr (other, until)))
-
-pub settles_all : (K k : ℕ) (start M : Machine) → K ≤ k → SettlesWith K k start M → SettlesFrom K 0 start (reply.Settled (length M.journal)) M
-settles_all K k start M le with_ = with_ (reply.Settled (length M.journal)) M (subst (λ n. SettlesFrom n k M (reply.Settled (length M.journal)) M) (sym none) (refl, refl))
-  where
-    none : K - k ≡ 0
-    none = omega arith
-
-pub settles_first : (K : ℕ) (M : Machine) → SettlesWith K 0 M M
-settles_first K M r N s = subst (λ n. SettlesFrom n 0 M r N) (let e : K - 0 ≡ K = omega arith in e) s
-
-pub beside_start : (M : Machine) → LeavesJournal M M
-beside_start M = beside_itself M M refl
 
 pub settles_beside : (n k : ℕ) (M N : Machine) (r : Reply) → SettlesFrom n k M r N → LeavesJournal M N
 settles_beside zero k M N r e = beside_itself M N e.1

@@ -1,17 +1,21 @@
 -- One shard's application, seen as a step of the machine.
-use Rattle.std.proofs.Common.{◌≡◌, ◌≢◌, ◌∙◌, ◌⊎◌, inl, inr, ℕ, zero, suc, ◌+◌, ◌<◌, ◌≤◌, Bool, true, false, List, ◌∷◌, ◌++◌, [], Some, length, map, take, slice_get, slice_set, refl, sym, ap, subst, arith, Result, Ok, Err, OnOk, OnErr}
+use Rattle.std.proofs.Common.{◌≡◌, ◌≢◌, ◌∙◌, ◌⊎◌, inl, inr, ℕ, zero, suc, ◌+◌, ◌<◌, ◌≤◌, Bool, true, false, List, ◌∷◌, ◌++◌, [], Some, None, length, map, take, slice_get, slice_set, refl, sym, ap, subst, arith, Result, Ok, Err, OnOk, OnErr}
 use Rattle.std.proofs.lemmas.Bool.{cases_eq}
 use Rattle.std.proofs.lemmas.List.{length-append, length-set, length-take-le, map-set, take-append-le}
-use Rattle.std.proofs.lemmas.Option.{slice_get-map}
+use Rattle.std.proofs.lemmas.Option.{slice_get-map, slice_get_past}
 use Rattle.std.specs.Option.{option_map}
 use Rattle.si_lists.proofs.Members.{same_some}
 use Rattle.si_model.specs.declared.edits.Edit.{Edit}
+use Rattle.si_model.specs.declared.numbers.Number.{Number}
+use Rattle.si_model.specs.declared.refusals.Refusal.{Refusal}
+use Rattle.si_model.specs.Journals.{refusal_after}
 use Rattle.si_accept.specs.Books.{BookState}
 use Rattle.si_accept.proofs.SlotLemmas.{set_other, set_same}
 use Rattle.si_shard.specs.Shards.{ShardState}
 use Rattle.si_shard.specs.declared.shards.TheConstants.{MOST_SHARDS}
 use Rattle.si_core.specs.declared.steps.Reply.{Reply}
-use Rattle.si_core.specs.Machine.{IsApplicationOf, IsApply, IsRebuilt, Progress, with_progress}
+use Rattle.si_core.specs.declared.steps.Reply.TheVariants as reply
+use Rattle.si_core.specs.Machine.{IsAccept, IsApply, IsRebuilt, Machine, Progress, applied, edit_accepted, edit_out_of_memory, edit_refused, nothing_left, out_of_memory, spoiled_before, spoiled_now, with_progress}
 use Rattle.si_core.specs.Worlds.{AppliesLeft, AppliesNext, IsShardOf, IsWorld, machine_of, progress_of}
 
 -- what stands at k put there again changes nothing
@@ -66,7 +70,16 @@ module _ (book : BookState) (shards : List ShardState) (k : ℕ) (s t : ShardSta
           subst (λ i. IsShardOf book.journal (length shards) i u) (sym same) (subst (IsShardOf book.journal (length shards) k) new is)
       by j u (inr other) e = w.each j u (sym (set_other shards k j t other) ∙ e)
 
+-- a number that no shard has
+pub beyond_all : (book : BookState) (shards : List ShardState) (k : ℕ) (M : Machine) → machine_of book shards ≡ M → length shards ≤ k → slice_get M.shards k ≡ None
+beyond_all book shards k M is beyond =
+    ap (λ N. slice_get N.shards k) (sym is) ∙ slice_get-map progress_of shards k ∙ ap (option_map progress_of) (slice_get_past shards k beyond)
+
 -- ---- the machine after an application
+
+-- a reply and a state that are those of a case
+pub so_told : (M N P : Machine) (k : ℕ) (r s : Reply) → r ≡ s → N ≡ P → IsApply M k s P → IsApply M k r N
+so_told M N P k r s told is a = subst (λ w. IsApply M k w N) (sym told) (subst (IsApply M k s) (sym is) a)
 
 module _ (book : BookState) (shards : List ShardState) (k : ℕ) (s t : ShardState) (at : slice_get shards k ≡ Some s) (r : Reply) (step : AppliesNext book.journal k s r t) where
   -- nothing changes where the shard doesn't
@@ -75,23 +88,30 @@ module _ (book : BookState) (shards : List ShardState) (k : ℕ) (s t : ShardSta
 
   pub applies : IsApply (machine_of book shards) k r (machine_of book (slice_set shards k t))
   applies = elim step [
-    | inl idle ↦ inl (inr (progress_of s, at_progress book shards k s t at, idle.0), idle.1, unchanged idle.2)
-    | inr left ↦ inr (progress_of s, at_progress book shards k s t at, left.0, by s.spoiled refl left.0 left.1)
+    | inl idle ↦ so_told M N M k r reply.Idle idle.1 (unchanged idle.2) (nothing_left (progress_of s) (at_progress book shards k s t at) idle.0)
+    | inr left ↦ by s.spoiled refl left.0 left.1
   ]
     where
-      by : (b : Bool) → s.spoiled ≡ b → length s.stored < length book.journal → AppliesLeft book.journal k s b r t
-          → IsApplicationOf (machine_of book shards) k (progress_of s) b r (machine_of book (slice_set shards k t))
-      by true is lt e = (e.0, unchanged e.1)
+      M : Machine
+      M = machine_of book shards
+
+      N : Machine
+      N = machine_of book (slice_set shards k t)
+
+      by : (b : Bool) → s.spoiled ≡ b → length s.stored < length book.journal → AppliesLeft book.journal k s b r t → IsApply M k r N
+      by true is lt e = so_told M N M k r (reply.Spoiled k) e.0 (unchanged e.1) (spoiled_before (progress_of s) (record { at = at_progress book shards k s t at; left = lt }) is)
       by false is lt (inl e) =
+          let next : Progress = record { position = length s.stored + 1; spoiled = false } in
           let within : length s.stored + 1 ≤ length book.journal = omega arith in
           let long : length (take (length s.stored + 1) book.journal) ≡ length s.stored + 1 = length-take-le (length s.stored + 1) book.journal within in
-          inl (
-            e.0,
-            progressed book shards k s t at (record { position = length s.stored + 1; spoiled = false })
-                (ap progress_of e.1 ∙ ap (λ m. record { position = m; spoiled = s.spoiled }) long ∙ ap (λ b. record { position = length s.stored + 1; spoiled = b }) is),
-          )
-      by false is lt (inr (inl e)) = inr (inl (e.0, unchanged e.1))
-      by false is lt (inr (inr e)) = inr (inr (e.0, progressed book shards k s t at (record { position = length s.stored; spoiled = true }) (ap progress_of e.1)))
+          let same = progressed book shards k s t at next
+          (ap progress_of e.1 ∙ ap (λ m. record { position = m; spoiled = s.spoiled }) long ∙ ap (λ b. record { position = length s.stored + 1; spoiled = b }) is) in
+          so_told M N (with_progress M k next) k r (reply.Applied (length s.stored + 1)) e.0 same (applied (progress_of s) (record { at = at_progress book shards k s t at; left = lt }) is)
+      by false is lt (inr (inl e)) = so_told M N M k r reply.NoMemory e.0 (unchanged e.1) (out_of_memory (progress_of s) (record { at = at_progress book shards k s t at; left = lt }) is)
+      by false is lt (inr (inr e)) =
+          let spoiled : Progress = record { position = length s.stored; spoiled = true } in
+          so_told M N (with_progress M k spoiled) k r (reply.Spoiled k) e.0 (progressed book shards k s t at spoiled (ap progress_of e.1))
+          (spoiled_now (progress_of s) (record { at = at_progress book shards k s t at; left = lt }) is)
 
   pub world_still : IsWorld book shards → IsWorld book (slice_set shards k t)
   world_still w = world_put book shards k s t at (stores_still book.journal k s t (length shards) r (w.each k s at) step) w
@@ -138,3 +158,19 @@ pub world_after : {T E : Type 0} (b c : BookState) (e : Edit) (shards : List Sha
     → IsWorld b shards → IsWorld c shards
 world_after b c e shards (Ok n) ok err w = world_grown b c e shards (ap (λ x. x.journal) ok) w
 world_after b c e shards (Err f) ok err w = subst (λ x. IsWorld x shards) (sym err) w
+
+-- ---- the reply to an edit
+
+module _ (book new : BookState) (shards : List ShardState) (e : Edit) where
+  pub accepts : (n : Number) → refusal_after book.limit book.journal e ≡ None → new ≡ record book { journal = book.journal ++ e ∷ [] } → n.0 ≡ length new.journal
+      → IsAccept (machine_of book shards) e (reply.Accepted n) (machine_of new shards)
+  accepts n none is number =
+      let told : length book.journal + 1 ≡ n.0 = sym (length-append book.journal (e ∷ [])) ∙ ap (λ (b : BookState). length b.journal) (sym is) ∙ sym number in
+      subst (λ k. IsAccept (machine_of book shards) e (reply.Accepted (record { 0 = k })) (machine_of new shards)) told
+      (subst (λ b. IsAccept (machine_of book shards) e (reply.Accepted (record { 0 = length book.journal + 1 })) (machine_of b shards)) (sym is) (edit_accepted none))
+
+  pub refuses : (f : Refusal) → refusal_after book.limit book.journal e ≡ Some f → new ≡ book → IsAccept (machine_of book shards) e (reply.Refused f) (machine_of new shards)
+  refuses f first is = subst (λ b. IsAccept (machine_of book shards) e (reply.Refused f) (machine_of b shards)) (sym is) (edit_refused f first)
+
+  pub lacks_memory : refusal_after book.limit book.journal e ≡ None → new ≡ book → IsAccept (machine_of book shards) e reply.NoMemory (machine_of new shards)
+  lacks_memory none is = subst (λ b. IsAccept (machine_of book shards) e reply.NoMemory (machine_of b shards)) (sym is) (edit_out_of_memory none)

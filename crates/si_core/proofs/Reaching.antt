@@ -14,16 +14,16 @@ use Rattle.si_core.specs.declared.steps.Step.TheVariants as step
 use Rattle.si_core.specs.declared.steps.Reply.{Reply}
 use Rattle.si_core.specs.declared.steps.Reply.TheVariants as reply
 use Rattle.si_core.specs.Laws.{ApplicationsAreRun, SoundIsReached}
-use Rattle.si_core.specs.Machine.{AreApplied, IsRun, Machine, Progress, TellNoWant, TellsNoWant, opened, with_progress}
-use Rattle.si_core.proofs.AllLeft.{at_position, many}
+use Rattle.si_core.specs.Machine.{AreApplied, IsRun, Machine, Progress, TellNoRefusedMemory, TellsNoRefusedMemory, edit_accepted, opened, spoiled_now, with_progress}
+use Rattle.si_core.proofs.AllLeft.{at_position, many, set_twice}
 use Rattle.si_core.proofs.Soundness.{runs_join}
 
 -- ---- so many applications are a run
 
-tells_none : (p : ℕ) → TellsNoWant (reply.Applied p)
+tells_none : (p : ℕ) → TellsNoRefusedMemory (reply.Applied p)
 tells_none p = ((λ e. cc e), (λ k e. cc e))
 
-applied_run : (n : ℕ) (M : Machine) (k : ℕ) (N : Machine) → AreApplied n M k N → (rs : List Reply) × TellNoWant rs × IsRun M (replicate n (step.Apply k)) rs N
+applied_run : (n : ℕ) (M : Machine) (k : ℕ) (N : Machine) → AreApplied n M k N → (rs : List Reply) × TellNoRefusedMemory rs × IsRun M (replicate n (step.Apply k)) rs N
 applied_run zero M k N e = ([], (λ r c. absurd (Contains-nil r c)), e)
 applied_run (suc n) M k N (p, Q, first, rest) = (let more = applied_run n Q k N rest in (
   reply.Applied p ∷ more.0,
@@ -31,8 +31,8 @@ applied_run (suc n) M k N (p, Q, first, rest) = (let more = applied_run n Q k N 
   (Q, first, more.2),
 ))
   where
-    by : (rs : List Reply) → TellNoWant rs → (r : Reply) → (reply.Applied p ≡ r) ⊎ Contains rs r → TellsNoWant r
-    by rs none r (inl e) = subst TellsNoWant e (tells_none p)
+    by : (rs : List Reply) → TellNoRefusedMemory rs → (r : Reply) → (reply.Applied p ≡ r) ⊎ Contains rs r → TellsNoRefusedMemory r
+    by rs none r (inl e) = subst TellsNoRefusedMemory e (tells_none p)
     by rs none r (inr c) = none r c
 
 pub applications_are_run : ApplicationsAreRun
@@ -71,7 +71,7 @@ accepts limit shards before (e ∷ rest) accepted within =
     let room : length before < limit = longer before in
     let none = not_refused limit before e room (accepted before e rest refl) in
     let one : Reaches (machine limit before shards) (machine limit next shards) =
-    (step.Accept e ∷ [], reply.Accepted (record { 0 = length before + 1 }) ∷ [], (machine limit next shards, inr (inl (none, refl, refl)), refl))
+    (step.Accept e ∷ [], reply.Accepted (record { 0 = length before + 1 }) ∷ [], (machine limit next shards, edit_accepted none, refl))
     in
     let more = accepts limit shards next rest (subst IsAccepted (sym same) accepted) (subst (λ (J : List Edit). length J ≤ limit) (sym same) within) in
     subst (λ J. Reaches (machine limit before shards) (machine limit J shards)) same
@@ -106,11 +106,6 @@ applies M k p at can = by p.spoiled refl
         let none : 0 + p.position ≡ p.position = omega arith in
         (replicate p.position (step.Apply k), r.0, subst (λ n. IsRun M (replicate p.position (step.Apply k)) r.0 (with_progress M k (at_position n))) none r.2)
 
-    set_twice : (xs : List Progress) (j : ℕ) (x y : Progress) → slice_set (slice_set xs j x) j y ≡ slice_set xs j y
-    set_twice [] j x y = refl
-    set_twice (z ∷ xs) zero x y = refl
-    set_twice (z ∷ xs) (suc j) x y = ap (λ l. z ∷ l) (set_twice xs j x y)
-
     by : (b : Bool) → p.spoiled ≡ b → Reaches M (with_progress M k p)
     by false is = subst (λ q. Reaches M (with_progress M k q)) (ap (λ b. record { position = p.position; spoiled = b }) (sym is)) so_many
     by true is =
@@ -118,7 +113,7 @@ applies M k p at can = by p.spoiled refl
         let here : slice_get Q.shards k ≡ Some (at_position p.position) = set_same M.shards k (at_position p.position) start at in
         let end : Machine = with_progress Q k spoiled in
         let one : Reaches Q end =
-        (step.Apply k ∷ [], reply.Spoiled k ∷ [], (end, inr (at_position p.position, here, can.1 is, inr (inr (refl, refl))), refl)) in
+        (step.Apply k ∷ [], reply.Spoiled k ∷ [], (end, spoiled_now (at_position p.position) (record { at = here; left = can.1 is }) refl, refl)) in
         let last : end ≡ with_progress M k p =
         ap (λ l. record M { shards = l }) (set_twice M.shards k (at_position p.position) spoiled
         ∙ ap (λ b. slice_set M.shards k (record { position = p.position; spoiled = b })) (sym is)) in

@@ -15,7 +15,7 @@ use Rattle.si_core.specs.declared.steps.Step.TheVariants as step
 use Rattle.si_core.specs.declared.steps.Reply.{Reply}
 use Rattle.si_core.specs.declared.steps.Reply.TheVariants as reply
 use Rattle.si_core.specs.Laws.{ReachedIsSound, RebuildKeepsSound, RunsJoin, RunsKeepSound}
-use Rattle.si_core.specs.Machine.{AppliesUntil, AreApplied, IsAccept, IsApplicationOf, IsApply, IsRun, IsSound, IsStep, Machine, Progress, SettlesFrom, opened, with_progress}
+use Rattle.si_core.specs.Machine.{AppliesUntil, AreApplied, IsAccept, IsApply, IsRun, IsSound, IsStep, Machine, Progress, SettlesFrom, applied, edit_accepted, edit_out_of_memory, edit_refused, no_shard, nothing_left, opened, out_of_memory, spoiled_before, spoiled_now, with_progress}
 use Rattle.si_core.proofs.Applications.{apply_beside, settles_beside}
 
 -- ---- one progress more
@@ -57,34 +57,34 @@ room_and_acceptable limit J e none = by (nat_le limit (length J)) refl none
     by false is free = (let lt = leb-false limit (length J) is in omega arith, free)
 
 sound_accept : (M : Machine) (e : Edit) (r : Reply) (N : Machine) → IsAccept M e r N → IsSound M → IsSound N
-sound_accept M e r N (inl (f, a, b, same)) sound = subst IsSound (sym same) sound
-sound_accept M e r N (inr (inl (none, told, is))) sound =
+sound_accept M e r N (edit_refused f is) sound = sound
+sound_accept M e r N (edit_accepted none) sound =
     let can = room_and_acceptable M.limit M.journal e none in
     let long = length-append M.journal (e ∷ []) in
     let fits = can.0 in
-    subst IsSound (sym is) (record {
+    record {
       accepted = (accepted_push M.journal e).1 (sound.accepted, can.1);
       within = omega arith;
       positions = λ p c. (let w = sound.positions p c in omega arith);
       left = λ p c s. (let w = sound.left p c s in omega arith);
-    })
-sound_accept M e r N (inr (inr (none, told, same))) sound = subst IsSound (sym same) sound
+    }
+sound_accept M e r N (edit_out_of_memory none) sound = sound
 
 -- ---- Apply
 
-sound_by : (M : Machine) (k : ℕ) (p : Progress) (b : Bool) (r : Reply) (N : Machine) → slice_get M.shards k ≡ Some p → p.position < length M.journal → IsApplicationOf M k p b r N → IsSound M → IsSound N
-sound_by M k p true r N at left e sound = subst IsSound (sym e.1) sound
-sound_by M k p false r N at left (inl e) sound =
-    let new : Progress = record { position = p.position + 1; spoiled = false } in
-    subst IsSound (sym e.1) (sound_put M k p new at (omega arith) (λ s. absurd (true≢false (sym s))) sound)
-sound_by M k p false r N at left (inr (inl e)) sound = subst IsSound (sym e.1) sound
-sound_by M k p false r N at left (inr (inr e)) sound =
-    let new : Progress = record { position = p.position; spoiled = true } in
-    subst IsSound (sym e.1) (sound_put M k p new at (omega arith) (λ s. left) sound)
-
 sound_apply : (M : Machine) (k : ℕ) (r : Reply) (N : Machine) → IsApply M k r N → IsSound M → IsSound N
-sound_apply M k r N (inl e) sound = subst IsSound (sym e.2) sound
-sound_apply M k r N (inr (p, at, left, e)) sound = sound_by M k p p.spoiled r N at left e sound
+sound_apply M k r N (no_shard none) sound = sound
+sound_apply M k r N (nothing_left p at all) sound = sound
+sound_apply M k r N (spoiled_before p has was) sound = sound
+sound_apply M k r N (applied p has whole) sound =
+    let new : Progress = record { position = p.position + 1; spoiled = false } in
+    let left = has.left in
+    sound_put M k p new has.at (omega arith) (λ s. absurd (true≢false (sym s))) sound
+sound_apply M k r N (out_of_memory p has whole) sound = sound
+sound_apply M k r N (spoiled_now p has whole) sound =
+    let new : Progress = record { position = p.position; spoiled = true } in
+    let left = has.left in
+    sound_put M k p new has.at (omega arith) (λ s. left) sound
 
 -- ---- a rebuild
 
@@ -125,9 +125,9 @@ abbrev SizesStay : Machine → Machine → Type 0
 SizesStay M N = (N.limit ≡ M.limit) × (length N.shards ≡ length M.shards)
 
 accept_sizes : (M : Machine) (e : Edit) (r : Reply) (N : Machine) → IsAccept M e r N → SizesStay M N
-accept_sizes M e r N (inl (f, a, b, c)) = (ap (λ P. P.limit) c, ap (λ P. length P.shards) c)
-accept_sizes M e r N (inr (inl (a, b, c))) = (ap (λ P. P.limit) c, ap (λ P. length P.shards) c)
-accept_sizes M e r N (inr (inr (a, b, c))) = (ap (λ P. P.limit) c, ap (λ P. length P.shards) c)
+accept_sizes M e r N (edit_refused f is) = (refl, refl)
+accept_sizes M e r N (edit_accepted none) = (refl, refl)
+accept_sizes M e r N (edit_out_of_memory none) = (refl, refl)
 
 step_sizes : (M : Machine) (t : Step) (r : Reply) (N : Machine) → IsStep M t r N → SizesStay M N
 step_sizes M (step.Accept d) r N e = accept_sizes M d r N e

@@ -5,7 +5,7 @@ use Rattle.si_core.specs.declared.steps.Step.{Step}
 use Rattle.si_core.specs.declared.steps.Reply.{Reply}
 use Rattle.si_core.specs.declared.steps.Step.TheVariants as step
 use Rattle.si_core.specs.declared.steps.Reply.TheVariants as reply
-use Rattle.si_core.specs.Machine.{AppliesMany, IsOther, IsRebuilt, IsRun, IsSound, IsStep, LeavesJournal, Machine, Progress, TellNoWant, opened, with_progress}
+use Rattle.si_core.specs.Machine.{AppliesMany, IsOther, IsRebuilt, IsRun, IsSound, IsStep, LeavesJournal, Machine, Progress, TellNoRefusedMemory, opened, with_progress}
 
 -- no application and no settling changes the limit or the journal, or how many shards there are
 abbrev pub JournalStays : Type 0
@@ -15,7 +15,7 @@ JournalStays = (M : Machine) (r : Reply) (N : Machine)
 -- where no memory was refused a run is one function of where it begins and its steps
 abbrev pub RunIsFunction : Type 0
 RunIsFunction = (M : Machine) (steps : List Step) (rs ts : List Reply) (N P : Machine)
-    → IsRun M steps rs N → IsRun M steps ts P → TellNoWant rs → TellNoWant ts → (rs ≡ ts) × (N ≡ P)
+    → IsRun M steps rs N → IsRun M steps ts P → TellNoRefusedMemory rs → TellNoRefusedMemory ts → (rs ≡ ts) × (N ≡ P)
 
 -- every state that a run reaches from the beginning is sound, and has the limit and the shards that it was opened with
 abbrev pub ReachedIsSound : Type 0
@@ -52,4 +52,4 @@ SoundIsReached = (M : Machine) → IsSound M → (steps : List Step) × (rs : Li
 -- where a shard isn't spoiled and n edits are left for it, n applications are a run in which no memory was refused, and its position is greater by n
 abbrev pub ApplicationsAreRun : Type 0
 ApplicationsAreRun = (n : ℕ) (M : Machine) (k : ℕ) (p : Progress) → slice_get M.shards k ≡ Some p → p.spoiled ≡ false → p.position + n ≤ length M.journal
-    → (rs : List Reply) × TellNoWant rs × IsRun M (replicate n (step.Apply k)) rs (with_progress M k (record { position = p.position + n; spoiled = false }))
+    → (rs : List Reply) × TellNoRefusedMemory rs × IsRun M (replicate n (step.Apply k)) rs (with_progress M k (record { position = p.position + n; spoiled = false }))

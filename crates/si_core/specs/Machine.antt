@@ -1,6 +1,6 @@
 -- The machine of the core, as a relation: which reply a step may get and what it leaves, by cases. A state is the journal of
--- accepted edits and, of each shard, how many of them it has applied and whether it is spoiled. The cases that say so need a
--- growth of memory that was refused. All of it is this project's choice.
+-- accepted edits and, of each shard, how many of them it has applied and whether it is spoiled. The cases of refused memory stand
+-- beside the others. All of it is this project's choice.
 use Rattle.std.specs.Prelude.{◌≡◌, ◌≢◌, ◌⊎◌, ℕ, zero, suc, ◌+◌, ◌<◌, ◌≤◌, Bool, true}
 use Rattle.std.specs.Prelude.{false, List, [], ◌∷◌, ◌++◌, length, Some, None, replicate, slice_get, slice_set}
 use Rattle.std.specs.List.{Contains}
@@ -16,7 +16,7 @@ use Rattle.si_core.specs.declared.steps.Reply.TheVariants as reply
 pub record Progress : Type 0 where
   -- how many edits of the journal it has applied
   pub position : ℕ
-  -- whether an edit wanted memory, and no rebuild came since
+  -- whether memory was refused to an edit, and no rebuild came since
   pub spoiled : Bool
 
 -- a state of the machine
@@ -36,37 +36,36 @@ with_progress M k p = record M { shards = slice_set M.shards k p }
 
 -- ---- Accept
 
--- the edit is refused by the first reason against it, and nothing changes; or it is accepted, and the reply is its number
-abbrev pub IsAccept : Machine → Edit → Reply → Machine → Type 0
-IsAccept M e r N =
-    ((f : Refusal) × (refusal_after M.limit M.journal e ≡ Some f) × (r ≡ reply.Refused f) × (N ≡ M))
-    ⊎ (((refusal_after M.limit M.journal e ≡ None) × (r ≡ reply.Accepted (record { 0 = length M.journal + 1 }))
-    × (N ≡ record M { journal = M.journal ++ e ∷ [] }))
-    -- memory: nothing changes
-    ⊎ ((refusal_after M.limit M.journal e ≡ None) × (r ≡ reply.NoMemory) × (N ≡ M)))
+-- what an edit may be answered, and what that leaves
+pub data IsAccept (M : Machine) (e : Edit) : Reply → Machine → Type 0 where
+  -- there is a reason against it, of which the first is told, and nothing changes
+  edit_refused : (f : Refusal) → refusal_after M.limit M.journal e ≡ Some f → IsAccept M e (reply.Refused f) M
+  -- there is none, and its number is told
+  edit_accepted : refusal_after M.limit M.journal e ≡ None
+      → IsAccept M e (reply.Accepted (record { 0 = length M.journal + 1 })) (record M { journal = M.journal ++ e ∷ [] })
+  -- there is none, memory is refused, and nothing changes
+  edit_out_of_memory : refusal_after M.limit M.journal e ≡ None → IsAccept M e reply.NoMemory M
 
 -- ---- Apply
 
--- a shard that isn't spoiled and has an edit left applies the next one
-abbrev pub IsApplication : Machine → ℕ → Progress → Reply → Machine → Type 0
-IsApplication M k p r N =
-    ((r ≡ reply.Applied (p.position + 1)) × (N ≡ with_progress M k (record { position = p.position + 1; spoiled = false })))
-    -- memory: nothing changes, or the shard is spoiled from now on
-    ⊎ (((r ≡ reply.NoMemory) × (N ≡ M)) ⊎ ((r ≡ reply.Spoiled k) × (N ≡ with_progress M k (record { position = p.position; spoiled = true }))))
+-- the shard k is that far, and an edit is left for it
+pub record HasEditLeft (M : Machine) (k : ℕ) (p : Progress) : Type 0 where
+  pub at : slice_get M.shards k ≡ Some p
+  pub left : p.position < length M.journal
 
--- the same of any shard that has an edit left
-abbrev pub IsApplicationOf : Machine → ℕ → Progress → Bool → Reply → Machine → Type 0
-IsApplicationOf M k p true r N = (r ≡ reply.Spoiled k) × (N ≡ M)
-IsApplicationOf M k p false r N = IsApplication M k p r N
-
--- k is no shard, or one that has applied the whole journal
-abbrev pub IsIdle : Machine → ℕ → Type 0
-IsIdle M k = (slice_get M.shards k ≡ None) ⊎ ((p : Progress) × (slice_get M.shards k ≡ Some p) × (length M.journal ≤ p.position))
-
--- nothing is left for the shard k and nothing changes, or it has an edit left
-abbrev pub IsApply : Machine → ℕ → Reply → Machine → Type 0
-IsApply M k r N = (IsIdle M k × (r ≡ reply.Idle) × (N ≡ M))
-    ⊎ ((p : Progress) × (slice_get M.shards k ≡ Some p) × (p.position < length M.journal) × IsApplicationOf M k p p.spoiled r N)
+-- what the shard k may answer where it is to apply the next edit, and what that leaves
+pub data IsApply (M : Machine) (k : ℕ) : Reply → Machine → Type 0 where
+  no_shard : slice_get M.shards k ≡ None → IsApply M k reply.Idle M
+  -- it has applied the whole journal
+  nothing_left : (p : Progress) → slice_get M.shards k ≡ Some p → length M.journal ≤ p.position → IsApply M k reply.Idle M
+  spoiled_before : (p : Progress) → HasEditLeft M k p → p.spoiled ≡ true → IsApply M k (reply.Spoiled k) M
+  applied : (p : Progress) → HasEditLeft M k p → p.spoiled ≡ false
+      → IsApply M k (reply.Applied (p.position + 1)) (with_progress M k (record { position = p.position + 1; spoiled = false }))
+  -- memory is refused, and nothing changes
+  out_of_memory : (p : Progress) → HasEditLeft M k p → p.spoiled ≡ false → IsApply M k reply.NoMemory M
+  -- memory is refused on the way, and the shard is spoiled from now on
+  spoiled_now : (p : Progress) → HasEditLeft M k p → p.spoiled ≡ false
+      → IsApply M k (reply.Spoiled k) (with_progress M k (record { position = p.position; spoiled = true }))
 
 -- ---- Settle
 
@@ -152,12 +151,12 @@ pub record LeavesJournal (M N : Machine) : Type 0 where
 -- ---- replies where no memory was refused
 
 -- the reply doesn't tell that the growth of some memory was refused
-abbrev pub TellsNoWant : Reply → Type 0
-TellsNoWant r = (r ≢ reply.NoMemory) × ((k : ℕ) → r ≢ reply.Spoiled k)
+abbrev pub TellsNoRefusedMemory : Reply → Type 0
+TellsNoRefusedMemory r = (r ≢ reply.NoMemory) × ((k : ℕ) → r ≢ reply.Spoiled k)
 
 -- none of the replies tells that
-abbrev pub TellNoWant : List Reply → Type 0
-TellNoWant rs = (r : Reply) → Contains rs r → TellsNoWant r
+abbrev pub TellNoRefusedMemory : List Reply → Type 0
+TellNoRefusedMemory rs = (r : Reply) → Contains rs r → TellsNoRefusedMemory r
 
 -- ---- what is so in every state that runs reach
 

@@ -70,12 +70,12 @@ IsLeastOf shards n = ((s : ShardState) × Contains shards s × (length s.stored 
 abbrev pub shard_findings : ShardState → List Finding
 shard_findings s = findings_in s.id (present s.stored)
 
--- why findings weren't had: the least shard that is spoiled; where none is, the least position, which isn't the end of the journal; or for want of
--- memory, where all is settled
-abbrev pub IsFaultOf : Machine → WorldFault → Type 0
-IsFaultOf M (fault.Spoiled k) = IsLeastSpoiled M k
-IsFaultOf M (fault.Unsettled position) = IsLeastPosition M position
-IsFaultOf M fault.OutOfMemory = IsSettled M
+-- the machine answers with that fault in place of its findings: the least shard that is spoiled; where none is, the least position, which isn't the
+-- end of the journal; or that memory was refused, where all is settled
+abbrev pub WithholdsFindings : Machine → WorldFault → Type 0
+WithholdsFindings M (fault.Spoiled k) = IsLeastSpoiled M k
+WithholdsFindings M (fault.Unsettled position) = IsLeastPosition M position
+WithholdsFindings M fault.OutOfMemory = IsSettled M
 
 -- the number of a fault, if it has one
 abbrev pub world_fault_code : WorldFault → Option ℕ

@@ -36,10 +36,10 @@ pub enum Reply {
     Spoiled(usize),
 }
 
-/// Why findings weren't had.
+/// Why the machine doesn't tell its findings.
 #[derive(Clone, Copy, Debug, PartialEq, Eq, Error)]
 pub enum WorldFault {
-    /// An application by this shard wanted memory, and no rebuild came since. Its number is the least of those.
+    /// Memory was refused to an application by this shard, and no rebuild came since. Its number is the least of those.
     #[error("shard {0} is spoiled")]
     Spoiled(usize),
     /// Some shard has applied so many edits and no more, the least of all, and the journal has more.

@@ -4,7 +4,7 @@ ghost use Rattle.si_model.specs.Findings.{findings};
 ghost use Rattle.si_model.specs.Form.{IsWellFormed};
 ghost use Rattle.si_model.specs.Journals.{IsAccepted, present};
 ghost use Rattle.si_graph.specs.Phenomena.{IsPlSi};
-ghost use Rattle.si_core.specs.Worlds.{AppliesAll, AppliesNext, IsFaultOf, IsFirstSpoiled, IsLeastOf, IsShardOf, shard_findings};
+ghost use Rattle.si_core.specs.Worlds.{AppliesAll, AppliesNext, IsFirstSpoiled, IsLeastOf, IsShardOf, WithholdsFindings, shard_findings};
 ghost use Rattle.std.specs.List.{Contains, flat_map};
 ghost use Rattle.si_model.specs.Order.{finding_cmp, in_order};
 ghost use Rattle.si_shard.specs.Shards.{ShardState};
@@ -106,8 +106,8 @@ impl World {
 
     /// Lets the shard apply edits, one after the other, until so many were applied or a reply isn't [`Reply::Applied`].
     ///
-    /// It answers with the last [`Reply::Applied`], or with that other reply where nothing was applied. So where an edit after the
-    /// first wants memory the answer doesn't tell it. A shard that was spoiled then says so at the next call.
+    /// It answers with the last [`Reply::Applied`], or with that other reply where nothing was applied. So where memory is refused
+    /// to an edit after the first, the answer doesn't tell it. A shard that was spoiled then says so at the next call.
     pub fn apply_many(&mut self, shard: usize, most: u64) -> Reply
         requires { 1 ≤ most }
         ensures { AppliesMany most self.old shard result self.new }
@@ -128,7 +128,7 @@ impl World {
 
     /// Makes all that the shard knows anew from the edits that it has applied, and so ends a spoiled state.
     ///
-    /// For want of memory everything stays as it was.
+    /// If memory is refused, everything stays as it was.
     pub fn rebuild(&mut self, shard: usize) -> Result<(), OutOfMemory>
         requires { shard < length self.old.shards }
         ensures ok { OnOk result (IsRebuilt self.old shard self.new) }
@@ -139,13 +139,13 @@ impl World {
 
     /// The findings of what is present, in order.
     ///
-    /// They are had only where the machine is settled. Before that it answers [`WorldFault::Spoiled`] with the least shard that
-    /// is spoiled, and where none is [`WorldFault::Unsettled`] with the least position.
+    /// Only a settled machine tells them. Before that it answers [`WorldFault::Spoiled`] with the least shard that is spoiled, and
+    /// where none is [`WorldFault::Unsettled`] with the least position.
     pub fn findings(&self) -> Result<Vec<Finding>, WorldFault>
         ensures found { IfOk result (λ found. found.items ≡ findings (present self.now.journal)) }
         ensures empty { IfOk result (λ found. (found.items ≡ []) ↔ (IsWellFormed (present self.now.journal) × IsPlSi (present self.now.journal))) }
         ensures settled { OnOk result (IsSettled self.now) }
-        ensures fault { IfErr result (IsFaultOf self.now) }
+        ensures fault { IfErr result (WithholdsFindings self.now) }
     {
         let journal = self.book.journal();
         if let Some(shard) = first_spoiled(self.shards.as_slice()) {
@@ -285,7 +285,9 @@ fn is_applied(told: Reply) -> bool
 {
     match told {
         Reply::Applied(_) => true,
-        _ => false,
+        Reply::Accepted(_) | Reply::Refused(_) => false,
+        Reply::Idle | Reply::Settled(_) => false,
+        Reply::NoMemory | Reply::Spoiled(_) => false,
     }
 }
 
@@ -294,7 +296,9 @@ fn is_idle(told: Reply) -> bool
 {
     match told {
         Reply::Idle => true,
-        _ => false,
+        Reply::Accepted(_) | Reply::Refused(_) => false,
+        Reply::Applied(_) | Reply::Settled(_) => false,
+        Reply::NoMemory | Reply::Spoiled(_) => false,
     }
 }
 

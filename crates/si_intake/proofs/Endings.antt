@@ -1,5 +1,5 @@
 -- How many sources have ended, as items are taken.
-use Rattle.std.proofs.Common.{◌≡◌, ◌≢◌, ⊎_elim, ℕ, zero, suc, ◌+◌, ◌<◌, ◌≤◌, Bool, true, false, ◌||◌, true≢false, List, [], ◌∷◌, ◌++◌, refl, sym, ap, ◌∙◌, subst, arith, All}
+use Rattle.std.proofs.Common.{◌≡◌, ◌≢◌, ⊎_elim, ℕ, zero, suc, ◌+◌, ◌<◌, ◌≤◌, Bool, true, false, ◌||◌, List, [], ◌∷◌, ◌++◌, refl, sym, ap, ◌∙◌, subst, arith, All}
 use Rattle.std.specs.Prelude.{if◌then◌else◌}
 use Rattle.si_intake.specs.declared.items.Item.{Item}
 use Rattle.si_intake.specs.Items.{is_last, has_last, of_source, HaveAllEnded}
@@ -37,10 +37,6 @@ counted_all (suc n) items e s below = ⊎_elim
     here : (b : Bool) → has_last (of_source n items) ≡ b → has_last (of_source n items) ≡ true
     here true is = is
     here false is = absurd (let r = ended_most n items in let z = ap one_if is in omega arith)
-
-pub all_counted : (n : ℕ) (items : List Item) → HaveAllEnded n items → ended_below n items ≡ n
-all_counted zero items h = refl
-all_counted (suc n) items h = let r = all_counted n items (λ s below. h s (omega arith)) in let z = ap one_if (h n (omega arith)) in omega arith
 
 -- one is left where one has not ended
 pub one_left : (n : ℕ) (items : List Item) (s : ℕ) → s < n → has_last (of_source s items) ≡ false → ended_below n items < n

@@ -1,9 +1,9 @@
 -- What is known once all ends are gathered.
-use Rattle.std.proofs.Common.{◌≡◌, ◌≢◌, ⊎_elim, ℕ, ◌<◌, true, List, [], ◌∷◌, ◌++◌, length, refl, sym, ap, ◌∙◌, subst, append-nil, zero, suc, map, arith, slice_index_or, length-append, All}
+use Rattle.std.proofs.Common.{◌≡◌, ◌≢◌, ⊎_elim, ℕ, ◌<◌, List, [], ◌∷◌, ◌++◌, length, refl, sym, ap, ◌∙◌, subst, append-nil, zero, suc, arith, slice_index_or, length-append, All}
 use Rattle.std.proofs.lemmas.Option.{slice_get-get_or}
 use Rattle.si_intake.specs.declared.items.Item.{Item}
 use Rattle.si_intake.specs.declared.views.View.{View}
-use Rattle.si_intake.specs.Items.{has_last, of_source, HaveAllEnded}
+use Rattle.si_intake.specs.Items.{of_source, HaveAllEnded}
 use Rattle.si_intake.specs.Rule.{EndsAtItsLast, IsOnItsWay}
 use Rattle.si_intake.specs.Interleavings.{IsInterleaving}
 use Rattle.atomic_table.specs.Seated.{TableId}

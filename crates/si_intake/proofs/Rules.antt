@@ -1,5 +1,5 @@
 -- Each step keeps the rule of the queue.
-use Rattle.std.proofs.Common.{lt_of_not-le, ◌≡◌, ◌≢◌, ◌⊎◌, inl, inr, ⊎_elim, ℕ, zero, suc, ◌+◌, ◌<◌, ◌≤◌, Bool, true, false, true≢false, List, [], ◌∷◌, ◌++◌, length, set, refl, sym, ap, ◌∙◌, subst, arith, append_assoc, length-append, eq-eqb, ne_eqb, slice_get, Some, is_some, unwrap_or}
+use Rattle.std.proofs.Common.{lt_of_not-le, ◌≡◌, ◌≢◌, ◌⊎◌, inl, inr, ⊎_elim, ℕ, zero, suc, ◌<◌, ◌≤◌, Bool, true, false, true≢false, List, [], ◌∷◌, ◌++◌, length, set, refl, sym, ap, ◌∙◌, subst, arith, append_assoc, length-append, eq-eqb, ne_eqb, slice_get, Some, is_some, unwrap_or}
 use Rattle.std.specs.Prelude.{if◌then◌else◌, ◌==◌}
 use mathlib.Core.Option.{Option, some, none, some-injective, some-ne-none}
 use lib.ListN.{get_elem?}
@@ -7,7 +7,7 @@ use Rattle.crossbeam_queue.specs.Fifo.{Pushes, Pops, Forks, Merges, Learns}
 use Rattle.crossbeam_queue.proofs.Lists.{at_set}
 use Rattle.si_intake.specs.declared.items.Item.{Item}
 use Rattle.si_intake.specs.declared.views.View.{View}
-use Rattle.si_intake.specs.Items.{is_last, has_last, of_source}
+use Rattle.si_intake.specs.Items.{has_last, of_source}
 use Rattle.si_intake.specs.Views.{accepter_view, spent_view, with_put, with_got, one_more, next_source, with_known}
 use Rattle.si_intake.specs.Rule.{EndsAtItsLast, FitsSource, FitsAccepter, IsKept, IsTakenFrom, IsOnItsWay}
 use Rattle.si_intake.proofs.Sources.{same, no_rest, own_item, of_both, own_added, other_added, open_before, one_behind, got_within, got_added}

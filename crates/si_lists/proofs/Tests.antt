@@ -90,14 +90,6 @@ pub not_chosen : {X : Type 0} (b : Bool) (x : X) → cond b (Some x) None ≡ No
 not_chosen true x e = cc
 not_chosen false x e = refl
 
-pub not_left : {X : Type 0} (b : Bool) (x : X) → cond b None (Some x) ≡ None → b ≡ true
-not_left true x e = refl
-not_left false x e = cc
-
 pub is_none : {X : Type 0} (o : Option X) → is_some o ≡ false → o ≡ None
 is_none None e = refl
 is_none (Some x) e = cc
-
-pub is_value : {X : Type 0} (o : Option X) → is_some o ≡ true → (x : X) × (o ≡ Some x)
-is_value None e = cc
-is_value (Some x) e = (x, refl)

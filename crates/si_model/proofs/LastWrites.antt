@@ -202,11 +202,6 @@ own_is_last Q T i w h c =
     let r = AllPairs-filter (λ a b. a.place < b.place) (is_before i) T.accesses (h.places T c) in
     (λ e. own_from T i w (final (cut T i) w r e), λ o. last_from_final (cut T i) w r (own_to T i w o))
 
--- an own value is written
-pub own_written : (T : Part) (i : ℕ) (w : Value) → own_value T i ≡ Some w → Writes T w
-unfolding own_value
-own_written T i w e = let l = last_written (cut T i) w e in (l.0, (cut_from T i l.0 w l.1).0)
-
 -- where there is a write before, there is an own value
 pub own_before : (T : Part) (i j : ℕ) (v : Value) → WritesAt T j v → j < i → (w : Value) × (own_value T i ≡ Some w)
 unfolding own_value

@@ -91,7 +91,7 @@ impl Accesses {
 
     /// One more access, which comes last.
     ///
-    /// For want of memory nothing has changed.
+    /// If memory is refused, nothing changes.
     pub fn push(&mut self, placed: Placed) -> Result<(), OutOfMemory>
         ensures ok { OnOk result (self.new ≡ self.old ++ placed ∷ []) }
         ensures err { OnErr result (self.new ≡ self.old) }

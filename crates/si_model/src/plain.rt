@@ -118,7 +118,7 @@ fn writes_again(ops: &[Op], op: &Op) -> bool
     ops.iter().any(|other| op.writes_same(other))
 }
 
-/// Makes the lists what is present after the edit. For want of memory they stay.
+/// Makes the lists what is present after the edit. If memory is refused, they stay as they were.
 #[tactic(auto, unfolding(crate::specs::Edits::after))]
 pub fn change(
     txns: &mut Vec<Txn>,

@@ -33,9 +33,6 @@ items_text-push terms p (first ∷ items) item =
 pub nothing : (old : Option (List ℕ)) (text : List ℕ) → AppendsBeginning old old text
 nothing old text = ([], text, refl, Appends-nil old)
 
-pub whole : (old new : Option (List ℕ)) (text : List ℕ) → Appends old new text → AppendsBeginning old new text
-whole old new text adds = (text, [], sym (append-nil text), adds)
-
 -- a beginning of what comes behind a text is, behind that text, a beginning of both
 pub behind : (old mid new : Option (List ℕ)) (before text tail : List ℕ) → Appends old mid before → AppendsBeginning mid new text → AppendsBeginning old new (before ++ (text ++ tail))
 behind old mid new before text tail wrote part =
@@ -77,10 +74,6 @@ or_both a b e f = ap (λ (x : Bool). x || b) e ∙ f
 
 no_more_faults : (taken : List Told) (t : Told) → has_fault taken ≡ false → is_fault t.what ≡ false → has_fault (taken ++ t ∷ []) ≡ false
 no_more_faults taken t e f = list_any-append (λ (i : Told). is_fault i.what) taken (t ∷ []) ∙ or_both (has_fault taken) (is_fault t.what || false) e (or_both (is_fault t.what) false f refl)
-
--- nothing was taken, and nothing decided
-pub none_decided : (terms : Terms) (old : Option (List ℕ)) (p : Progress) → p ≡ start → IsDecided terms [] old old p
-none_decided terms old p e = record { faultless = refl; wrote = Appends-nil old; progress = e }
 
 -- a line was taken, decided and its text written
 pub line_decided : (terms : Terms) (taken : List Told) (old mid new : Option (List ℕ)) (p q : Progress) (source number : ℕ) (answer : Result Edit LineFault) (text : List ℕ)
@@ -266,17 +259,3 @@ dropped terms old mid new more before after failed f same goes_on ended cut =
       works = tt;
       err = inl (subst (λ (l : List Told). IsCutOff terms l before after failed f) (sym taken) (cut_on terms mid.taken more before after failed f cut));
     }
-
--- nothing was accepted, and what was put was dropped
-pub given_up : (terms : Terms) (old new : Accepting) (more : List Told) (before after : Option (List ℕ)) (failed : Bool)
-    → old.taken ≡ [] → after ≡ before → failed ≡ false → new ≡ record old { taken = old.taken ++ more } → AllEnded new
-    → IsAccepted terms old new (device before after failed) (Err fault.Memory)
-given_up terms old new more before after failed none same works goes_on ended = dropped terms old old new more before after failed fault.Memory refl goes_on ended record {
-  before = old.taken;
-  next = [];
-  order = sym (append-nil old.taken);
-  faultless = ap has_fault none;
-  begun = subst (λ (l : List Told). IsBegun terms (lines_among l) before after) (sym none)
-      (subst (λ (a : Option (List ℕ)). IsBegun terms [] before a) (sym same) (stops terms [] before before start (none_decided terms before start refl)));
-  met = works;
-}

@@ -7,4 +7,3 @@ pub mod PlainOutputs
 pub mod Lone
 pub mod Texts
 pub mod Gathered
-pub mod Openings

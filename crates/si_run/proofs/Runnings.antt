@@ -1,6 +1,5 @@
 -- How far the reading of an input is, and what each of its steps adds.
 use Rattle.std.proofs.Common.{◌≡◌, inl, inr, ℕ, ◌+◌, ◌-◌, ◌^◌, ◌≤◌, Bool, true, false, cond, List, [], ◌∷◌, ◌++◌, map, length, Option, Some, None, refl, sym, ap, ◌∙◌, arith, append_assoc, append-nil, length-append}
-use Rattle.std.specs.Io.KnownBytes.{IsAtEnd}
 use Rattle.std.proofs.lemmas.List.{map_push}
 use Rattle.si_text.specs.Inputs.{Item, with_first, lines_of, is_line_feed, is_blank, item_of, numbered, items_after, items_of, Yields}
 use Rattle.si_text.specs.Lines.{edit_of}
@@ -9,7 +8,7 @@ use Rattle.si_text.specs.declared.line_buffers.LineBuffer.{LineBuffer}
 use Rattle.si_intake.specs.declared.items.Item.{Item as Told}
 use Rattle.si_intake.specs.Ends.{Putting}
 use Rattle.si_intake.specs.Items.{has_last}
-use Rattle.si_run.specs.Readings.{AreAll, AreFirst, HasPut, told_item}
+use Rattle.si_run.specs.Readings.{AreFirst, HasPut, told_item}
 use Rattle.si_run.specs.Runs.{MayBeTooLong}
 
 -- ---- steps
@@ -78,19 +77,7 @@ unended_after old new items fresh puts =
 
 -- ---- the end
 
-all_done : (bytes rest : List ℕ) (m : ℕ) (done : List Item) → items_after 0 bytes ≡ done ++ items_after m rest → rest ≡ [] → items_of bytes ≡ done
-all_done bytes rest m done e none = e ∙ ap (λ r. done ++ items_after m r) none ∙ append-nil done
-
--- at the end all items were read
-pub all_read : (left : Option (List ℕ)) (n m : ℕ) (a b : Option (List ℕ)) (old new : Putting) (count : ℕ) (way : IsReading left n a old new count) → Yields n a m b [] → IsAtEnd b → AreAll left way.items
-all_read None n m a b old new count way none end = tt
-all_read (Some bytes) n m a b old new count way none end = by b (Yields-then 0 n m (Some bytes) a b way.items [] way.read none) end
-  where
-    by : (b : Option (List ℕ)) → Yields 0 (Some bytes) m b (way.items ++ []) → IsAtEnd b → items_of bytes ≡ way.items
-    by None read end = absurd read
-    by (Some rest) read end = all_done bytes rest m (way.items ++ []) read end ∙ append-nil way.items
-
--- before it the first were
+-- before the end the first items were read
 pub first_read : (left : Option (List ℕ)) (n : ℕ) (a : Option (List ℕ)) (old new : Putting) (count : ℕ) (way : IsReading left n a old new count) → AreFirst left way.items
 first_read None n a old new count way = tt
 first_read (Some bytes) n a old new count way = by a way.read

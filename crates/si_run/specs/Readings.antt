@@ -25,7 +25,7 @@ abbrev pub AreFirst : Option (List ℕ) → List Item → Type 0
 AreFirst None items = ⊤
 AreFirst (Some bytes) items = (rest : List Item) × (items_of bytes ≡ items ++ rest)
 
--- behind these items the input ends so: at its end or for want of memory, where it hasn't failed; or with a fault, where it has or is too long
+-- behind these items the input ends so: at its end or since memory was refused, where it hasn't failed; or with a fault, where it has or is too long
 abbrev pub EndsSo : Option (List ℕ) → Bool → List Item → What → Type 0
 EndsSo left failed items (Line number answer) = ⊥
 EndsSo left failed items ReadFault = AreFirst left items × ((failed ≡ true) ⊎ MayBeTooLong left)

@@ -93,7 +93,7 @@ fn operations_of(answer: &Result<Edit, LineFault>) -> u64 {
     match answer {
         Ok(Edit::Arrive(txn)) => txn.ops.as_slice().len() as u64,
         Ok(Edit::SetUp(..)) => 1,
-        _ => 0,
+        Ok(Edit::Resolve(..) | Edit::Withdraw(_)) | Err(_) => 0,
     }
 }
 

@@ -12,7 +12,7 @@ ghost use Rattle.si_run.specs.Runs.{terms_by};
 ghost use Rattle.si_run.specs.Outputs.{counted, is_due, item_text, journal_after, progress_after, reason_after, refusal_line, report_at, report_due, sourced, start};
 
 use crate::Options;
-use si_checker::{AcceptFault, Checker, Name, Pass, SettledFindings};
+use si_checker::{AcceptFault, Checker, Name, Pass, ReportFault, SettledFindings};
 use si_model::{Edit, OutOfMemory};
 use si_text::{LineFault, LineItem, Reason, Verdict, print_refusal, print_report};
 use si_words::laws::{edits_append, lone_pass_issues_all};
@@ -204,7 +204,7 @@ impl<N: Name> Engine<N> {
         match checker.settled_findings(rt, &mut self.pass) {
             Ok(settled) => Ok(settled),
             // a spoiled shard was refused memory
-            Err(_) => Err(AllocError),
+            Err(ReportFault::Spoiled(_) | ReportFault::OutOfMemory) => Err(AllocError),
         }
     }
 

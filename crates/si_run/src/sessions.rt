@@ -115,7 +115,7 @@ pub fn can_start<R: Threads>(rt: &R) -> bool {
     }
 }
 
-/// A worker for each shard, until the checker is closed. Where one ends before, for want of memory, the reports apply what it left.
+/// A worker for each shard, until the checker is closed. Where one ends before, since memory was refused, the reports apply what it left.
 pub fn work_all<N: Name + Send + Sync, G: Gate + Sync, R: Threads + Wait + Sync>(
     rt: &R,
     session: &Session<'_, N, G>,

@@ -8,7 +8,6 @@ pub mod DeviceLemmas
 pub mod PieceLemmas
 pub mod FeedLemmas
 pub mod InputLemmas
-pub mod YieldLemmas
 pub mod StepLemmas
 pub mod OpConditions
 pub mod Ruled

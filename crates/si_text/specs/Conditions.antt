@@ -135,7 +135,7 @@ IsFirstNoOp items index =
 
 -- ---- the faults
 
--- the condition of a fault; want of memory says nothing of a line
+-- the condition of a fault; refused memory says nothing of a line
 abbrev pub Applies : List ℕ → LineFault → Type 0
 Applies line TooLong = MOST_LINE_BYTES < length line
 Applies line NotJson = value_of line ≡ None

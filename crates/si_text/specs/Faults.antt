@@ -15,7 +15,7 @@ field_name Ops = codes "ops"
 field_name Key = codes "key"
 field_name Value = codes "value"
 
--- the number of a fault; want of memory has none
+-- the number of a fault; refused memory has none
 abbrev pub fault_code : LineFault → Option ℕ
 fault_code TooLong = Some 1
 fault_code NotJson = Some 2

@@ -151,7 +151,7 @@ refusal_text SetUpTwice = codes "set-up-twice"
 refusal_text (SetUpTaken holder) = codes "set-up-taken holder=" ++ decimal holder.0
 refusal_text (ValueSetUp op) = codes "value-set-up op=" ++ decimal op
 
--- the number of a reason; want of memory has none
+-- the number of a reason; refused memory has none
 abbrev pub reason_code : Reason → Option ℕ
 reason_code (Malformed fault) = fault_code fault
 reason_code (Refused refusal) = Some (refusal_code refusal)

@@ -6,7 +6,7 @@ use crate::printing::put_number;
 use si_model::{Edge, Evidence, Kind, Label, OutOfMemory, TxnId, evidence_of};
 use std::alloc::Global;
 
-/// Appends the line of an evidence. For want of memory the bytes are as before.
+/// Appends the line of an evidence. If memory is refused, the bytes are as before.
 pub fn print_evidence(
     alloc: Global,
     out: &mut Vec<u8>,

@@ -8,7 +8,7 @@ use crate::{KnownKeys, LineFault};
 use si_model::{Edit, OutOfMemory};
 use std::alloc::{AllocError, Global};
 
-/// A line that isn't blank: its number, counted from 1, and its edit or its fault, which isn't want of memory.
+/// A line that isn't blank: its number, counted from 1, and its edit or its fault, which isn't refused memory.
 pub type LineItem = (u64, Result<Edit, LineFault>);
 
 /// The item that a line is, without its line feed; a blank one is none.

@@ -63,7 +63,7 @@ impl ByteSource for MemorySource {
     }
 }
 
-/// A sink that collects what is written, and takes at most so many bytes at a write. It fails only for want of memory.
+/// A sink that collects what is written, and takes at most so many bytes at a write. It fails only where memory is refused.
 #[derive(Drop)]
 pub struct MemorySink {
     bytes: Vec<u8>,

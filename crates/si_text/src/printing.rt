@@ -9,7 +9,7 @@ use serde_json::Value;
 use si_model::{Finding, Key, Kind, OutOfMemory, Refusal, TxnId};
 use std::alloc::Global;
 
-/// Appends the line of a finding. For want of memory the bytes are as before.
+/// Appends the line of a finding. If memory is refused, the bytes are as before.
 pub fn print_finding(alloc: Global, out: &mut Vec<u8>, finding: &Finding) -> Result<(), OutOfMemory>
     ensures ok { OnOk result (out.new.items ≡ out.old.items ++ finding_text finding.now) }
     ensures err { OnErr result (out.new.items ≡ out.old.items) }
@@ -19,7 +19,7 @@ pub fn print_finding(alloc: Global, out: &mut Vec<u8>, finding: &Finding) -> Res
 }
 
 /// Appends the line of a refused item: its source, counted from 0, its line, counted from 1, and why it is refused.
-/// For want of memory the bytes are as before.
+/// If memory is refused, the bytes are as before.
 pub fn print_refusal(
     alloc: Global,
     out: &mut Vec<u8>,
@@ -37,7 +37,7 @@ pub fn print_refusal(
 
 /// Appends a report: the findings, each in its line, and the summary: how many transactions are present, how many findings
 /// there are, and how many items were refused so far. With `explain` each finding that is a violation is followed by the line
-/// of its evidence. The answer is the verdict that the summary tells. For want of memory the bytes are as before.
+/// of its evidence. The answer is the verdict that the summary tells. If memory is refused, the bytes are as before.
 pub fn print_report(
     alloc: Global,
     out: &mut Vec<u8>,

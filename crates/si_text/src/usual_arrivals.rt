@@ -1,7 +1,8 @@
 //! An arrival in the usual form, read from its tokens without a JSON value in between.
 //!
 //! Most lines of a log are arrivals, and most of those have the members of an arrival in one order and no others. The value of such a
-//! line takes dozens of allocations that its edit has no use for. A line in any other form gets no answer here.
+//! line takes dozens of allocations that its edit has no use for. A line in any other form gets no answer here, and is read as JSON. One
+//! that differs only behind `ops`, as by a further member, has been read that far by then, and is read twice.
 
 ghost use Rattle.std.specs.Prelude.{◌≡◌, ◌≤◌, IfSome, Ok, length};
 ghost use Rattle.json.specs.Reads.{token_of};

@@ -1,15 +1,13 @@
 -- What the entries of a map by commit stamps are as a timeline.
-use Rattle.std.proofs.Common.{◌≡◌, ◌∙◌, inl, inr, ℕ, ◌<◌, Bool, true, false, cond, List, [], ◌∷◌, Option, Some, None, unwrap_or, is_some, refl, sym, ap, ap₂, subst, arith, true≢false}
+use Rattle.std.proofs.Common.{◌≡◌, ◌∙◌, inl, inr, ℕ, ◌<◌, Bool, true, false, cond, List, [], ◌∷◌, Some, None, unwrap_or, is_some, refl, sym, ap, ap₂, subst, arith, true≢false}
 use Rattle.std.specs.List.{AllByRecursion, Contains}
 use Rattle.std.specs.List.Sorted.{IsStrictlySortedBy}
 use Rattle.std.specs.Map.{keys_of, lookup, remove_entry}
 use Rattle.std.specs.BTreeMap.{insert_entry, is_at}
-use Rattle.std.specs.Option.{IsSome}
 use Rattle.std.specs.Cmp.{ranked, nat_cmp_is}
 use Rattle.std.specs.Ordering.{nat_cmp, is_eq, match_ordering}
 use Rattle.std.proofs.Common.{Ordering}
 use Rattle.std.proofs.lemmas.Map.Keys.{sorted_head, sorted_tail}
-use Rattle.std.proofs.lemmas.List.Elements.{Contains-append_right}
 use Rattle.std.specs.declared.cmp.Ordering.TheVariants.{Less, Equal, Greater}
 use Rattle.si_lists.proofs.Members.{here, there, Contains-cons_cases}
 use Rattle.si_model.specs.declared.numbers.Stamp.{Stamp}
@@ -52,13 +50,6 @@ found (e ∷ es) d c none = go (is_at (stamp_cmp d.0) e.0) refl none (found es d
       | inr more ↦ rest more f
     ]
 
-pub some_at : (ds : List Dated) (d : Dated) → Contains ds d → IsSome (lookup (is_at (stamp_cmp d.0)) ds)
-some_at ds d c = go (lookup (is_at (stamp_cmp d.0)) ds) (found ds d c)
-  where
-    go : (o : Option Version) → (o ≡ None → ⊥) → IsSome o
-    go None h = absurd (h refl)
-    go (Some v) h = refl
-
 -- ---- one more, one less
 
 pub adds : (k : Stamp) (v : Version) (ds : List Dated) → Lacks ds k → Adds k v ds (insert_entry stamp_cmp ds k v)
@@ -80,8 +71,3 @@ removes k v (d ∷ ds) e = go (is_at (stamp_cmp k) d.0) refl e (removes k v ds)
         → Adds k v (cond b ds (d ∷ remove_entry (is_at (stamp_cmp k)) ds)) (d ∷ ds)
     go true is f rest = ([], ds, refl, ap₂ (λ (s : Stamp) (w : Version). (s, w) ∷ ds) (sym (same_stamp k d.0 is)) (ap (λ o. unwrap_or o v) f))
     go false is f rest = let a = rest f in (d ∷ a.0, a.1, ap (λ l. d ∷ l) a.2, ap (λ l. d ∷ l) a.3)
-
-pub found_at : (d : Dated) (ds : List Dated) → lookup (is_at (stamp_cmp d.0)) ds ≡ Some d.1 → Contains ds d
-found_at d ds e =
-    let a = removes d.0 d.1 ds e in
-    subst (λ l. Contains l d) (sym a.3) (Contains-append_right a.0 (d ∷ a.1) d (here d a.1))

@@ -37,7 +37,7 @@ impl Timeline {
 
     /// Puts a version in its place.
     ///
-    /// For want of memory nothing has changed.
+    /// If memory is refused, nothing changes.
     pub fn insert(&mut self, commit: Stamp, version: Version) -> Result<(), OutOfMemory>
         requires { Lacks self.old commit }
         ensures ok { OnOk result (Adds commit version self.old self.new) }

@@ -1,4 +1,4 @@
-use Rattle.std.proofs.Common.{◌≡◌, ◌∙◌, ◌<◌, ◌+◌, List, [], ◌∷◌, ◌++◌, length, arith, sym, ap, subst, length-append}
+use Rattle.std.proofs.Common.{◌≡◌, List, [], ◌∷◌, length, arith, sym, ap, subst, length-append}
 use Rattle.std.specs.List.{Contains}
 use Rattle.si_lists.proofs.Members.{here, there}
 use Rattle.si_words.specs.declared.views.ShardView.{ShardView}

@@ -28,7 +28,7 @@ returns-in-Err-File g c =
     inl (c.in-Err-File.place, fault.0, fault.1, refl, told)
 
 pub returns-in-Err-Memory : goal.returns-in-Err-Memory
-returns-in-Err-Memory g c = inr (inl (refl, c.tell.ensures))
+returns-in-Err-Memory g c = inr (inl (refl, c.tell_out_of_memory.ensures))
 
 pub returns-in-Ok : goal.returns-in-Ok
 returns-in-Ok g c =

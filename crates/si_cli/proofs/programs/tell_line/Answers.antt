@@ -6,13 +6,13 @@ or_true : (b : Bool) → (b || true) ≡ true
 or_true b = search rules
 
 pub returns-then-eq : goal.returns-then-eq
-returns-then-eq g c = inr (refl, inl c.tell.ensures)
+returns-then-eq g c = inr (refl, inl c.tell_out_of_memory.ensures)
 
 pub returns-in_default : goal.returns-in_default
-returns-in_default g c = inr (refl, inl c.tell-in_default.ensures)
+returns-in_default g c = inr (refl, inl c.tell_out_of_memory-in_default.ensures)
 
 pub returns : goal.returns
 returns g c =
     let asked : IsAskedFor c.args.error.now = search rules in
     let failed : g.O.ByteSink.failed c.write_all.new.writer ≡ true = c.in-Err.ensures.failed ∙ or_true (g.O.ByteSink.failed c.args.out.now) in
-    inl (asked, c.as_bytes-2.result.now, inr (failed, c.in-Err.ensures.err, c.tell-in-Err.ensures))
+    inl (asked, c.as_bytes-2.result.now, inr (failed, c.in-Err.ensures.err, c.tell_unwritten.ensures))

@@ -1,6 +1,5 @@
 use Rattle.std.proofs.Common.{◌≡◌, ◌<◌, ◌∷◌, ◌++◌, length, All, sym, ap, ◌∙◌, subst, append-nil}
 use Rattle.std.proofs.lemmas.List.{nil_from_length}
-use Rattle.crossbeam_queue.specs.Passes.{view}
 use Rattle.si_intake.specs.Ends.{all_put}
 use Rattle.si_intake.specs.Views.{accepter_view}
 use Rattle.si_intake.specs.Interleavings.{IsInterleaving}

@@ -1,8 +1,5 @@
-use Rattle.std.proofs.Common.{[], ◌+◌, ap, sym, ◌∙◌, subst, arith}
-use Rattle.si_intake.specs.Endings.{ended_below}
-use Rattle.si_intake.specs.Views.{accepter_view}
 use Rattle.si_intake.proofs.Rules.{begins}
-use Rattle.si_intake.proofs.Endings.{none_ended, fresh}
+use Rattle.si_intake.proofs.Endings.{fresh}
 use Rattle.si_intake.proofs.openings.open.Goals as goal
 
 pub ruled-requires-clause-rule : goal.ruled-requires-clause-rule

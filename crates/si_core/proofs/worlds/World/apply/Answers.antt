@@ -1,8 +1,8 @@
 use Rattle.std.proofs.Common.{rules, ◌≡◌, ◌∙◌, ◌<◌, length, sym, ap, subst, Some, slice_get, slice_set}
 use Rattle.std.proofs.lemmas.Option.{slice_get-get_or}
-use Rattle.si_core.specs.Machine.{IsApply}
+use Rattle.si_core.specs.Machine.{IsApply, no_shard}
 use Rattle.si_core.specs.Worlds.{AppliesNext, IsShardOf, machine_of}
-use Rattle.si_core.proofs.Progressing.{applies, own_count, world_still}
+use Rattle.si_core.proofs.Progressing.{applies, beyond_all, own_count, world_still}
 use Rattle.si_core.proofs.worlds.World.apply.Goals as goal
 
 pub apply_next-requires-clause-shard : goal.apply_next-requires-clause-shard
@@ -34,3 +34,6 @@ returns c =
     let step = subst (λ J. AppliesNext J k s c.apply_next.result c.apply_next.new.shard) c.journal.ensures.journal c.apply_next.ensures in
     subst (λ M. IsApply M k c.apply_next.result (machine_of c.self.inside.book (slice_set shards k c.apply_next.new.shard))) c.self.view_is
     (applies c.self.inside.book shards k s c.apply_next.new.shard at c.apply_next.result step)
+
+pub returns-then-shard-len : goal.returns-then-shard-len
+returns-then-shard-len c = no_shard (beyond_all c.self.inside.book c.self.inside.shards.items c.args.shard c.args.self.now c.self.view_is (search rules))

@@ -1,9 +1,10 @@
-use Rattle.std.proofs.Common.{rules, ◌≡◌, ◌∙◌, ◌<◌, length, sym, ap, subst, Some, slice_get, slice_set}
+use Rattle.std.proofs.Common.{rules, ◌≡◌, ◌∙◌, ◌<◌, length, refl, sym, ap, subst, Some, slice_get, slice_set}
 use Rattle.std.proofs.lemmas.Option.{slice_get-get_or}
-use Rattle.si_core.specs.Machine.{AppliesUntil}
+use Rattle.si_core.specs.declared.steps.Reply.TheVariants as reply
+use Rattle.si_core.specs.Machine.{AppliesUntil, no_shard}
 use Rattle.si_core.specs.Worlds.{AppliesAll, IsShardOf, machine_of}
-use Rattle.si_core.proofs.AllLeft.{applies_all, world_settled}
-use Rattle.si_core.proofs.Progressing.{own_count}
+use Rattle.si_core.proofs.AllLeft.{applies_all, idle_is_other, world_settled}
+use Rattle.si_core.proofs.Progressing.{beyond_all, own_count}
 use Rattle.si_core.proofs.worlds.World.apply_all.Goals as goal
 
 pub apply_left-requires-clause-shard : goal.apply_left-requires-clause-shard
@@ -35,3 +36,12 @@ returns c =
     let step = subst (λ J. AppliesAll J k s c.apply_left.result c.apply_left.new.shard) c.journal.ensures.journal c.apply_left.ensures in
     subst (λ M. AppliesUntil M k c.apply_left.result (machine_of c.self.inside.book (slice_set shards k c.apply_left.new.shard))) c.self.view_is
     (applies_all c.self.inside.book shards k s c.apply_left.new.shard at c.apply_left.result step)
+
+pub returns-then-shard-len : goal.returns-then-shard-len
+returns-then-shard-len c = (
+  0,
+  c.args.self.now,
+  refl,
+  no_shard (beyond_all c.self.inside.book c.self.inside.shards.items c.args.shard c.args.self.now c.self.view_is (search rules)),
+  idle_is_other reply.Idle refl,
+)

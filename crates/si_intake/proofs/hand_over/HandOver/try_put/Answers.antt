@@ -1,4 +1,4 @@
-use Rattle.std.proofs.Common.{sym, ap, ◌∙◌}
+use Rattle.std.proofs.Common.{sym, ap}
 use Rattle.si_intake.proofs.Rules.{puts}
 use Rattle.si_intake.proofs.hand_over.HandOver.try_put.Goals as goal
 
