@@ -136,8 +136,8 @@ impl Applied {
         requires accepted { IsAccepted edits.now }
         ensures { OnOk result (AreApplied id edits.now self.new) }
     {
-        for place in from..edits.len() {
-            self.apply(&edits[..place], &edits[place], id)?;
+        for next in from..edits.len() {
+            self.apply(&edits[..next], &edits[next], id)?;
         }
         Ok(())
     }
