@@ -94,33 +94,10 @@ fn following(rt: &impl AllocGlobal, id: u64) -> Result<String, Fail> {
     Ok(format!(in rt.alloc(); "arrive {id} {start} {commit} x?{before} x={id}")?)
 }
 
-/// 700 versions of one key come, and 350 of them go again. With the step 1 they do so in rising order, with 700 in falling order,
-/// and with another number by leaps, since 701 is prime. Side by side they would move too many others, so they go over to a tree,
-/// at an arrival or at the first withdrawal.
-fn come_and_go(
-    rt: &(impl Abort + AllocGlobal + RandomSource),
-    coming: u64,
-    going: u64,
-) -> Result<(), Fail> {
-    let mut world = new_world(rt, 1, 10_000)?;
-    accept(rt, &mut world, "setup x=0", 1);
-    for turn in 1..=700u64 {
-        let words = following(rt, turn.saturating_mul(coming) % 701)?;
-        accept(rt, &mut world, words.as_str(), turn + 1);
-        if turn % 100 == 50 {
-            compare_settled(rt, &mut world)?;
-        }
-    }
-    stepped(&mut world, Step::Settle);
-    assert_eq!(rt; world.findings()?.len(), 0);
-    for turn in 1..=350u64 {
-        let words = format!(in rt.alloc(); "withdraw {}", turn.saturating_mul(going) % 701)?;
-        accept(rt, &mut world, words.as_str(), turn + 701);
-        if turn % 100 == 50 {
-            compare_settled(rt, &mut world)?;
-        }
-    }
-    Ok(())
+/// A number from 1 to 700, each once in 700 turns, since 701 is prime: with the step 1 in rising order, with 700 in falling order, and
+/// else by leaps.
+fn leap(turn: u64, step: u64) -> u64 {
+    turn.saturating_mul(step) % 701
 }
 
 /// Settles, and compares the findings with those of the plain program.
@@ -128,6 +105,51 @@ fn compare_settled(rt: &(impl Abort + AllocGlobal), world: &mut World) -> Result
     stepped(world, Step::Settle);
     compare_findings(rt, world)?;
     Ok(())
+}
+
+/// The edit is accepted, and now and then the findings are compared.
+fn accept_and_compare(
+    rt: &(impl Abort + AllocGlobal),
+    world: &mut World,
+    words: &str,
+    number: u64,
+) -> Result<(), Fail> {
+    accept(rt, world, words, number);
+    if number % 100 == 50 {
+        compare_settled(rt, world)?;
+    }
+    Ok(())
+}
+
+fn all_come(rt: &(impl Abort + AllocGlobal), world: &mut World, step: u64) -> Result<(), Fail> {
+    for turn in 1..=700u64 {
+        let words = following(rt, leap(turn, step))?;
+        accept_and_compare(rt, world, words.as_str(), turn.saturating_add(1))?;
+    }
+    Ok(())
+}
+
+fn half_go(rt: &(impl Abort + AllocGlobal), world: &mut World, step: u64) -> Result<(), Fail> {
+    for turn in 1..=350u64 {
+        let words = format!(in rt.alloc(); "withdraw {}", leap(turn, step))?;
+        accept_and_compare(rt, world, words.as_str(), turn.saturating_add(701))?;
+    }
+    Ok(())
+}
+
+/// 700 versions of one key come, and 350 of them go again. Side by side they would move too many others, so they go over to a tree, at
+/// an arrival or at the first withdrawal.
+fn come_and_go(
+    rt: &(impl Abort + AllocGlobal + RandomSource),
+    coming: u64,
+    going: u64,
+) -> Result<(), Fail> {
+    let mut world = new_world(rt, 1, 10_000)?;
+    accept(rt, &mut world, "setup x=0", 1);
+    all_come(rt, &mut world, coming)?;
+    compare_settled(rt, &mut world)?;
+    half_go(rt, &mut world, going)?;
+    compare_settled(rt, &mut world)
 }
 
 #[test]
