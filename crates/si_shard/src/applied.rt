@@ -20,7 +20,7 @@ use std::hash::RandomState;
 use std::mem;
 
 /// How many accesses may be walked for changes that wait, beside one for each stored edit.
-const MOST_WAITING: usize = 1_048_576;
+const MOST_WAITING: usize = 65_536;
 
 /// So many edits and fewer are applied one after the other, each straight to its keys: gathering them costs more than it saves.
 const MOST_AT_ONCE: usize = 1_024;
