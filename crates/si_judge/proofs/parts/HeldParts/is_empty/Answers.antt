@@ -1,6 +1,6 @@
 use Rattle.std.proofs.Common.{◌∙◌, ◌==◌, ap, length, sym, true≢false}
 use Rattle.si_judge.proofs.PartMaps.{none_came}
-use Rattle.si_judge.proofs.parts.Parts.is_empty.Goals as goal
+use Rattle.si_judge.proofs.parts.HeldParts.is_empty.Goals as goal
 
 pub returns-else-is_empty : goal.returns-else-is_empty
 returns-else-is_empty c = (

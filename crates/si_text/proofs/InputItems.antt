@@ -8,7 +8,7 @@ use Rattle.si_text.specs.declared.readings.TheConstants.{MOST_LINE_BYTES}
 use Rattle.si_text.specs.Inputs.{Item, is_line_feed, has_line_feed, with_first, lines_of, is_blank, item_of, numbered, items_after}
 use Rattle.si_text.specs.Lines.{edit_of}
 use Rattle.si_text.specs.declared.faults.LineFault.TheVariants.{TooLong}
-use Rattle.si_text.proofs.FeedLemmas.{or_false, before_feed, front_without, has_line_feed-append, has_line_feed-take}
+use Rattle.si_text.proofs.LineFeeds.{or_false, before_feed, front_without, has_line_feed-append, has_line_feed-take}
 
 first_of : List (List ℕ) → List ℕ
 first_of [] = []

@@ -25,7 +25,7 @@ use Rattle.si_text.specs.declared.faults.Field.TheVariants as fields
 use Rattle.si_text.specs.declared.faults.LineFault.{LineFault}
 use Rattle.si_text.specs.declared.faults.LineFault.TheVariants.{TooLong, NotJson, NotObject, BadKind, BadField, TooManyOps, BadOp}
 use Rattle.si_text.specs.declared.readings.TheConstants.{MOST_LINE_BYTES}
-use Rattle.si_text.proofs.StepLemmas.{key_there}
+use Rattle.si_text.proofs.StepwiseLines.{key_there}
 
 -- a step goes on with what is there
 follow : {A B : Type 0} (P : Result B LineFault → Type 0) (fault : LineFault) (o : Option A) (x : A) (next : A → Result B LineFault) → o ≡ Some x → P (next x) → P (or_fault fault o >>= next)

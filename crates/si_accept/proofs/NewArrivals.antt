@@ -16,7 +16,7 @@ use Rattle.si_lists.proofs.Tests.{any_is, none_both, none_mapped, not_chosen, is
 use Rattle.si_accept.specs.Stamps.{has, LacksPerhaps}
 use Rattle.si_accept.specs.Writers.{AreFree}
 use Rattle.si_accept.specs.Indexes.{Indexes, AreIndexes, LacksTxn, CommitsAt, IsExact, install_of, other_of}
-use Rattle.si_accept.proofs.IndexLemmas.{writer_is}
+use Rattle.si_accept.proofs.IndexFinds.{writer_is}
 use Rattle.si_accept.proofs.IndexChanges.{id_is_new}
 
 pub id_of_arrival : (P : Present) (T : Txn) → arrival_refusal P T ≡ None → with_id P.txns T.id ≡ None

@@ -7,7 +7,7 @@ use Rattle.si_judge.specs.Held.{AreNamedApart, parts_in}
 use Rattle.si_judge.specs.Spread.{spread_cmp}
 use Rattle.si_judge.proofs.IndexEdits.{no_value}
 use Rattle.si_judge.proofs.PartMaps.{is_held, names_apart, same_left, same_parts, taken_out}
-use Rattle.si_judge.proofs.parts.Parts.remove.Goals as goal
+use Rattle.si_judge.proofs.parts.HeldParts.remove.Goals as goal
 
 pub unreachable-requires : goal.unreachable-requires
 unreachable-requires c =

@@ -1,7 +1,7 @@
 use Rattle.std.proofs.Common.{◌∙◌, ◌++◌, [], ◌∷◌, ap}
 use Rattle.si_judge.specs.Held.{parts_in}
 use Rattle.si_judge.proofs.PartMaps.{one_more_part}
-use Rattle.si_judge.proofs.parts.Parts.insert.Goals as goal
+use Rattle.si_judge.proofs.parts.HeldParts.insert.Goals as goal
 
 pub returns : goal.returns
 returns c = ap (λ l. parts_in (c.self.inside.sorted.entries ++ l)) c.in_ok-push.ensures.items

@@ -8,7 +8,7 @@ use Rattle.si_model.specs.declared.transactions.Txn.{Txn}
 use Rattle.si_model.specs.Edits.{same_id, with_id}
 use Rattle.si_accept.specs.Arrivals.{in_slots, IsInSlot, ArePlaces}
 use Rattle.si_lists.proofs.Tests.{find_only, find_none, find-None}
-use Rattle.si_accept.proofs.SlotLemmas.{IsAlone, slot_holds, slot_of, pushed_old, pushed_new, pushed_cases, set_other, set_same, slot_among_first}
+use Rattle.si_accept.proofs.FilledSlots.{IsAlone, slot_holds, slot_of, pushed_old, pushed_new, pushed_cases, set_other, set_same, slot_among_first}
 
 same_or_not : (j k : ℕ) → (j ≡ k) ⊎ (j ≡ k → ⊥)
 same_or_not j k = elim (eqb j k) as (λ b. eqb j k ≡ b → (j ≡ k) ⊎ (j ≡ k → ⊥)) [
