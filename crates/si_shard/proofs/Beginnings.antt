@@ -30,6 +30,7 @@ begins_after stored edits i e within is accepted =
     ∙ ap (λ l. stored ++ l) (ap (λ l. take i edits ++ l) (sym cons) ∙ take-append-drop i edits) in
     accepted_begins ((stored ++ take i edits) ++ e ∷ []) (drop (i + 1) edits) (subst IsAccepted (sym whole) accepted)
 
+-- and with none before
 pub begins_accepted : (edits : List Edit) (i : ℕ) (e : Edit) → i < length edits → e ≡ slice_index_or edits i e → IsAccepted edits → IsAccepted (take i edits ++ e ∷ [])
 begins_accepted edits i e within is accepted = begins_after [] edits i e within is accepted
 

@@ -177,7 +177,7 @@ fn apply_and_keep(
     requires accepted { IsAccepted (_stored.now ++ edit ∷ []) }
     ensures kept { OnOk result (AreKept id (_stored.now ++ edit ∷ []) kept.new.items) }
     ensures applied { OnOk result (AreApplied id kept.new.items applied.new) }
-    ensures wanting { OnErr result (kept.new.items ≡ kept.old.items) }
+    ensures refused { OnErr result (kept.new.items ≡ kept.old.items) }
 {
     kept.reserve(1)?;
     if applied.apply(kept.as_slice(), &edit, id)? {
