@@ -68,28 +68,28 @@ fn bit_of(kind: Kind) -> u64 {
 }
 
 /// One of the keys. One that stands there more often comes more often.
-fn some_key(rt: &impl AllocGlobal, dice: &mut Dice, few: Few<'_>) -> Result<Key, Fail> {
+fn some_key(rt: &(impl Abort + AllocGlobal), dice: &mut Dice, few: Few<'_>) -> Key {
     let place = dice.below(few.keys.len() as u64) as usize;
-    let text = few.keys.get(place).ok_or("a key is wanted")?;
-    Ok(key(rt, text)?)
+    let text = few.keys.get(place).expect(rt, "a key");
+    key(rt, text).expect(rt, "a key")
 }
 
-fn some_op(rt: &impl AllocGlobal, dice: &mut Dice, few: Few<'_>) -> Result<Op, Fail> {
-    let key = some_key(rt, dice, few)?;
+fn some_op(rt: &(impl Abort + AllocGlobal), dice: &mut Dice, few: Few<'_>) -> Op {
+    let key = some_key(rt, dice, few);
     let value = Value(dice.below(few.values));
-    Ok(match dice.below(5) {
+    match dice.below(5) {
         0 | 1 => Op::Write(key, value),
         2 => Op::Read(key, None),
         _ => Op::Read(key, Some(value)),
-    })
+    }
 }
 
-fn some_ops(rt: &impl AllocGlobal, dice: &mut Dice, few: Few<'_>) -> Result<Ops, Fail> {
+fn some_ops(rt: &(impl Abort + AllocGlobal), dice: &mut Dice, few: Few<'_>) -> Ops {
     let mut ops = Vec::new(rt.alloc());
     for _ in 0..dice.below(5) {
-        ops.push(some_op(rt, dice, few)?)?;
+        ops.push(some_op(rt, dice, few)).expect(rt, "memory");
     }
-    Ok(ops_of(ops)?)
+    ops_of(ops).expect(rt, "operations")
 }
 
 /// A commit soon after the start, or sometimes before it.
@@ -104,16 +104,16 @@ fn some_status(dice: &mut Dice, start: u64) -> Status {
     }
 }
 
-fn some_arrival(rt: &impl AllocGlobal, dice: &mut Dice, few: Few<'_>) -> Result<Edit, Fail> {
+fn some_arrival(rt: &(impl Abort + AllocGlobal), dice: &mut Dice, few: Few<'_>) -> Edit {
     let start = dice.below(few.starts);
     let status = some_status(dice, start);
-    let ops = some_ops(rt, dice, few)?;
-    Ok(Edit::Arrive(Txn {
+    let ops = some_ops(rt, dice, few);
+    Edit::Arrive(Txn {
         id: TxnId(dice.below(few.ids)),
         start: Stamp(start),
         status,
         ops,
-    }))
+    })
 }
 
 fn some_outcome(dice: &mut Dice, few: Few<'_>) -> Outcome {
@@ -124,15 +124,11 @@ fn some_outcome(dice: &mut Dice, few: Few<'_>) -> Outcome {
 }
 
 /// Some edit.
-pub(super) fn some_edit(
-    rt: &impl AllocGlobal,
-    dice: &mut Dice,
-    few: Few<'_>,
-) -> Result<Edit, Fail> {
-    Ok(match dice.below(20) {
-        19 => Edit::SetUp(some_key(rt, dice, few)?, Value(dice.below(few.values))),
+pub(super) fn some_edit(rt: &(impl Abort + AllocGlobal), dice: &mut Dice, few: Few<'_>) -> Edit {
+    match dice.below(20) {
+        19 => Edit::SetUp(some_key(rt, dice, few), Value(dice.below(few.values))),
         16..=18 => Edit::Withdraw(TxnId(dice.below(few.ids))),
-        kind if kind < few.arrivals => some_arrival(rt, dice, few)?,
+        kind if kind < few.arrivals => some_arrival(rt, dice, few),
         _ => Edit::Resolve(TxnId(dice.below(few.ids)), some_outcome(dice, few)),
-    })
+    }
 }

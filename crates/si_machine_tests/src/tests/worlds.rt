@@ -7,21 +7,18 @@ mod rows;
 
 use super::*;
 use si_core::{Reply, Step, World, WorldFault};
-use si_model::{Finding, MOST_EDITS, findings_of, is_history};
+use si_model::{Finding, Key, Kind, MOST_EDITS, Txn, Value, findings_of, is_history};
 use si_scripts::{asked, edit_of};
 use si_shard::MOST_SHARDS;
 use std::hash::RandomState;
 use std::random::RandomSource;
 
 /// A new machine of so many shards, whose journal takes so many edits.
-fn new_world(
-    rt: &(impl Abort + AllocGlobal + RandomSource),
-    shards: usize,
-    limit: usize,
-) -> Result<World, Fail> {
+fn new_world(rt: &(impl Abort + AllocGlobal + RandomSource), shards: usize, limit: usize) -> World {
     assert!(rt; 1 <= shards && shards <= MOST_SHARDS);
     assert!(rt; 1 <= limit && limit <= MOST_EDITS);
-    Ok(World::new(rt.alloc(), RandomState::new(rt)?, shards, limit)?)
+    let hash = RandomState::new(rt).expect(rt, "random bytes");
+    World::new(rt.alloc(), hash, shards, limit).expect(rt, "memory")
 }
 
 /// Calls `step` and says nothing of what it does: tests look at that, and their proofs needn't.
@@ -35,28 +32,56 @@ fn many_applied(rt: &impl Abort, world: &mut World, shard: usize, most: u64) -> 
 }
 
 /// Rebuilds the shard, if it is one.
-fn rebuilt(world: &mut World, shard: usize) -> Result<bool, Fail> {
+fn rebuilt(rt: &impl Abort, world: &mut World, shard: usize) -> bool {
     let is_one = shard < world.shards();
     if is_one {
-        world.rebuild(shard)?;
+        world.rebuild(shard).expect(rt, "memory");
     }
-    Ok(is_one)
+    is_one
+}
+
+fn found_in(world: &World) -> Result<Vec<Finding>, WorldFault> {
+    world.findings()
+}
+
+fn present_in(rt: &impl Abort, world: &World) -> Vec<Txn> {
+    world.present().expect(rt, "memory")
+}
+
+fn set_up_in(rt: &impl Abort, world: &World) -> Vec<(Key, Value)> {
+    world.initial().expect(rt, "memory")
 }
 
 fn fault_of(world: &World) -> Option<WorldFault> {
-    match world.findings() {
-        Ok(_) => None,
-        Err(fault) => Some(fault),
-    }
+    found_in(world).err()
+}
+
+/// What the plain program finds on what is present.
+fn plainly_found(rt: &(impl Abort + AllocGlobal), world: &World) -> Vec<Finding> {
+    let txns = present_in(rt, world);
+    let initial = set_up_in(rt, world);
+    assert!(rt; is_history(&txns, &initial));
+    findings_of(rt.alloc(), &txns, &initial).expect(rt, "memory")
 }
 
 /// What is found on what is present, which is what the plain program finds there.
-fn compare_findings(rt: &(impl Abort + AllocGlobal), world: &World) -> Result<Vec<Finding>, Fail> {
-    let txns = world.present()?;
-    let initial = world.initial()?;
-    assert!(rt; is_history(&txns, &initial));
-    let plain = findings_of(rt.alloc(), &txns, &initial)?;
-    let found = world.findings()?;
-    assert!(rt; found.iter().eq(plain.iter()));
-    Ok(found)
+fn compare_findings(rt: &(impl Abort + AllocGlobal), world: &World) -> Vec<Finding> {
+    let found = found_in(world).expect(rt, "findings");
+    let plain = plainly_found(rt, world);
+    assert!(rt; found.as_slice() == plain.as_slice());
+    found
+}
+
+/// So many findings are had.
+fn finds(rt: &impl Abort, world: &World, count: usize) {
+    let found = found_in(world).expect(rt, "findings");
+    assert_eq!(rt; found.len(), count);
+}
+
+/// The findings are of these kinds, in order.
+fn assert_kinds(rt: &impl Abort, findings: &[Finding], kinds: &[Kind]) {
+    assert_eq!(rt; findings.len(), kinds.len());
+    for (finding, kind) in findings.iter().zip(kinds) {
+        assert!(rt; finding.kind == *kind);
+    }
 }

@@ -13,7 +13,10 @@ use super::*;
 use si_judge::{Cases, KeyFault, KeyState};
 use si_model::parts::{on_key, part_of};
 use si_model::plain::{Walked, change, find_with_id};
-use si_model::{Edit, Key, Outcome, Refusal, Txn, TxnId, Value, findings_of, refusal_on};
+use si_model::{
+    Edit, Finding, Key, OnKey, OutOfMemory, Outcome, Refusal, Txn, TxnId, Value, findings_of,
+    refusal_on,
+};
 use std::alloc::Global;
 use std::marker::Model;
 
@@ -43,7 +46,7 @@ impl Model for Beside {
 }
 
 impl Beside {
-    pub(super) fn new(alloc: Global, key: Key) -> Result<Beside, Fail> {
+    pub(super) fn new(alloc: Global, key: Key) -> Result<Beside, OutOfMemory> {
         Ok(Beside {
             alloc,
             state: KeyState::new(alloc, key.try_clone()?, Cases::new()),
@@ -86,38 +89,62 @@ impl Beside {
     }
 
     /// Gives the edit to both. The findings are then those of the plain program, and the judgements within the bound.
-    pub(super) fn compare(
-        &mut self,
-        rt: &impl Abort,
-        edit: &Edit,
-    ) -> Result<Option<Refusal>, Fail> {
-        let before = on_key(self.alloc, &self.txns, &self.initial, &self.key)?;
+    pub(super) fn compare(&mut self, rt: &impl Abort, edit: &Edit) -> Option<Refusal> {
+        let before = self.on_key(rt);
         let judged = self.state.judged();
-        let refusal = self.give(rt, edit)?;
-        let now = on_key(self.alloc, &self.txns, &self.initial, &self.key)?;
+        let refusal = self.give(rt, edit).expect(rt, "memory");
+        let now = self.on_key(rt);
         let most = most_judgements(&before, &now, edit);
         assert!(rt; self.state.judged() <= judged.saturating_add(most));
-        self.assert_same(rt)?;
-        Ok(refusal)
+        self.assert_same_findings(rt);
+        self.assert_same_fill(rt, &now);
+        refusal
+    }
+
+    /// What is on the key, by a walk over all that is present.
+    fn on_key(&self, rt: &impl Abort) -> OnKey {
+        let on = on_key(self.alloc, &self.txns, &self.initial, &self.key);
+        on.expect(rt, "memory")
+    }
+
+    /// What the state finds, of which nothing is said: tests look at that.
+    pub(super) fn found(&self, rt: &impl Abort) -> Vec<Finding> {
+        self.state.findings().expect(rt, "findings")
+    }
+
+    fn plainly_found(&self, rt: &impl Abort) -> Vec<Finding> {
+        assert!(rt; self.whole);
+        findings_of(self.alloc, &self.txns, &self.initial).expect(rt, "memory")
     }
 
     /// The state shows what the plain program finds on the key.
-    fn assert_same(&self, rt: &impl Abort) -> Result<(), Fail> {
-        assert!(rt; self.whole);
-        let found = self.state.findings()?;
-        let plain = findings_of(self.alloc, &self.txns, &self.initial)?;
-        assert!(rt;
-            found
-                .iter()
-                .eq(plain.iter().filter(|finding| finding.key == self.key))
-        );
+    fn assert_same_findings(&self, rt: &impl Abort) {
+        let found = self.found(rt);
+        let plain = self.plainly_found(rt);
+        assert!(rt; are_those_on(&found, &plain, &self.key));
         assert_eq!(rt; self.state.has_findings(), !found.is_empty());
-        let now = on_key(self.alloc, &self.txns, &self.initial, &self.key)?;
-        let empty = now.parts.as_slice().is_empty() && now.initial == None;
+    }
+
+    /// The state is empty where nothing is on the key, and it is not spoiled.
+    fn assert_same_fill(&self, rt: &impl Abort, on: &OnKey) {
+        let empty = on.parts.as_slice().is_empty() && on.initial == None;
         assert_eq!(rt; self.state.is_empty(), empty);
         assert!(rt; !self.state.is_spoiled());
-        Ok(())
     }
+}
+
+/// Whether these are the findings on the key among all of them, in their order.
+fn are_those_on(found: &[Finding], all: &[Finding], key: &Key) -> bool {
+    let mut count = 0usize;
+    for finding in all {
+        if finding.key == *key {
+            if found.get(count) != Some(finding) {
+                return false;
+            }
+            count = count.saturating_add(1);
+        }
+    }
+    count == found.len()
 }
 
 fn reason(txns: &[Txn], initial: &[(Key, Value)], edit: &Edit) -> Option<Refusal>

@@ -17,10 +17,13 @@ fn touched_in(before: &OnKey, now: &OnKey, edit: &Edit, reader: &Part) -> u64 {
     if reader.status.commit() == None {
         return 0;
     }
-    let accesses = reader.accesses.as_slice().iter();
-    accesses
-        .filter(|placed| is_touched(before, now, edit, reader, **placed))
-        .count() as u64
+    let mut touched = 0u64;
+    for placed in reader.accesses.as_slice() {
+        if is_touched(before, now, edit, reader, *placed) {
+            touched = touched.saturating_add(1);
+        }
+    }
+    touched
 }
 
 fn is_touched(before: &OnKey, now: &OnKey, edit: &Edit, reader: &Part, placed: Placed) -> bool {
@@ -48,10 +51,12 @@ fn writes_returned(on: &OnKey, id: TxnId, read: Option<Value>) -> bool {
     let Some(value) = read else {
         return false;
     };
-    let parts = on.parts.as_slice();
-    parts
-        .iter()
-        .any(|part| part.id == id && writes(part, value))
+    for part in on.parts.as_slice() {
+        if part.id == id && writes(part, value) {
+            return true;
+        }
+    }
+    false
 }
 
 /// The transaction installs the version next after the one that the read returned.

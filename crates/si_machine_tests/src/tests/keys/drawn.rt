@@ -2,7 +2,8 @@
 
 use super::*;
 use chance::{Few, Tally, some_edit};
-use si_scripts::{Dice, key};
+use scripts::new_beside;
+use si_scripts::Dice;
 
 /// One key in eight is another one.
 const FEW: Few<'static> = Few {
@@ -15,28 +16,23 @@ const FEW: Few<'static> = Few {
 };
 
 /// One history, from nothing on.
-fn give_some(
-    rt: &(impl Abort + AllocGlobal),
-    dice: &mut Dice,
-    tally: &mut Tally,
-) -> Result<(), Fail> {
-    let mut beside = Beside::new(rt.alloc(), key(rt, "x")?)?;
+fn give_some(rt: &(impl Abort + AllocGlobal), dice: &mut Dice, tally: &mut Tally) {
+    let mut beside = new_beside(rt, "x");
     for _ in 0..500 {
-        let edit = some_edit(rt, dice, FEW)?;
-        if beside.compare(rt, &edit)?.is_none() {
+        let edit = some_edit(rt, dice, FEW);
+        if beside.compare(rt, &edit).is_none() {
             tally.count_edit(&edit);
-            tally.count_findings(&beside.state.findings()?);
+            tally.count_findings(&beside.found(rt));
         }
     }
-    Ok(())
 }
 
 #[test]
-fn findings_are_those_of_the_plain_program(rt: HostRuntime) -> Result<(), Fail> {
+fn findings_are_those_of_the_plain_program(rt: HostRuntime) {
     let mut dice = Dice::new(1);
     let mut tally = Tally::new();
     for _ in 0..20 {
-        give_some(&rt, &mut dice, &mut tally)?;
+        give_some(&rt, &mut dice, &mut tally);
     }
     assert!(rt;
         tally.arrivals >= 1000 && tally.resolutions >= 200,
@@ -47,5 +43,4 @@ fn findings_are_those_of_the_plain_program(rt: HostRuntime) -> Result<(), Fail> 
         "too few edits"
     );
     assert_eq!(rt; tally.kinds, 255, "too few kinds of findings");
-    Ok(())
 }

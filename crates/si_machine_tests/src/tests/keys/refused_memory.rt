@@ -2,14 +2,15 @@
 //!
 //! A plain run refuses no memory, and these tests then see only that each call succeeds. With
 //! `rt try --test --fail-alloc N` the Nth allocation of each test is refused. Where an edit of the state told of it the test
-//! writes `refused`, and every later call has to answer that the state is spoiled. Where that memory was wanted for the edits
-//! themselves, the test ends with an error and says nothing of the state.
+//! writes `refused`, and every later call has to answer that the state is spoiled. Where that memory was wanted by the plain program,
+//! the test ends with an error and says nothing of the state.
 
 use super::*;
 use si_judge::{Cases, KeyFault, KeyState};
 use si_model::{Accesses, Outcome, Part, Stamp, Status, TxnId, Value};
-use si_scripts::{edit_of, key};
+use si_scripts::key;
 use std::alloc::Global;
+use std::test::Fail;
 
 /// A part that does nothing, which takes no memory.
 fn idle(alloc: Global) -> Part {
@@ -21,20 +22,50 @@ fn idle(alloc: Global) -> Part {
     }
 }
 
+// The contracts of these calls are long. Each is called in a function of its own, so that no proof has two of them.
+
+fn arrive(rt: &impl Abort, state: &mut KeyState<Cases>, part: Part) -> Option<KeyFault> {
+    assert!(rt; state.is_spoiled());
+    state.arrive(part).err()
+}
+
+fn resolve(rt: &impl Abort, state: &mut KeyState<Cases>, id: TxnId) -> Option<KeyFault> {
+    assert!(rt; state.is_spoiled());
+    state.resolve(id, Outcome::Aborted).err()
+}
+
+fn withdraw(rt: &impl Abort, state: &mut KeyState<Cases>, id: TxnId) -> Option<KeyFault> {
+    assert!(rt; state.is_spoiled());
+    state.withdraw(id).err()
+}
+
+fn set_up(rt: &impl Abort, state: &mut KeyState<Cases>, value: Value) -> Option<KeyFault> {
+    assert!(rt; state.is_spoiled());
+    state.set_up(value).err()
+}
+
+fn fault_of(state: &KeyState<Cases>) -> Option<KeyFault> {
+    state.findings().err()
+}
+
 /// Every call answers that the state is spoiled.
-fn assert_spoiled(rt: &impl Abort, alloc: Global, state: KeyState<Cases>) {
-    let mut state = state;
+fn assert_spoiled(rt: &impl Abort, alloc: Global, mut state: KeyState<Cases>) {
+    let spoiled = Some(KeyFault::Spoiled);
+    assert_eq!(rt; arrive(rt, &mut state, idle(alloc)), spoiled);
+    assert_eq!(rt; resolve(rt, &mut state, TxnId(1)), spoiled);
+    assert_eq!(rt; withdraw(rt, &mut state, TxnId(1)), spoiled);
+    assert_eq!(rt; set_up(rt, &mut state, Value(5)), spoiled);
+    assert_eq!(rt; fault_of(&state), spoiled);
     assert!(rt; state.is_spoiled());
-    let spoiled = Err(KeyFault::Spoiled);
-    assert_eq!(rt; state.arrive(idle(alloc)), spoiled);
-    assert_eq!(rt; state.resolve(TxnId(1), Outcome::Aborted), spoiled);
-    assert_eq!(rt; state.withdraw(TxnId(1)), spoiled);
-    assert_eq!(rt; state.set_up(Value(5)), spoiled);
-    assert_eq!(rt;
-        state.findings().map(|found| found.len()),
-        Err(KeyFault::Spoiled)
-    );
-    assert!(rt; state.is_spoiled());
+}
+
+/// The state of `x`, on which nothing is. Where memory is refused it is made again.
+fn new_beside(rt: &(impl Abort + AllocGlobal)) -> Beside {
+    let x = key(rt, "x").expect(rt, "a key");
+    match Beside::new(rt.alloc(), x) {
+        Ok(beside) => beside,
+        Err(_) => scripts::new_beside(rt, "x"),
+    }
 }
 
 /// A key that has these edits is given one more. It succeeds, or spoils the state for good.
@@ -42,20 +73,19 @@ fn gives_or_spoils(
     rt: &(impl Abort + AllocGlobal + Print),
     accepted: &str,
     line: &str,
-) -> Result<(), Fail> {
-    let mut beside = Beside::new(rt.alloc(), key(rt, "x")?)?;
+) -> Result<(), KeyFault> {
+    let mut beside = new_beside(rt);
     for line in accepted.trim().lines() {
-        assert_eq!(rt; beside.give(rt, &edit_of(rt, line.trim())?)?, None);
+        assert_eq!(rt; beside.give(rt, &edit(rt, line.trim()))?, None);
     }
-    let edit = edit_of(rt, line)?;
-    let answer = beside.give(rt, &edit);
-    if beside.state.is_spoiled() {
-        println!(rt; "refused")?;
-        assert_eq!(rt; answer, Err(KeyFault::OutOfMemory));
-        assert_spoiled(rt, rt.alloc(), beside.into_state());
-    } else {
+    let answer = beside.give(rt, &edit(rt, line));
+    if !beside.state.is_spoiled() {
         assert_eq!(rt; answer?, None);
+        return Ok(());
     }
+    println!(rt; "refused").expect(rt, "output");
+    assert_eq!(rt; answer, Err(KeyFault::OutOfMemory));
+    assert_spoiled(rt, rt.alloc(), beside.into_state());
     Ok(())
 }
 
@@ -68,25 +98,25 @@ const VERSIONS_AND_READERS: &str = "
 
 #[test]
 fn the_first_arrival_wants_memory(rt: HostRuntime) -> Result<(), Fail> {
-    gives_or_spoils(&rt, "", "arrive 1 1 2 x=1 x?1")
+    Ok(gives_or_spoils(&rt, "", "arrive 1 1 2 x=1 x?1")?)
 }
 
 #[test]
 fn an_arrival_wants_memory(rt: HostRuntime) -> Result<(), Fail> {
-    gives_or_spoils(&rt, VERSIONS_AND_READERS, "arrive 2 3 6 x?1 x=4 x?7")
+    Ok(gives_or_spoils(&rt, VERSIONS_AND_READERS, "arrive 2 3 6 x?1 x=4 x?7")?)
 }
 
 #[test]
 fn a_resolution_wants_memory(rt: HostRuntime) -> Result<(), Fail> {
-    gives_or_spoils(&rt, VERSIONS_AND_READERS, "resolve 5 6")
+    Ok(gives_or_spoils(&rt, VERSIONS_AND_READERS, "resolve 5 6")?)
 }
 
 #[test]
 fn a_withdrawal_wants_memory(rt: HostRuntime) -> Result<(), Fail> {
-    gives_or_spoils(&rt, VERSIONS_AND_READERS, "withdraw 1")
+    Ok(gives_or_spoils(&rt, VERSIONS_AND_READERS, "withdraw 1")?)
 }
 
 #[test]
 fn a_set_up_wants_memory(rt: HostRuntime) -> Result<(), Fail> {
-    gives_or_spoils(&rt, VERSIONS_AND_READERS, "setup x=5")
+    Ok(gives_or_spoils(&rt, VERSIONS_AND_READERS, "setup x=5")?)
 }

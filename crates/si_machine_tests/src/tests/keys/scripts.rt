@@ -1,45 +1,55 @@
 //! What the state of a key answers to edits that are written as text.
 
 use super::*;
-use si_scripts::{edit_of, key};
+use si_model::Finding;
+use si_scripts::key;
 
 /// The kinds of what is found on the key, in order.
-fn told(rt: &impl AllocGlobal, beside: &Beside) -> Result<String, Fail> {
+fn told(rt: &(impl Abort + AllocGlobal), found: &[Finding]) -> String {
     let mut text = String::new(rt.alloc());
-    for finding in &beside.state.findings()? {
-        let kind = format!(in rt.alloc(); "{:?} ", finding.kind)?;
-        text.push_str(&kind)?;
+    for finding in found {
+        let kind = shown_as(rt, finding.kind);
+        write!(text, "{kind} ").expect(rt, "memory");
     }
-    Ok(text)
+    text
+}
+
+/// Gives an edit, and tells what is found then, or the reason against it.
+fn answer(rt: &(impl Abort + AllocGlobal), beside: &mut Beside, words: &str) -> String {
+    match beside.compare(rt, &edit(rt, words)) {
+        Some(refusal) => shown_as(rt, refusal),
+        None => told(rt, &beside.found(rt)),
+    }
 }
 
 /// Gives an edit, and compares how many judgements it cost, where a number stands for the most that it may, and what is
 /// found then, or the reason against it.
-fn give(rt: &(impl Abort + AllocGlobal), beside: &mut Beside, line: &str) -> Result<(), Fail> {
-    let (edit, rest) = line.split_once('|').ok_or("a number is wanted")?;
-    let (most, wanted) = rest.split_once('|').ok_or("findings are wanted")?;
+fn give(rt: &(impl Abort + AllocGlobal), beside: &mut Beside, line: &str) {
+    let (words, rest) = line.split_once('|').expect(rt, "a number");
+    let (most, wanted) = rest.split_once('|').expect(rt, "findings");
     let judged = beside.state.judged();
-    let answer = match beside.compare(rt, &edit_of(rt, edit.trim())?)? {
-        Some(refusal) => format!(in rt.alloc(); "{refusal:?}")?,
-        None => told(rt, beside)?,
-    };
+    let answer = answer(rt, beside, words.trim());
     assert_eq!(rt; answer.trim(), wanted.trim(), "at {line}");
-    if !most.trim().is_empty() {
-        let most = judged.saturating_add(most.trim().parse::<u64>()?);
-        assert!(rt; beside.state.judged() <= most, "at {line}");
+    let most = most.trim();
+    if !most.is_empty() {
+        let most = most.parse::<u64>().ok().expect(rt, "a number");
+        assert!(rt;
+            beside.state.judged() <= judged.saturating_add(most),
+            "at {line}"
+        );
     }
-    Ok(())
+}
+
+/// The state of the key of that name, on which nothing is.
+pub(super) fn new_beside(rt: &(impl Abort + AllocGlobal), name: &str) -> Beside {
+    let key = key(rt, name).expect(rt, "a key");
+    Beside::new(rt.alloc(), key).expect(rt, "memory")
 }
 
 /// Gives the edits of a script to the state of a key on which nothing is.
-pub(super) fn answers(
-    rt: &(impl Abort + AllocGlobal),
-    name: &str,
-    script: &str,
-) -> Result<(), Fail> {
-    let mut beside = Beside::new(rt.alloc(), key(rt, name)?)?;
+pub(super) fn answers(rt: &(impl Abort + AllocGlobal), name: &str, script: &str) {
+    let mut beside = new_beside(rt, name);
     for line in script.trim().lines() {
-        give(rt, &mut beside, line.trim())?;
+        give(rt, &mut beside, line.trim());
     }
-    Ok(())
 }

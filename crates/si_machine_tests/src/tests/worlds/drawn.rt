@@ -4,7 +4,7 @@
 use super::*;
 use chance::{Few, some_edit};
 use si_model::plain::Walked;
-use si_model::{Edit, Finding, Number, Refusal, refusal_on};
+use si_model::{Edit, Number, Refusal, refusal_on};
 use si_scripts::Dice;
 
 /// How many edits a journal may have, and how many steps a machine makes.
@@ -70,65 +70,60 @@ struct Driven {
 }
 
 impl Driven {
-    fn new(rt: &(impl Abort + AllocGlobal + RandomSource), shards: usize) -> Result<Driven, Fail> {
-        let mut positions = Vec::new(rt.alloc());
-        for _ in 0..shards {
-            positions.push(0)?;
-        }
-        Ok(Driven {
-            world: new_world(rt, shards, LIMIT)?,
+    fn new(rt: &(impl Abort + AllocGlobal + RandomSource), shards: usize) -> Driven {
+        let positions = Vec::from_elem(rt.alloc(), 0u64, shards);
+        Driven {
+            world: new_world(rt, shards, LIMIT),
             accepted: 0,
-            positions,
-        })
+            positions: positions.expect(rt, "memory"),
+        }
     }
 
-    fn some_step(
-        &mut self,
-        rt: &(impl Abort + AllocGlobal),
-        dice: &mut Dice,
-        tally: &mut Tally,
-    ) -> Result<(), Fail> {
+    fn some_step(&mut self, rt: &(impl Abort + AllocGlobal), dice: &mut Dice, tally: &mut Tally) {
         // A shard, or sometimes the number after the last.
         let shard = dice.below((self.positions.len() as u64).saturating_add(1)) as usize;
         match dice.below(16) {
-            0..=6 => self.accept(rt, some_edit(rt, dice, FEW)?, tally)?,
+            0..=6 => self.accept(rt, some_edit(rt, dice, FEW), tally),
             7..=10 => self.apply(rt, shard, tally),
             11..=12 => self.apply_many(rt, shard, dice.below(6).saturating_add(1)),
             13 => {
-                rebuilt(&mut self.world, shard)?;
+                rebuilt(rt, &mut self.world, shard);
             }
             _ => self.settle(rt),
         }
-        self.compare(rt, tally)
+        self.compare(rt, tally);
     }
 
     /// Why the edit is refused, by a walk over what is present.
-    fn refusal(&self, edit: &Edit) -> Result<Option<Refusal>, Fail> {
+    fn refusal(&self, rt: &impl Abort, edit: &Edit) -> Option<Refusal> {
         if self.accepted == LIMIT as u64 {
-            return Ok(Some(Refusal::Full));
+            return Some(Refusal::Full);
         }
-        let txns = self.world.present()?;
-        let initial = self.world.initial()?;
+        let txns = present_in(rt, &self.world);
+        let initial = set_up_in(rt, &self.world);
         let walked = Walked {
             txns: &txns,
             initial: &initial,
         };
-        Ok(refusal_on(&walked, edit))
+        refusal_on(&walked, edit)
     }
 
-    fn accept(&mut self, rt: &impl Abort, edit: Edit, tally: &mut Tally) -> Result<(), Fail> {
-        let copy = edit.try_clone()?;
-        let wanted = match self.refusal(&edit)? {
+    /// What should be answered to the edit.
+    fn answer_to(&mut self, rt: &impl Abort, edit: &Edit, tally: &mut Tally) -> Reply {
+        match self.refusal(rt, edit) {
             Some(refusal) => Reply::Refused(refusal),
             None => {
-                tally.accepted.count_edit(&edit);
+                tally.accepted.count_edit(edit);
                 self.accepted = self.accepted.saturating_add(1);
                 Reply::Accepted(Number(self.accepted))
             }
-        };
-        assert_eq!(rt; stepped(&mut self.world, Step::Accept(copy)), wanted);
+        }
+    }
+
+    fn accept(&mut self, rt: &impl Abort, edit: Edit, tally: &mut Tally) {
+        let wanted = self.answer_to(rt, &edit, tally);
+        assert_eq!(rt; stepped(&mut self.world, Step::Accept(edit)), wanted);
         tally.count_reply(wanted);
-        Ok(())
     }
 
     /// What so many applications by the shard should answer, and how far it is then.
@@ -154,29 +149,34 @@ impl Driven {
     }
 
     fn settle(&mut self, rt: &impl Abort) {
-        for place in 0..self.positions.len() {
-            self.positions[place] = self.accepted;
+        for position in self.positions.iter_mut() {
+            *position = self.accepted;
         }
-        assert_eq!(rt;
-            stepped(&mut self.world, Step::Settle),
-            Reply::Settled(self.accepted)
-        );
+        let wanted = Reply::Settled(self.accepted);
+        assert_eq!(rt; stepped(&mut self.world, Step::Settle), wanted);
+    }
+
+    /// Each shard is as far as it should be. Returns the least of their positions.
+    fn least(&self, rt: &impl Abort) -> u64 {
+        let mut least = self.accepted;
+        let mut shard = 0usize;
+        for position in &self.positions {
+            assert_eq!(rt; self.world.position(shard), Some(*position));
+            least = least.min(*position);
+            shard = shard.saturating_add(1);
+        }
+        assert_eq!(rt; self.world.position(shard), None);
+        least
     }
 
     /// Each shard is as far as it should be. The findings are those of the plain program, or the least position is told.
-    fn compare(&self, rt: &(impl Abort + AllocGlobal), tally: &mut Tally) -> Result<(), Fail> {
-        let mut least = self.accepted;
-        for place in 0..self.positions.len() {
-            assert_eq!(rt; self.world.position(place), Some(self.positions[place]));
-            least = least.min(self.positions[place]);
-        }
-        assert_eq!(rt; self.world.position(self.positions.len()), None);
+    fn compare(&self, rt: &(impl Abort + AllocGlobal), tally: &mut Tally) {
+        let least = self.least(rt);
         if least < self.accepted {
             assert_eq!(rt; fault_of(&self.world), Some(WorldFault::Unsettled(least)));
-            return Ok(());
+        } else {
+            tally.count_findings(&compare_findings(rt, &self.world));
         }
-        tally.count_findings(&compare_findings(rt, &self.world)?);
-        Ok(())
     }
 }
 
@@ -185,23 +185,15 @@ fn drive(
     shards: usize,
     dice: &mut Dice,
     tally: &mut Tally,
-) -> Result<(), Fail> {
-    let mut driven = Driven::new(rt, shards)?;
+) {
+    let mut driven = Driven::new(rt, shards);
     for _ in 0..STEPS {
-        driven.some_step(rt, dice, tally)?;
+        driven.some_step(rt, dice, tally);
     }
-    Ok(())
 }
 
-#[test]
-fn settled_findings_are_those_of_the_plain_program(rt: HostRuntime) -> Result<(), Fail> {
-    let mut dice = Dice::new(1);
-    let mut tally = Tally::new();
-    for shards in [1, 2, 3, 4, 7, 16] {
-        for _ in 0..6 {
-            drive(&rt, shards, &mut dice, &mut tally)?;
-        }
-    }
+/// Enough of everything came.
+fn assert_enough(rt: &impl Abort, tally: Tally) {
     let accepted = tally.accepted;
     assert!(rt;
         accepted.arrivals >= 500 && accepted.resolutions >= 50,
@@ -221,5 +213,16 @@ fn settled_findings_are_those_of_the_plain_program(rt: HostRuntime) -> Result<()
     );
     assert!(rt; tally.settled >= 3000, "too few findings were compared");
     assert_eq!(rt; accepted.kinds, 255, "too few kinds of findings");
-    Ok(())
+}
+
+#[test]
+fn settled_findings_are_those_of_the_plain_program(rt: HostRuntime) {
+    let mut dice = Dice::new(1);
+    let mut tally = Tally::new();
+    for shards in [1, 2, 3, 4, 7, 16] {
+        for _ in 0..6 {
+            drive(&rt, shards, &mut dice, &mut tally);
+        }
+    }
+    assert_enough(&rt, tally);
 }

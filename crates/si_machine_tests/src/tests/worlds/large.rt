@@ -1,7 +1,7 @@
 //! More edits than a body that gives up beyond some number would stand.
 
 use super::*;
-use si_model::{Kind, Number, TxnId, Value};
+use si_model::{Number, TxnId, Value};
 
 /// The edit is accepted, as the one of this number.
 fn accept(rt: &(impl Abort + AllocGlobal), world: &mut World, words: &str, number: u64) {
@@ -10,88 +10,112 @@ fn accept(rt: &(impl Abort + AllocGlobal), world: &mut World, words: &str, numbe
     assert_eq!(rt; reply, Reply::Accepted(Number(number)));
 }
 
-#[test]
-fn many_keys_are_set_up(rt: HostRuntime) -> Result<(), Fail> {
-    let mut world = new_world(&rt, 2, 10_000)?;
+/// Settles, and so many edits are applied.
+fn settle(rt: &impl Abort, world: &mut World, number: u64) {
+    assert_eq!(rt; stepped(world, Step::Settle), Reply::Settled(number));
+}
+
+fn set_up_many(rt: &(impl Abort + AllocGlobal), world: &mut World) {
     for key in 0..2_000u64 {
-        let words = format!(in rt.alloc(); "setup k{key}={key}")?;
-        accept(&rt, &mut world, words.as_str(), key + 1);
+        let words = format!(in rt.alloc(); "setup k{key}={key}").expect(rt, "memory");
+        accept(rt, world, words.as_str(), key.saturating_add(1));
     }
-    accept(
-        &rt,
-        &mut world,
-        "arrive 1 5 6 k0?0 k1999?1999 k1999?7",
-        2_001,
-    );
-    assert_eq!(rt; stepped(&mut world, Step::Settle), Reply::Settled(2_001));
-    assert_eq!(rt; world.initial()?.len(), 2_000);
-    let found = world.findings()?;
-    assert_eq!(rt; found.len(), 1);
+}
+
+fn many_keys(rt: &(impl Abort + AllocGlobal), world: &mut World) {
+    set_up_many(rt, world);
+    let words = "arrive 1 5 6 k0?0 k1999?1999 k1999?7";
+    accept(rt, world, words, 2_001);
+    settle(rt, world, 2_001);
+    assert_eq!(rt; set_up_in(rt, world).len(), 2_000);
+    let found = found_in(world).expect(rt, "findings");
     let unknown = Kind::Unknown {
         txn: TxnId(1),
         op: 2,
         read: Some(Value(7)),
     };
-    assert_eq!(rt; found[0].kind, unknown);
-    Ok(())
+    assert_kinds(rt, &found, &[unknown]);
 }
 
 #[test]
-fn many_edits_are_left_and_applied(rt: HostRuntime) -> Result<(), Fail> {
-    let mut world = new_world(&rt, 1, 10_000)?;
+fn many_keys_are_set_up(rt: HostRuntime) {
+    play(&rt, 2, 10_000, Row::ManyKeys);
+}
+
+fn accept_many(rt: &(impl Abort + AllocGlobal), world: &mut World) {
     for id in 1..=5_000u64 {
         let start = id.saturating_mul(2);
-        let words = format!(in rt.alloc();
-            "arrive {id} {start} {} x={id}",
-            start.saturating_add(1)
-        )?;
-        accept(&rt, &mut world, words.as_str(), id);
+        let commit = start.saturating_add(1);
+        let words = format!(in rt.alloc(); "arrive {id} {start} {commit} x={id}");
+        accept(rt, world, words.expect(rt, "memory").as_str(), id);
     }
-    let reply = many_applied(&rt, &mut world, 0, 4_000);
-    assert_eq!(rt; reply, Reply::Applied(4_000));
-    assert_eq!(rt; fault_of(&world), Some(WorldFault::Unsettled(4_000)));
-    let reply = many_applied(&rt, &mut world, 0, 4_000);
-    assert_eq!(rt; reply, Reply::Applied(5_000));
-    assert_eq!(rt; world.findings()?.len(), 0);
-    assert!(rt; rebuilt(&mut world, 0)?);
-    assert_eq!(rt; world.findings()?.len(), 0);
-    Ok(())
+}
+
+/// The first shard applies at most 4,000 edits, up to that number.
+fn apply_many(rt: &impl Abort, world: &mut World, number: u64) {
+    let reply = many_applied(rt, world, 0, 4_000);
+    assert_eq!(rt; reply, Reply::Applied(number));
+}
+
+fn many_edits(rt: &(impl Abort + AllocGlobal), world: &mut World) {
+    accept_many(rt, world);
+    apply_many(rt, world, 4_000);
+    assert_eq!(rt; fault_of(world), Some(WorldFault::Unsettled(4_000)));
+    apply_many(rt, world, 5_000);
+    finds(rt, world, 0);
+    assert!(rt; rebuilt(rt, world, 0));
+    finds(rt, world, 0);
+}
+
+#[test]
+fn many_edits_are_left_and_applied(rt: HostRuntime) {
+    play(&rt, 1, 10_000, Row::ManyEdits);
 }
 
 /// A transaction 2 that reads nothing from `x`, 4,000 times.
-fn many_reads(rt: &impl AllocGlobal) -> Result<String, Fail> {
+fn reads_of_nothing(rt: &(impl Abort + AllocGlobal)) -> String {
     let mut words = String::new(rt.alloc());
-    words.push_str("arrive 2 3 4")?;
+    words.push_str("arrive 2 3 4").expect(rt, "memory");
     for _ in 0..4_000u64 {
-        words.push_str(" x?null")?;
+        words.push_str(" x?null").expect(rt, "memory");
     }
-    Ok(words)
+    words
+}
+
+/// The edit is accepted as the one of this number, and so much is found then.
+fn accept_and_find(
+    rt: &(impl Abort + AllocGlobal),
+    world: &mut World,
+    words: &str,
+    number: u64,
+    found: usize,
+) {
+    accept(rt, world, words, number);
+    settle(rt, world, number);
+    finds(rt, world, found);
+}
+
+fn many_reads(rt: &(impl Abort + AllocGlobal), world: &mut World) {
+    let reads = reads_of_nothing(rt);
+    accept_and_find(rt, world, "arrive 1 1 2 x=1", 1, 0);
+    accept_and_find(rt, world, reads.as_str(), 2, 4_000);
+    accept_and_find(rt, world, "withdraw 1", 3, 0);
+    accept_and_find(rt, world, "arrive 1 1 2 x=1", 4, 4_000);
+    accept_and_find(rt, world, "withdraw 2", 5, 0);
 }
 
 #[test]
-fn many_reads_come_and_go(rt: HostRuntime) -> Result<(), Fail> {
-    let mut world = new_world(&rt, 2, 100)?;
-    let reads = many_reads(&rt)?;
-    for (words, number, found) in [
-        ("arrive 1 1 2 x=1", 1, 0),
-        (reads.as_str(), 2, 4_000),
-        ("withdraw 1", 3, 0),
-        ("arrive 1 1 2 x=1", 4, 4_000),
-        ("withdraw 2", 5, 0),
-    ] {
-        accept(&rt, &mut world, words, number);
-        assert_eq!(rt; stepped(&mut world, Step::Settle), Reply::Settled(number));
-        assert_eq!(rt; world.findings()?.len(), found);
-    }
-    Ok(())
+fn many_reads_come_and_go(rt: HostRuntime) {
+    play(&rt, 2, 100, Row::ManyReads);
 }
 
 /// The transaction with that id reads what the one before it in the order of ids wrote, and overwrites it.
-fn following(rt: &impl AllocGlobal, id: u64) -> Result<String, Fail> {
+fn following(rt: &(impl Abort + AllocGlobal), id: u64) -> String {
     let start = id.saturating_mul(10);
     let before = id.saturating_sub(1);
     let commit = start.saturating_add(5);
-    Ok(format!(in rt.alloc(); "arrive {id} {start} {commit} x?{before} x={id}")?)
+    let words = format!(in rt.alloc(); "arrive {id} {start} {commit} x?{before} x={id}");
+    words.expect(rt, "memory")
 }
 
 /// A number from 1 to 700, each once in 700 turns, since 701 is prime: with the step 1 in rising order, with 700 in falling order, and
@@ -101,10 +125,9 @@ fn leap(turn: u64, step: u64) -> u64 {
 }
 
 /// Settles, and compares the findings with those of the plain program.
-fn compare_settled(rt: &(impl Abort + AllocGlobal), world: &mut World) -> Result<(), Fail> {
+fn compare_settled(rt: &(impl Abort + AllocGlobal), world: &mut World) {
     stepped(world, Step::Settle);
-    compare_findings(rt, world)?;
-    Ok(())
+    compare_findings(rt, world);
 }
 
 /// The edit is accepted, and now and then the findings are compared.
@@ -113,49 +136,63 @@ fn accept_and_compare(
     world: &mut World,
     words: &str,
     number: u64,
-) -> Result<(), Fail> {
+) {
     accept(rt, world, words, number);
     if number % 100 == 50 {
-        compare_settled(rt, world)?;
+        compare_settled(rt, world);
     }
-    Ok(())
 }
 
-fn all_come(rt: &(impl Abort + AllocGlobal), world: &mut World, step: u64) -> Result<(), Fail> {
+fn all_come(rt: &(impl Abort + AllocGlobal), world: &mut World, step: u64) {
     for turn in 1..=700u64 {
-        let words = following(rt, leap(turn, step))?;
-        accept_and_compare(rt, world, words.as_str(), turn.saturating_add(1))?;
+        let words = following(rt, leap(turn, step));
+        accept_and_compare(rt, world, words.as_str(), turn.saturating_add(1));
     }
-    Ok(())
 }
 
-fn half_go(rt: &(impl Abort + AllocGlobal), world: &mut World, step: u64) -> Result<(), Fail> {
+fn half_go(rt: &(impl Abort + AllocGlobal), world: &mut World, step: u64) {
     for turn in 1..=350u64 {
-        let words = format!(in rt.alloc(); "withdraw {}", leap(turn, step))?;
-        accept_and_compare(rt, world, words.as_str(), turn.saturating_add(701))?;
+        let words = format!(in rt.alloc(); "withdraw {}", leap(turn, step));
+        let words = words.expect(rt, "memory");
+        accept_and_compare(rt, world, words.as_str(), turn.saturating_add(701));
     }
-    Ok(())
 }
 
 /// 700 versions of one key come, and 350 of them go again. Side by side they would move too many others, so they go over to a tree, at
 /// an arrival or at the first withdrawal.
-fn come_and_go(
-    rt: &(impl Abort + AllocGlobal + RandomSource),
-    coming: u64,
-    going: u64,
-) -> Result<(), Fail> {
-    let mut world = new_world(rt, 1, 10_000)?;
-    accept(rt, &mut world, "setup x=0", 1);
-    all_come(rt, &mut world, coming)?;
-    compare_settled(rt, &mut world)?;
-    half_go(rt, &mut world, going)?;
-    compare_settled(rt, &mut world)
+fn come_and_go(rt: &(impl Abort + AllocGlobal), world: &mut World, coming: u64, going: u64) {
+    accept(rt, world, "setup x=0", 1);
+    all_come(rt, world, coming);
+    compare_settled(rt, world);
+    half_go(rt, world, going);
+    compare_settled(rt, world);
 }
 
 #[test]
-fn versions_of_a_key_come_and_go_in_any_order(rt: HostRuntime) -> Result<(), Fail> {
+fn versions_of_a_key_come_and_go_in_any_order(rt: HostRuntime) {
     for (coming, going) in [(1, 1), (1, 350), (700, 700), (263, 97)] {
-        come_and_go(&rt, coming, going)?;
+        play(&rt, 1, 10_000, Row::Versions(coming, going));
     }
-    Ok(())
+}
+
+/// A test on a machine that was made for it.
+#[derive(Clone, Copy)]
+enum Row {
+    ManyKeys,
+    ManyEdits,
+    ManyReads,
+    Versions(u64, u64),
+}
+
+/// Plays the row on a new machine of so many shards, whose journal takes so many edits.
+///
+/// A machine is a fat value, and a proof that owns one looks at it anew in each call, so this is the one place that does.
+fn play(rt: &(impl Abort + AllocGlobal + RandomSource), shards: usize, limit: usize, row: Row) {
+    let mut world = new_world(rt, shards, limit);
+    match row {
+        Row::ManyKeys => many_keys(rt, &mut world),
+        Row::ManyEdits => many_edits(rt, &mut world),
+        Row::ManyReads => many_reads(rt, &mut world),
+        Row::Versions(coming, going) => come_and_go(rt, &mut world, coming, going),
+    }
 }

@@ -5,7 +5,7 @@
 //! whatever was refused.
 
 use super::*;
-use si_model::{Edit, Finding, Kind, Number, Refusal, TxnId, Value};
+use si_model::{Number, Refusal, TxnId, Value};
 
 /// Several worked rows, each on keys of its own: 2 misses what 1 wrote; 3 is in doubt while 4 reads from it, and reads itself what
 /// nobody wrote; 6 reads what `z` was set up with after 5 had written; 9 overlaps 8, and 7 once 8 is withdrawn; and the value of
@@ -40,14 +40,6 @@ fn told(rt: &(impl Abort + Print), what: &str) {
     println!(rt; "refused: {what}").expect(rt, "output");
 }
 
-/// The edit that the words say. Where memory is refused they are read again.
-fn edit(rt: &(impl Abort + AllocGlobal), words: &str) -> Edit {
-    match edit_of(rt, words) {
-        Ok(edit) => edit,
-        Err(_) => edit_of(rt, words).expect(rt, "an edit"),
-    }
-}
-
 /// A machine, and how many edits it should have accepted.
 #[derive(Drop)]
 struct Pressed {
@@ -76,6 +68,12 @@ impl Pressed {
         assert_eq!(rt; reply, wanted);
     }
 
+    fn accept_all(&mut self, rt: &(impl Abort + AllocGlobal + Print)) {
+        for words in EDITS.trim().lines() {
+            self.accept(rt, words.trim());
+        }
+    }
+
     /// The words of the edit, and the reply that it should have.
     fn foretold<'a>(&mut self, words: &'a str) -> (&'a str, Reply) {
         match words.strip_prefix("again ") {
@@ -100,14 +98,18 @@ impl Pressed {
         told(rt, "an application");
         let position = self.world.position(shard);
         assert_eq!(rt; fault_of(&self.world), Some(WorldFault::Spoiled(shard)));
+        self.answer_while_spoiled(rt, shard);
+        self.rebuild(rt, shard);
+        assert_eq!(rt; self.world.position(shard), position);
+    }
+
+    fn answer_while_spoiled(&mut self, rt: &(impl Abort + AllocGlobal + Print), shard: usize) {
         let spoiled = Reply::Spoiled(shard);
         assert_eq!(rt; stepped(&mut self.world, Step::Apply(shard)), spoiled);
         assert_eq!(rt; many_applied(rt, &mut self.world, shard, 9), spoiled);
         let refused = stepped(&mut self.world, Step::Accept(edit(rt, "withdraw 77")));
         assert_eq!(rt; refused, Reply::Refused(Refusal::NoSuch));
         self.accept(rt, "arrive 20 40 aborted");
-        self.rebuild(rt, shard);
-        assert_eq!(rt; self.world.position(shard), position);
     }
 
     /// The shard applies all that is left, so many edits at a time.
@@ -171,12 +173,12 @@ impl Pressed {
 
     /// The findings, which are had after a second call where memory is refused.
     fn findings(&self, rt: &(impl Abort + Print)) -> Vec<Finding> {
-        match self.world.findings() {
+        match found_in(&self.world) {
             Ok(found) => found,
             Err(fault) => {
                 assert_eq!(rt; fault, WorldFault::OutOfMemory);
                 told(rt, "a list of findings");
-                self.world.findings().expect(rt, "findings")
+                found_in(&self.world).expect(rt, "findings")
             }
         }
     }
@@ -218,44 +220,62 @@ fn assert_found(rt: &impl Abort, found: &[Finding]) {
         first: TxnId(7),
         second: TxnId(9),
     };
-    assert_eq!(rt; found.len(), 4);
-    assert_eq!(rt; found[0].kind, unknown);
-    assert_eq!(rt; found[1].kind, overlap);
-    assert_eq!(rt; found[2].kind, stale(2, None, 1));
-    assert_eq!(rt; found[3].kind, stale(6, Some(Value(5)), 5));
+    let (first, second) = (stale(2, None, 1), stale(6, Some(Value(5)), 5));
+    assert_kinds(rt, found, &[unknown, overlap, first, second]);
+}
+
+/// How the edits come to be accepted and applied, before all is settled.
+#[derive(Clone, Copy)]
+enum Way {
+    Steps,
+    Together,
+    Settled,
+    Runs,
+}
+
+/// Accepts the edits that way, and looks at the end.
+///
+/// A machine is a fat value, and a proof that owns one looks at it anew in each call, so this is the one place that does.
+fn play(rt: &(impl Abort + AllocGlobal + RandomSource + Print), way: Way) {
+    let mut pressed = Pressed::new(rt);
+    match way {
+        Way::Steps => step_all(rt, &mut pressed),
+        Way::Together => apply_together(rt, &mut pressed),
+        Way::Settled => pressed.accept_all(rt),
+        Way::Runs => run_all(rt, &mut pressed),
+    }
+    pressed.look(rt);
+}
+
+fn step_all(rt: &(impl Abort + AllocGlobal + Print), pressed: &mut Pressed) {
+    for words in EDITS.trim().lines() {
+        pressed.accept(rt, words.trim());
+        for shard in 0..SHARDS {
+            pressed.apply_one(rt, shard);
+        }
+    }
 }
 
 #[test]
 fn steps_are_made_in_the_end(rt: HostRuntime) {
-    let mut pressed = Pressed::new(&rt);
-    for words in EDITS.trim().lines() {
-        pressed.accept(&rt, words.trim());
-        for shard in 0..SHARDS {
-            pressed.apply_one(&rt, shard);
-        }
+    play(&rt, Way::Steps);
+}
+
+fn apply_together(rt: &(impl Abort + AllocGlobal + Print), pressed: &mut Pressed) {
+    pressed.accept_all(rt);
+    for shard in 0..SHARDS {
+        pressed.apply(rt, shard, 4);
     }
-    pressed.look(&rt);
 }
 
 #[test]
 fn many_edits_are_applied_in_the_end(rt: HostRuntime) {
-    let mut pressed = Pressed::new(&rt);
-    for words in EDITS.trim().lines() {
-        pressed.accept(&rt, words.trim());
-    }
-    for shard in 0..SHARDS {
-        pressed.apply(&rt, shard, 4);
-    }
-    pressed.look(&rt);
+    play(&rt, Way::Together);
 }
 
 #[test]
 fn a_machine_is_settled_in_the_end(rt: HostRuntime) {
-    let mut pressed = Pressed::new(&rt);
-    for words in EDITS.trim().lines() {
-        pressed.accept(&rt, words.trim());
-    }
-    pressed.look(&rt);
+    play(&rt, Way::Settled);
 }
 
 /// The replies to these steps, if there is memory for them.
@@ -278,17 +298,24 @@ fn told_by_run(rt: &(impl Abort + AllocGlobal), world: &mut World, words: &str) 
     Some(replies[0])
 }
 
+/// Accepts the edit by a run of one step, which is made again where memory is refused.
+fn run_in_the_end(rt: &(impl Abort + AllocGlobal + Print), pressed: &mut Pressed, words: &str) {
+    let (words, wanted) = pressed.foretold(words);
+    let mut reply = told_by_run(rt, &mut pressed.world, words);
+    if reply.is_none() || reply == Some(Reply::NoMemory) {
+        told(rt, "a run");
+        reply = told_by_run(rt, &mut pressed.world, words);
+    }
+    assert_eq!(rt; reply, Some(wanted));
+}
+
+fn run_all(rt: &(impl Abort + AllocGlobal + Print), pressed: &mut Pressed) {
+    for words in EDITS.trim().lines() {
+        run_in_the_end(rt, pressed, words.trim());
+    }
+}
+
 #[test]
 fn runs_are_made_in_the_end(rt: HostRuntime) {
-    let mut pressed = Pressed::new(&rt);
-    for words in EDITS.trim().lines() {
-        let (words, wanted) = pressed.foretold(words.trim());
-        let mut reply = told_by_run(&rt, &mut pressed.world, words);
-        if reply.is_none() || reply == Some(Reply::NoMemory) {
-            told(&rt, "a run");
-            reply = told_by_run(&rt, &mut pressed.world, words);
-        }
-        assert_eq!(rt; reply, Some(wanted));
-    }
-    pressed.look(&rt);
+    play(&rt, Way::Runs);
 }
