@@ -12,5 +12,10 @@ mod refused_memory;
 mod values;
 
 use std::alloc::AllocGlobal;
+use std::fmt::Debug;
 use std::process::Abort;
-use std::test::Fail;
+
+/// The value as it stands in code.
+fn shown_as(rt: &(impl Abort + AllocGlobal), value: impl Debug + Drop) -> String {
+    format!(in rt.alloc(); "{value:?}").expect(rt, "memory")
+}

@@ -15,10 +15,9 @@ fn txn_of(alloc: Global, id: u64) -> Result<Txn, OutOfMemory> {
     })
 }
 
-fn arrive(rt: &impl Abort, arrivals: &mut Arrivals, txn: Txn) -> Result<(), Fail> {
+fn arrive(rt: &impl Abort, arrivals: &mut Arrivals, txn: Txn) {
     assert!(rt; arrivals.get(txn.id).is_none());
-    arrivals.push(txn)?;
-    Ok(())
+    arrivals.push(txn).expect(rt, "memory");
 }
 
 fn leave(rt: &impl Abort, arrivals: &mut Arrivals, id: u64, turn: u64) {
@@ -29,25 +28,36 @@ fn leave(rt: &impl Abort, arrivals: &mut Arrivals, id: u64, turn: u64) {
     assert!(rt; arrivals.slots() <= most, "after {turn} turns");
 }
 
-/// What is left has the ids 0, 100, 200 and so on, up to 900.
-fn assert_left(rt: &impl Abort, arrivals: &Arrivals) -> Result<(), Fail> {
-    assert_eq!(rt; arrivals.len(), 10);
-    for (place, txn) in arrivals.to_vec()?.iter().enumerate() {
-        assert_eq!(rt; txn.id.0, place as u64 * 100);
+fn all_arrive(rt: &(impl Abort + AllocGlobal), arrivals: &mut Arrivals) {
+    for id in 0..1000u64 {
+        arrive(rt, arrivals, txn_of(rt.alloc(), id).expect(rt, "memory"));
     }
-    Ok(())
+}
+
+/// All but every hundredth leave, in an order that isn't that of their arrival.
+fn most_leave(rt: &impl Abort, arrivals: &mut Arrivals) {
+    for turn in 0..1000u64 {
+        leave(rt, arrivals, turn * 7 % 1000, turn);
+    }
+}
+
+/// What is left has the ids 0, 100, 200 and so on, up to 900.
+fn assert_left(rt: &impl Abort, arrivals: &Arrivals) {
+    let left = arrivals.to_vec().expect(rt, "memory");
+    assert_eq!(rt; (arrivals.len(), left.len()), (10, 10));
+    let mut id = 0u64;
+    for txn in &left {
+        assert_eq!(rt; txn.id.0, id);
+        id = id.saturating_add(100);
+    }
 }
 
 /// No clause says that the slots of withdrawn transactions are closed up: only the room that they take shows it.
 #[test]
-fn empty_slots_are_closed_up(rt: HostRuntime) -> Result<(), Fail> {
-    let mut arrivals = Arrivals::new(rt.alloc(), RandomState::new(&rt)?);
-    for id in 0..1000u64 {
-        arrive(&rt, &mut arrivals, txn_of(rt.alloc(), id)?)?;
-    }
-    // All but every hundredth leave, in an order that isn't that of their arrival.
-    for turn in 0..1000u64 {
-        leave(&rt, &mut arrivals, turn * 7 % 1000, turn);
-    }
-    assert_left(&rt, &arrivals)
+fn empty_slots_are_closed_up(rt: HostRuntime) {
+    let hash = RandomState::new(&rt).expect(&rt, "random bytes");
+    let mut arrivals = Arrivals::new(rt.alloc(), hash);
+    all_arrive(&rt, &mut arrivals);
+    most_leave(&rt, &mut arrivals);
+    assert_left(&rt, &arrivals);
 }

@@ -2,7 +2,7 @@
 
 use super::*;
 use si_accept::{AcceptFault, Book};
-use si_model::{Edit, MOST_EDITS, Number, TxnId};
+use si_model::{Edit, Key, MOST_EDITS, Number, OutOfMemory, Txn, TxnId, Value};
 use si_scripts::{asked, edit_of};
 use std::hash::RandomState;
 use std::random::RandomSource;
@@ -12,92 +12,91 @@ pub(super) fn accept(book: &mut Book, edit: Edit) -> Result<Number, AcceptFault>
     book.accept(edit)
 }
 
-/// A number, or the reason as its variant stands in code.
-fn answer_text(rt: &impl AllocGlobal, answer: Result<Number, AcceptFault>) -> Result<String, Fail> {
-    Ok(match answer {
-        Ok(number) => format!(in rt.alloc(); "{}", number.0)?,
-        Err(AcceptFault::Refused(refusal)) => format!(in rt.alloc(); "{refusal:?}")?,
-        Err(AcceptFault::OutOfMemory) => format!(in rt.alloc(); "out of memory")?,
-    })
+/// What is present, of which nothing is said either.
+pub(super) fn present_in(book: &Book) -> Result<Vec<Txn>, OutOfMemory> {
+    book.present()
 }
 
-fn answer(rt: &(impl Abort + AllocGlobal), book: &mut Book, line: &str) -> Result<String, Fail> {
-    let edit = edit_of(rt, line)?;
-    answer_text(rt, accept(book, edit))
+pub(super) fn set_up_in(book: &Book) -> Result<Vec<(Key, Value)>, OutOfMemory> {
+    book.initial()
+}
+
+/// A number, or the reason as its variant stands in code.
+fn answer(rt: &(impl Abort + AllocGlobal), book: &mut Book, line: &str) -> String {
+    let edit = edit_of(rt, line).expect(rt, "an edit");
+    match accept(book, edit) {
+        Ok(number) => shown_as(rt, number.0),
+        Err(AcceptFault::Refused(refusal)) => shown_as(rt, refusal),
+        Err(AcceptFault::OutOfMemory) => panic!(rt; "memory is wanted"),
+    }
 }
 
 /// The ids of what is present, in order.
-fn present_text(rt: &(impl Abort + AllocGlobal), book: &Book) -> Result<String, Fail> {
-    let mut text = String::new(rt.alloc());
-    let txns = book.present()?;
+fn present_text(rt: &(impl Abort + AllocGlobal), book: &Book) -> String {
+    let txns = present_in(book).expect(rt, "memory");
     assert_eq!(rt; txns.len(), book.len());
+    let mut text = String::new(rt.alloc());
     for txn in &txns {
-        let id = format!(in rt.alloc(); "{} ", txn.id.0)?;
-        text.push_str(&id)?;
+        write!(text, "{} ", txn.id.0).expect(rt, "memory");
     }
-    Ok(text)
+    text
 }
 
 /// The keys that are set up with their values, in order.
-fn initial_text(rt: &impl AllocGlobal, book: &Book) -> Result<String, Fail> {
+fn initial_text(rt: &(impl Abort + AllocGlobal), book: &Book) -> String {
     let mut text = String::new(rt.alloc());
-    for pair in &book.initial()? {
-        let shown = format!(in rt.alloc(); "{}={} ", pair.0.as_str(), pair.1.0)?;
-        text.push_str(&shown)?;
+    for pair in &set_up_in(book).expect(rt, "memory") {
+        write!(text, "{}={} ", pair.0.as_str(), pair.1.0).expect(rt, "memory");
     }
-    Ok(text)
+    text
 }
 
 /// What became of the transaction with that id, if it is present.
-fn status_text(rt: &impl AllocGlobal, book: &Book, id: &str) -> Result<String, Fail> {
-    let id = TxnId(id.parse::<u64>()?);
-    Ok(match book.get(id) {
-        Some(txn) => format!(in rt.alloc(); "{:?}", txn.status)?,
-        None => format!(in rt.alloc(); "absent")?,
-    })
+fn status_text(rt: &(impl Abort + AllocGlobal), book: &Book, id: &str) -> String {
+    let id = id.parse::<u64>().ok().expect(rt, "an id");
+    match book.get(TxnId(id)) {
+        Some(txn) => shown_as(rt, txn.status),
+        None => String::from_str(rt.alloc(), "absent").expect(rt, "memory"),
+    }
 }
 
 /// What the book shows: `present`, `initial`, `journal`, `limit`, `empty` or `status 7`; or what it answers to an edit.
-fn told(rt: &(impl Abort + AllocGlobal), book: &mut Book, line: &str) -> Result<String, Fail> {
+fn told(rt: &(impl Abort + AllocGlobal), book: &mut Book, line: &str) -> String {
+    if let Some(id) = line.strip_prefix("status ") {
+        return status_text(rt, book, id);
+    }
     match line {
         "present" => present_text(rt, book),
         "initial" => initial_text(rt, book),
-        "journal" => Ok(format!(in rt.alloc(); "{}", book.journal().len())?),
-        "limit" => Ok(format!(in rt.alloc(); "{}", book.limit())?),
-        "empty" => Ok(format!(in rt.alloc(); "{}", book.is_empty())?),
-        _ => match line.strip_prefix("status ") {
-            Some(id) => status_text(rt, book, id),
-            None => answer(rt, book, line),
-        },
+        "journal" => shown_as(rt, book.journal().len()),
+        "limit" => shown_as(rt, book.limit()),
+        "empty" => shown_as(rt, book.is_empty()),
+        _ => answer(rt, book, line),
     }
 }
 
 /// Compares what the book tells of what stands before the bar with what stands behind it.
-fn give(rt: &(impl Abort + AllocGlobal), book: &mut Book, line: &str) -> Result<(), Fail> {
-    let (question, wanted) = asked(line)?;
-    let told = told(rt, book, question)?;
-    assert_eq!(rt; told.trim(), wanted, "at {line}");
-    Ok(())
+fn give(rt: &(impl Abort + AllocGlobal), book: &mut Book, title: &str, line: &str) {
+    let (question, wanted) = asked(line).expect(rt, "an answer");
+    let told = told(rt, book, question);
+    assert_eq!(rt; told.trim(), wanted, "{title}: {line}");
 }
 
-fn new_book(rt: &(impl Abort + AllocGlobal + RandomSource), limit: usize) -> Result<Book, Fail> {
+fn new_book(rt: &(impl Abort + AllocGlobal + RandomSource), limit: usize) -> Book {
     assert!(rt; 1 <= limit && limit <= MOST_EDITS);
-    Ok(Book::new(rt.alloc(), RandomState::new(rt)?, limit))
-}
-
-fn play(rt: &(impl Abort + AllocGlobal), book: &mut Book, script: &str) -> Result<(), Fail> {
-    for line in script.trim().lines() {
-        give(rt, book, line.trim())?;
-    }
-    Ok(())
+    let hash = RandomState::new(rt).expect(rt, "random bytes");
+    Book::new(rt.alloc(), hash, limit)
 }
 
 /// A new book of that limit answers so, line after line.
 pub(super) fn answers(
     rt: &(impl Abort + AllocGlobal + RandomSource),
     limit: usize,
+    title: &str,
     script: &str,
-) -> Result<(), Fail> {
-    let mut book = new_book(rt, limit)?;
-    play(rt, &mut book, script)
+) {
+    let mut book = new_book(rt, limit);
+    for line in script.trim().lines() {
+        give(rt, &mut book, title, line.trim());
+    }
 }

@@ -4,15 +4,15 @@ ghost use Rattle.std.specs.Prelude.{IsTrue};
 ghost use Rattle.si_model.specs.Parts.{Present};
 ghost use Rattle.si_model.specs.History.{IsHistory};
 
+use super::findings::found_in;
 use super::*;
 use si_graph::{ExplainFault, check_evidence, explain};
-use si_model::{
-    Edge, Evidence, Finding, Key, Kind, Label, Txn, TxnId, Value, Walk, findings_of, is_history,
-};
-use si_scripts::{History, key, present};
+use si_model::{Edge, Evidence, Finding, Key, Kind, Label, Txn, TxnId, Value, Walk, is_history};
+use si_scripts::{History, asked, key, present};
 
-fn number(word: Option<&str>) -> Result<u64, Fail> {
-    Ok(word.ok_or("a number is wanted")?.parse::<u64>()?)
+fn number(rt: &impl Abort, word: Option<&str>) -> u64 {
+    let word = word.expect(rt, "a number");
+    word.parse::<u64>().ok().expect(rt, "a number")
 }
 
 fn label_of(rt: &impl Abort, word: &str) -> Label {
@@ -26,78 +26,54 @@ fn label_of(rt: &impl Abort, word: &str) -> Label {
 }
 
 /// An edge, as `2-rw->1`.
-fn edge_of(rt: &impl Abort, word: &str) -> Result<Edge, Fail> {
-    let (from, rest) = word.split_once('-').ok_or("an edge is wanted")?;
-    let (label, to) = rest.split_once("->").ok_or("an edge is wanted")?;
-    Ok(Edge {
-        from: TxnId(number(Some(from))?),
-        to: TxnId(number(Some(to))?),
+fn edge_of(rt: &impl Abort, word: &str) -> Edge {
+    let (from, rest) = word.split_once('-').expect(rt, "an edge");
+    let (label, to) = rest.split_once("->").expect(rt, "an edge");
+    Edge {
+        from: TxnId(number(rt, Some(from))),
+        to: TxnId(number(rt, Some(to))),
         label: label_of(rt, label),
-    })
+    }
 }
 
-fn walk_of(rt: &(impl Abort + AllocGlobal), text: &str) -> Result<Walk, Fail> {
+fn walk_of(rt: &(impl Abort + AllocGlobal), text: &str) -> Walk {
     let mut edges = Vec::new(rt.alloc());
     for word in text.split_ascii_whitespace() {
-        edges.push(edge_of(rt, word)?)?;
+        edges.push(edge_of(rt, word)).expect(rt, "memory");
     }
-    Ok(Walk::from_vec(edges))
+    Walk::from_vec(edges)
 }
 
 /// A reader, the place of its read and a writer, as `2 0 1`.
-fn read_from(text: &str) -> Result<(TxnId, usize, TxnId), Fail> {
+fn read_from(rt: &impl Abort, text: &str) -> (TxnId, usize, TxnId) {
     let mut words = text.split_ascii_whitespace();
-    let reader = number(words.next())?;
-    let place = number(words.next())?;
-    let writer = number(words.next())?;
-    Ok((TxnId(reader), place as usize, TxnId(writer)))
+    let reader = number(rt, words.next());
+    let place = number(rt, words.next());
+    let writer = number(rt, words.next());
+    (TxnId(reader), place as usize, TxnId(writer))
 }
 
 /// `aborted 2 0 1`, `intermediate 2 0 1`, `interference 1-ww->2` or `missed 2-rw->1 1-st->2`.
-fn evidence_of(rt: &(impl Abort + AllocGlobal), line: &str) -> Result<Evidence, Fail> {
+fn evidence_of(rt: &(impl Abort + AllocGlobal), line: &str) -> Evidence {
     let (kind, rest) = line.split_once(' ').unwrap_or((line, ""));
-    Ok(match kind {
+    match kind {
         "aborted" => {
-            let (reader, op, writer) = read_from(rest)?;
+            let (reader, op, writer) = read_from(rt, rest);
             Evidence::AbortedRead { reader, op, writer }
         }
         "intermediate" => {
-            let (reader, op, writer) = read_from(rest)?;
+            let (reader, op, writer) = read_from(rt, rest);
             Evidence::IntermediateRead { reader, op, writer }
         }
-        "interference" => Evidence::Interference(edge_of(rt, rest)?),
-        "missed" => Evidence::Missed(walk_of(rt, rest)?),
+        "interference" => Evidence::Interference(edge_of(rt, rest)),
+        "missed" => Evidence::Missed(walk_of(rt, rest)),
         _ => panic!(rt; "no evidence: {line}"),
-    })
+    }
 }
 
 fn holds(rt: &impl Abort, history: &History, evidence: &Evidence) -> bool {
     assert!(rt; is_history(&history.txns, &history.initial));
     check_evidence(&history.txns, &history.initial, evidence)
-}
-
-/// Whether the evidence holds of the history, in whatever order its transactions come.
-fn is_shown(
-    rt: &(impl Abort + AllocGlobal),
-    history: &mut History,
-    line: &str,
-) -> Result<bool, Fail> {
-    let evidence = evidence_of(rt, line)?;
-    let answer = holds(rt, history, &evidence);
-    history.txns.reverse();
-    assert_eq!(rt; holds(rt, history, &evidence), answer, "of {line}");
-    Ok(answer)
-}
-
-/// Of the history the evidence behind `yes` holds, and that behind `no` doesn't.
-fn shows(rt: &(impl Abort + AllocGlobal), lines: &str, answers: &str) -> Result<(), Fail> {
-    let mut history = present(rt, lines)?;
-    for line in answers.trim().lines() {
-        let (wanted, evidence) = line.trim().split_once(' ').ok_or("evidence is wanted")?;
-        let shown = is_shown(rt, &mut history, evidence)?;
-        assert_eq!(rt; shown, wanted == "yes", "at {line}");
-    }
-    Ok(())
 }
 
 /// Whatever explains a finding is found to hold: this is proved, by the two contracts.
@@ -130,45 +106,137 @@ pub(super) fn explained(
 /// What explains the one finding of the history.
 fn explained_alone(
     rt: &(impl Abort + AllocGlobal),
-    lines: &str,
-) -> Result<Result<Evidence, ExplainFault>, Fail> {
-    let history = present(rt, lines)?;
-    assert!(rt; is_history(&history.txns, &history.initial));
-    let found = findings_of(rt.alloc(), &history.txns, &history.initial)?;
-    assert_eq!(rt; found.len(), 1, "of {lines}");
-    let finding = found.first().ok_or("a finding is wanted")?;
-    Ok(explained(rt, &history, finding))
+    history: &History,
+) -> Result<Evidence, ExplainFault> {
+    let found = found_in(rt, &history.txns, &history.initial);
+    assert_eq!(rt; found.len(), 1);
+    explained(rt, history, &found[0])
 }
 
-fn explains(rt: &(impl Abort + AllocGlobal), lines: &str, wanted: &str) -> Result<(), Fail> {
-    assert_eq!(rt; explained_alone(rt, lines)?, Ok(evidence_of(rt, wanted)?));
-    Ok(())
+/// Of the history the evidence behind `yes` holds, and that behind `no` doesn't, in whatever order its transactions come. What stands
+/// behind `explains` explains its one finding.
+fn is_so(rt: &(impl Abort + AllocGlobal), history: &mut History, line: &str) {
+    let (wanted, evidence) = line.split_once(' ').expect(rt, "evidence");
+    let evidence = evidence_of(rt, evidence);
+    if wanted == "explains" {
+        assert_eq!(rt; explained_alone(rt, history), Ok(evidence), "at {line}");
+        return;
+    }
+    for _ in 0..2 {
+        let shown = holds(rt, history, &evidence);
+        assert_eq!(rt; shown, wanted == "yes", "at {line}");
+        history.txns.reverse();
+    }
 }
 
-const STALE_READ: &str = "
+/// A title, a history and what is so of it.
+fn check_row(rt: &(impl Abort + AllocGlobal), row: &str) {
+    let (_, row) = row.split_once('\n').expect(rt, "a title");
+    let (lines, answers) = asked(row).expect(rt, "evidence");
+    let mut history = present(rt, lines).expect(rt, "a history");
+    for line in answers.lines() {
+        is_so(rt, &mut history, line.trim());
+    }
+}
+
+/// Histories, and behind the bar what is so of them: rows with a title each, between `#`.
+const ROWS: &str = "a stale read misses a version, and a walk that isn't closed shows nothing
     1 1 2 x=1
-    2 3 4 x?null";
+    2 3 4 x?null
+    | yes missed 2-rw->1 1-st->2
+    explains missed 2-rw->1 1-st->2
+    no missed 2-rw->1
+    no missed
+    no missed 1-rw->2 2-st->1
+    # a lost update interferes
+    1 1 5 x?null x=1
+    2 2 6 x?null x=2
+    | yes interference 1-ww->2
+    no interference 2-ww->1
+    no interference 1-rw->2
+    explains interference 1-ww->2
+    # write skew has two rw edges
+    1 1 5 x?null y?null x=1
+    2 1 6 x?null y?null y=2
+    | no missed 1-rw->2 2-rw->1
+    # a read of the future interferes
+    1 1 10 x=1
+    2 2 3 x?1
+    | yes interference 1-wr->2
+    no interference 2-wr->1
+    explains interference 1-wr->2
+    # a read before the start doesn't interfere
+    1 1 2 x=1
+    2 3 4 x?1
+    | no interference 1-wr->2
+    # an aborted read is shown
+    1 1 aborted x=1 x=2
+    2 3 4 x?1
+    | yes aborted 2 0 1
+    yes intermediate 2 0 1
+    no aborted 2 1 1
+    no aborted 1 0 2
+    no aborted 2 0 3
+    explains aborted 2 0 1
+    # an intermediate read is shown
+    1 1 2 x=1 x=2
+    2 3 4 x?1
+    | yes intermediate 2 0 1
+    no aborted 2 0 1
+    explains intermediate 2 0 1
+    # a walk of three misses effects
+    1 1 2 x=1
+    2 3 4 x=2 y=1
+    3 5 6 y?1 x?null
+    | yes missed 3-rw->1 1-ww->2 2-wr->3
+    no missed 3-rw->1 1-ww->2
+    no missed 3-rw->2 2-wr->3
+    explains missed 3-rw->1 1-st->3
+    # an own version is read before the next
+    1 1 10 x=1 x?1 y?1
+    2 2 12 x=2 y=1
+    | yes missed 1-rw->2 2-wr->1
+    no missed 1-rw->1
+    no missed 1-ww->2 2-wr->1
+    # readers with one stamp are nodes
+    1 1 2 x=1
+    2 3 3 x?1
+    3 4 4 x?null
+    5 3 3 x?1
+    | yes missed 3-rw->1 1-wr->2 2-st->3
+    no missed 3-rw->1 1-wr->2 2-st->5 5-st->3
+    explains missed 3-rw->1 1-st->3
+    # a stale read of a set-up value
+    setup x=5
+    1 1 2 x?5
+    3 5 6 x=7
+    4 7 8 x?5
+    | yes missed 4-rw->3 3-st->4
+    no missed 1-rw->3 3-st->1
+    explains missed 4-rw->3 3-st->4
+    # null is a version of a key that was not set up
+    setup y=5
+    3 5 6 x=7
+    4 7 8 x?null
+    | yes missed 4-rw->3 3-st->4
+    # null is no version of a key that was set up
+    setup x=5
+    3 5 6 x=7
+    4 7 8 x?null
+    | no missed 4-rw->3 3-st->4";
 
 #[test]
-fn a_stale_read_misses_a_version(rt: HostRuntime) -> Result<(), Fail> {
-    shows(&rt, STALE_READ, "yes missed 2-rw->1 1-st->2")?;
-    explains(&rt, STALE_READ, "missed 2-rw->1 1-st->2")
+fn evidence_shows_what_it_shows(rt: HostRuntime) {
+    for row in ROWS.split('#') {
+        check_row(&rt, row);
+    }
 }
 
 #[test]
-fn a_walk_that_is_not_closed_shows_nothing(rt: HostRuntime) -> Result<(), Fail> {
-    let answers = "
-        no missed 2-rw->1
-        no missed
-        no missed 1-rw->2 2-st->1";
-    shows(&rt, STALE_READ, answers)
-}
-
-#[test]
-fn what_is_no_finding_is_not_explained(rt: HostRuntime) -> Result<(), Fail> {
-    let history = present(&rt, STALE_READ)?;
+fn what_is_no_finding_is_not_explained(rt: HostRuntime) {
+    let history = present(&rt, "1 1 2 x=1\n2 3 4 x?null").expect(&rt, "a history");
     let another = Finding {
-        key: key(&rt, "x")?,
+        key: key(&rt, "x").expect(&rt, "a key"),
         kind: Kind::Stale {
             txn: TxnId(2),
             op: 0,
@@ -180,164 +248,28 @@ fn what_is_no_finding_is_not_explained(rt: HostRuntime) -> Result<(), Fail> {
         explained(&rt, &history, &another),
         Err(ExplainFault::NotAFinding)
     );
-    Ok(())
 }
 
 #[test]
-fn findings_of_form_are_not_explained(rt: HostRuntime) -> Result<(), Fail> {
+fn findings_of_form_are_not_explained(rt: HostRuntime) {
     let null_of_a_set_up_key = "
         setup x=5
         3 5 6 x=7
         4 7 8 x?null";
     for lines in ["2 3 4 x?1", null_of_a_set_up_key] {
-        assert_eq!(rt;
-            explained_alone(&rt, lines)?,
-            Err(ExplainFault::FormFinding)
-        );
+        let history = present(&rt, lines).expect(&rt, "a history");
+        let explained = explained_alone(&rt, &history);
+        assert_eq!(rt; explained, Err(ExplainFault::FormFinding));
     }
-    Ok(())
 }
 
 #[test]
-fn faults_have_their_codes(rt: HostRuntime) -> Result<(), Fail> {
-    assert_eq!(rt; ExplainFault::NotAFinding.code(), Some(31));
-    assert_eq!(rt; ExplainFault::FormFinding.code(), Some(32));
-    assert_eq!(rt; ExplainFault::OutOfMemory.code(), None);
-    Ok(())
-}
-
-#[test]
-fn a_lost_update_interferes(rt: HostRuntime) -> Result<(), Fail> {
-    let history = "
-        1 1 5 x?null x=1
-        2 2 6 x?null x=2";
-    let answers = "
-        yes interference 1-ww->2
-        no interference 2-ww->1
-        no interference 1-rw->2";
-    shows(&rt, history, answers)?;
-    explains(&rt, history, "interference 1-ww->2")
-}
-
-#[test]
-fn write_skew_has_two_rw_edges(rt: HostRuntime) -> Result<(), Fail> {
-    let history = "
-        1 1 5 x?null y?null x=1
-        2 1 6 x?null y?null y=2";
-    shows(&rt, history, "no missed 1-rw->2 2-rw->1")
-}
-
-#[test]
-fn a_read_of_the_future_interferes(rt: HostRuntime) -> Result<(), Fail> {
-    let history = "
-        1 1 10 x=1
-        2 2 3 x?1";
-    let answers = "
-        yes interference 1-wr->2
-        no interference 2-wr->1";
-    shows(&rt, history, answers)?;
-    explains(&rt, history, "interference 1-wr->2")
-}
-
-#[test]
-fn a_read_before_the_start_does_not_interfere(rt: HostRuntime) -> Result<(), Fail> {
-    let history = "
-        1 1 2 x=1
-        2 3 4 x?1";
-    shows(&rt, history, "no interference 1-wr->2")
-}
-
-#[test]
-fn an_aborted_read_is_shown(rt: HostRuntime) -> Result<(), Fail> {
-    let history = "
-        1 1 aborted x=1 x=2
-        2 3 4 x?1";
-    let answers = "
-        yes aborted 2 0 1
-        yes intermediate 2 0 1
-        no aborted 2 1 1
-        no aborted 1 0 2
-        no aborted 2 0 3";
-    shows(&rt, history, answers)?;
-    explains(&rt, history, "aborted 2 0 1")
-}
-
-#[test]
-fn an_intermediate_read_is_shown(rt: HostRuntime) -> Result<(), Fail> {
-    let history = "
-        1 1 2 x=1 x=2
-        2 3 4 x?1";
-    let answers = "
-        yes intermediate 2 0 1
-        no aborted 2 0 1";
-    shows(&rt, history, answers)?;
-    explains(&rt, history, "intermediate 2 0 1")
-}
-
-#[test]
-fn a_walk_of_three_misses_effects(rt: HostRuntime) -> Result<(), Fail> {
-    let history = "
-        1 1 2 x=1
-        2 3 4 x=2 y=1
-        3 5 6 y?1 x?null";
-    let answers = "
-        yes missed 3-rw->1 1-ww->2 2-wr->3
-        no missed 3-rw->1 1-ww->2
-        no missed 3-rw->2 2-wr->3";
-    shows(&rt, history, answers)?;
-    explains(&rt, history, "missed 3-rw->1 1-st->3")
-}
-
-#[test]
-fn an_own_version_is_read_before_the_next(rt: HostRuntime) -> Result<(), Fail> {
-    let history = "
-        1 1 10 x=1 x?1 y?1
-        2 2 12 x=2 y=1";
-    let answers = "
-        yes missed 1-rw->2 2-wr->1
-        no missed 1-rw->1
-        no missed 1-ww->2 2-wr->1";
-    shows(&rt, history, answers)
-}
-
-#[test]
-fn readers_with_one_stamp_are_nodes(rt: HostRuntime) -> Result<(), Fail> {
-    let history = "
-        1 1 2 x=1
-        2 3 3 x?1
-        3 4 4 x?null
-        5 3 3 x?1";
-    let answers = "
-        yes missed 3-rw->1 1-wr->2 2-st->3
-        no missed 3-rw->1 1-wr->2 2-st->5 5-st->3";
-    shows(&rt, history, answers)?;
-    explains(&rt, history, "missed 3-rw->1 1-st->3")
-}
-
-#[test]
-fn a_stale_read_of_a_set_up_value(rt: HostRuntime) -> Result<(), Fail> {
-    let history = "
-        setup x=5
-        1 1 2 x?5
-        3 5 6 x=7
-        4 7 8 x?5";
-    let answers = "
-        yes missed 4-rw->3 3-st->4
-        no missed 1-rw->3 3-st->1";
-    shows(&rt, history, answers)?;
-    explains(&rt, history, "missed 4-rw->3 3-st->4")
-}
-
-#[test]
-fn null_is_no_version_of_a_key_that_was_set_up(rt: HostRuntime) -> Result<(), Fail> {
-    let of_another = "
-        setup y=5
-        3 5 6 x=7
-        4 7 8 x?null";
-    shows(&rt, of_another, "yes missed 4-rw->3 3-st->4")?;
-    let of_the_key = "
-        setup x=5
-        3 5 6 x=7
-        4 7 8 x?null";
-    shows(&rt, of_the_key, "no missed 4-rw->3 3-st->4")
+fn faults_have_their_codes(rt: HostRuntime) {
+    for (fault, code) in [
+        (ExplainFault::NotAFinding, Some(31)),
+        (ExplainFault::FormFinding, Some(32)),
+        (ExplainFault::OutOfMemory, None),
+    ] {
+        assert_eq!(rt; fault.code(), code);
+    }
 }

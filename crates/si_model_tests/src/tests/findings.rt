@@ -1,54 +1,57 @@
 //! Histories with their findings. What the program's own rows have doesn't stand here once more.
 
 use super::*;
-use si_model::{Key, Txn, Value, findings_of, is_history};
+use si_model::{Finding, Key, Txn, Value, findings_of, is_history};
 use si_scripts::{present, trimmed};
 
-/// The findings of a history, a line for each.
-fn found(
+/// What is found in what is present, of which nothing is said: tests look at that.
+pub(super) fn found_in(
     rt: &(impl Abort + AllocGlobal),
     txns: &[Txn],
     initial: &[(Key, Value)],
-) -> Result<String, Fail> {
+) -> Vec<Finding> {
     assert!(rt; is_history(txns, initial));
+    findings_of(rt.alloc(), txns, initial).expect(rt, "memory")
+}
+
+/// The findings, a line for each.
+fn text_of(rt: &(impl Abort + AllocGlobal), found: &[Finding]) -> String {
     let mut text = String::new(rt.alloc());
-    for finding in &findings_of(rt.alloc(), txns, initial)? {
-        let line = format!(in rt.alloc(); "{} {:?}\n", finding.key, finding.kind)?;
-        text.push_str(&line)?;
+    for finding in found {
+        let kind = shown_as(rt, finding.kind);
+        writeln!(text, "{} {kind}", finding.key).expect(rt, "memory");
     }
-    Ok(text)
+    text
 }
 
 /// The lines are a history, and these are its findings, in whatever order the transactions come.
-fn finds(rt: &(impl Abort + AllocGlobal), lines: &str, wanted: &str) -> Result<(), Fail> {
-    let mut history = present(rt, lines)?;
-    let wanted = trimmed(rt, wanted)?;
+fn finds(rt: &(impl Abort + AllocGlobal), lines: &str, wanted: &str) {
+    let mut history = present(rt, lines).expect(rt, "a history");
+    let wanted = trimmed(rt, wanted).expect(rt, "memory");
     for _ in 0..2 {
-        let found = found(rt, &history.txns, &history.initial)?;
-        assert_eq!(rt; found.as_str(), wanted.as_str(), "of {lines}");
+        let found = found_in(rt, &history.txns, &history.initial);
+        assert_eq!(rt; text_of(rt, &found).as_str(), wanted.as_str(), "of {lines}");
         history.txns.reverse();
     }
-    Ok(())
 }
 
-fn find(rt: &(impl Abort + AllocGlobal), rows: &[(&str, &str)]) -> Result<(), Fail> {
+fn find(rt: &(impl Abort + AllocGlobal), rows: &[(&str, &str)]) {
     for row in rows {
-        finds(rt, row.0, row.1)?;
+        finds(rt, row.0, row.1);
     }
-    Ok(())
 }
 
 #[test]
-fn who_does_not_commit_installs_nothing(rt: HostRuntime) -> Result<(), Fail> {
+fn who_does_not_commit_installs_nothing(rt: HostRuntime) {
     let history = "
         1 1 10 x=1 x=4
         2 2 aborted x=2
         3 2 indoubt x=3";
-    finds(&rt, history, "")
+    finds(&rt, history, "");
 }
 
 #[test]
-fn what_commits_before_the_start_is_missed(rt: HostRuntime) -> Result<(), Fail> {
+fn what_commits_before_the_start_is_missed(rt: HostRuntime) {
     let missed = "
         1 1 2 x=1
         2 3 4 x=2 y=1
@@ -59,22 +62,22 @@ fn what_commits_before_the_start_is_missed(rt: HostRuntime) -> Result<(), Fail> 
         1 5 6 x=1
         2 5 9 x?null y?null
         3 2 8 y=1";
-    find(&rt, &[(missed, stale), (later, "")])
+    find(&rt, &[(missed, stale), (later, "")]);
 }
 
 #[test]
-fn each_value_of_an_aborted_writer(rt: HostRuntime) -> Result<(), Fail> {
+fn each_value_of_an_aborted_writer(rt: HostRuntime) {
     let history = "
         1 1 aborted x=1 x=2
         2 3 4 x?1 x?2";
     let wanted = "
         x Aborted { txn: TxnId(2), op: 0, read: Some(Value(1)), writer: TxnId(1) }
         x Aborted { txn: TxnId(2), op: 1, read: Some(Value(2)), writer: TxnId(1) }";
-    finds(&rt, history, wanted)
+    finds(&rt, history, wanted);
 }
 
 #[test]
-fn beside_a_later_own_write_the_own_value_is_to_return(rt: HostRuntime) -> Result<(), Fail> {
+fn beside_a_later_own_write_the_own_value_is_to_return(rt: HostRuntime) {
     let history = "
         1 1 2 x=1 x?1 x=2
         2 3 4 y=1 y?2 y=2
@@ -82,12 +85,12 @@ fn beside_a_later_own_write_the_own_value_is_to_return(rt: HostRuntime) -> Resul
     let wanted = "
         y Own { txn: TxnId(2), op: 1, read: Some(Value(2)), own: Some(Value(1)) }
         z Own { txn: TxnId(3), op: 3, read: Some(Value(1)), own: Some(Value(2)) }";
-    finds(&rt, history, wanted)
+    finds(&rt, history, wanted);
 }
 
 /// On a key they stand by the kind's number, then by the first transaction, then by the place.
 #[test]
-fn findings_stand_in_order(rt: HostRuntime) -> Result<(), Fail> {
+fn findings_stand_in_order(rt: HostRuntime) {
     let history = "
         1 10 20 x=1
         2 1 2 x?1 x?9 x?8
@@ -100,11 +103,11 @@ fn findings_stand_in_order(rt: HostRuntime) -> Result<(), Fail> {
         x Future { txn: TxnId(2), op: 0, read: Some(Value(1)), writer: TxnId(1) }
         x Stale { txn: TxnId(3), op: 0, read: None, missed: TxnId(1) }
         x Overlap { first: TxnId(1), second: TxnId(4) }";
-    finds(&rt, history, wanted)
+    finds(&rt, history, wanted);
 }
 
 #[test]
-fn values_from_before_the_run(rt: HostRuntime) -> Result<(), Fail> {
+fn values_from_before_the_run(rt: HostRuntime) {
     // the initial version returns the value, and null no more
     let history = "
         setup y=1
@@ -131,5 +134,5 @@ fn values_from_before_the_run(rt: HostRuntime) -> Result<(), Fail> {
     find(
         &rt,
         &[(history, wanted), (another, unknown), (own, not_own)],
-    )
+    );
 }

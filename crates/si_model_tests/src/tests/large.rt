@@ -1,41 +1,46 @@
 //! The slow program, once over hundreds of transactions and of findings.
 
 use super::evidence::explained;
+use super::findings::found_in;
 use super::*;
-use si_model::{Kind, TxnId, findings_of, is_history};
+use si_model::{Finding, Kind, TxnId};
 use si_scripts::present;
 
-/// 200 pairs of transactions that run at the same time, each pair on a key of its own, to which both write.
-fn lost_updates(rt: &impl AllocGlobal) -> Result<String, Fail> {
-    let mut lines = String::new(rt.alloc());
-    for pair in 0..200u64 {
-        let first = 2 * pair + 1;
-        let start = 4 * pair + 1;
-        let key = 100 + pair;
-        let one = format!(in rt.alloc(); "{first} {start} {} k{key}=1\n", start + 2)?;
-        let other = format!(in rt.alloc(); "{} {} {} k{key}=2\n", first + 1, start + 1, start + 3)?;
-        lines.push_str(&one)?;
-        lines.push_str(&other)?;
+/// Two transactions that run at the same time and write to one key, of its own for each such pair.
+fn add_pair(rt: &impl Abort, lines: &mut String, pair: u64) {
+    let first = pair.saturating_mul(2).saturating_add(1);
+    let start = pair.saturating_mul(4).saturating_add(1);
+    let key = pair.saturating_add(100);
+    let (other, later) = (first.saturating_add(1), start.saturating_add(1));
+    let (commit, last) = (start.saturating_add(2), start.saturating_add(3));
+    writeln!(lines, "{first} {start} {commit} k{key}=1").expect(rt, "memory");
+    writeln!(lines, "{other} {later} {last} k{key}=2").expect(rt, "memory");
+}
+
+/// The findings are the overlaps of 200 pairs.
+fn are_overlaps(rt: &impl Abort, found: &[Finding]) {
+    assert_eq!(rt; found.len(), 200);
+    let mut first = 1u64;
+    for finding in found {
+        let second = first.saturating_add(1);
+        let overlap = Kind::Overlap {
+            first: TxnId(first),
+            second: TxnId(second),
+        };
+        assert_eq!(rt; finding.kind, overlap);
+        first = second.saturating_add(1);
     }
-    Ok(lines)
 }
 
 #[test]
-fn hundreds_of_findings_are_found_in_order(rt: HostRuntime) -> Result<(), Fail> {
-    let lines = lost_updates(&rt)?;
-    let history = present(&rt, &lines)?;
-    assert!(rt; is_history(&history.txns, &history.initial));
-    let found = findings_of(rt.alloc(), &history.txns, &history.initial)?;
-    assert_eq!(rt; found.len(), 200);
-    for (pair, finding) in (0..200u32).zip(found.iter()) {
-        let first = 2 * u64::from(pair) + 1;
-        let overlap = Kind::Overlap {
-            first: TxnId(first),
-            second: TxnId(first + 1),
-        };
-        assert_eq!(rt; finding.kind, overlap);
+fn hundreds_of_findings_are_found_in_order(rt: HostRuntime) {
+    let mut lines = String::new(rt.alloc());
+    for pair in 0..200u64 {
+        add_pair(&rt, &mut lines, pair);
     }
-    let last = found.last().ok_or("a finding is wanted")?;
+    let history = present(&rt, &lines).expect(&rt, "a history");
+    let found = found_in(&rt, &history.txns, &history.initial);
+    are_overlaps(&rt, &found);
+    let last = found.last().expect(&rt, "a finding");
     assert!(rt; explained(&rt, &history, last).is_ok());
-    Ok(())
 }

@@ -1,60 +1,44 @@
 //! The plain program of acceptance: what it answers to edits, and what is present then.
 
+use super::books::{changed, plain_refusal};
 use super::*;
-use si_model::plain::{Walked, change};
-use si_model::{Edit, refusal_on};
 use si_scripts::{History, asked, edit_of, present};
 
 /// `accepted`, or the first reason as its variant stands in code.
-fn answer(
-    rt: &(impl Abort + AllocGlobal),
-    history: &mut History,
-    edit: Edit,
-) -> Result<String, Fail> {
-    let walked = Walked {
-        txns: &history.txns,
-        initial: &history.initial,
-    };
-    match refusal_on(&walked, &edit) {
-        Some(refusal) => Ok(format!(in rt.alloc(); "{refusal:?}")?),
+fn answer(rt: &(impl Abort + AllocGlobal), history: &mut History, line: &str) -> String {
+    let edit = edit_of(rt, line).expect(rt, "an edit");
+    match plain_refusal(&history.txns, &history.initial, &edit) {
+        Some(refusal) => shown_as(rt, refusal),
         None => {
-            change(&mut history.txns, &mut history.initial, edit)?;
-            Ok(format!(in rt.alloc(); "accepted")?)
+            changed(&mut history.txns, &mut history.initial, edit).expect(rt, "memory");
+            String::from_str(rt.alloc(), "accepted").expect(rt, "memory")
         }
     }
 }
 
 /// What became of each transaction, and how many keys are set up.
-fn left(rt: &impl AllocGlobal, history: &History) -> Result<String, Fail> {
-    let mut text = format!(in rt.alloc(); "{} set up", history.initial.len())?;
+fn left(rt: &(impl Abort + AllocGlobal), history: &History) -> String {
+    let mut text = String::new(rt.alloc());
+    write!(text, "{} set up", history.initial.len()).expect(rt, "memory");
     for txn in &history.txns {
-        let shown = format!(in rt.alloc(); ", {} {:?}", txn.id.0, txn.status)?;
-        text.push_str(&shown)?;
+        let status = shown_as(rt, txn.status);
+        write!(text, ", {} {status}", txn.id.0).expect(rt, "memory");
     }
-    Ok(text)
+    text
 }
 
 /// Compares what is answered to the edit before the bar with what stands behind it.
-fn give(rt: &(impl Abort + AllocGlobal), history: &mut History, line: &str) -> Result<(), Fail> {
-    let (question, wanted) = asked(line)?;
+fn give(rt: &(impl Abort + AllocGlobal), history: &mut History, line: &str) {
+    let (question, wanted) = asked(line).expect(rt, "an answer");
     let told = match question {
-        "left" => left(rt, history)?,
-        edit => answer(rt, history, edit_of(rt, edit)?)?,
+        "left" => left(rt, history),
+        line => answer(rt, history, line),
     };
     assert_eq!(rt; told.as_str(), wanted, "at {line}");
-    Ok(())
-}
-
-fn answers(rt: &(impl Abort + AllocGlobal), script: &str) -> Result<(), Fail> {
-    let mut history = present(rt, "")?;
-    for line in script.trim().lines() {
-        give(rt, &mut history, line.trim())?;
-    }
-    Ok(())
 }
 
 #[test]
-fn the_plain_program_of_acceptance(rt: HostRuntime) -> Result<(), Fail> {
+fn the_plain_program_of_acceptance(rt: HostRuntime) {
     let script = "
         arrive 1 1 indoubt x?null | accepted
         resolve 1 0 | StampOrder
@@ -72,5 +56,8 @@ fn the_plain_program_of_acceptance(rt: HostRuntime) -> Result<(), Fail> {
         withdraw 2 | NoSuch
         arrive 1 7 aborted | IdPresent
         left | 1 set up, 1 Committed(Stamp(1))";
-    answers(&rt, script)
+    let mut history = present(&rt, "").expect(&rt, "memory");
+    for line in script.trim().lines() {
+        give(&rt, &mut history, line.trim());
+    }
 }

@@ -2,14 +2,14 @@
 //!
 //! A plain run refuses no memory, and these tests then see only that each edit is accepted. With
 //! `rt try --test --fail-alloc N` the Nth allocation of each test is refused. Where `accept` told of it the test writes
-//! `refused`, and the book is compared with what it was. Where that memory was wanted for the edits themselves, the test
-//! ends with an error and says nothing of the book.
+//! `refused`, and the book is compared with what it was. Where that memory was wanted elsewhere, the call is made again. The end is
+//! the same whatever was refused.
 
-use super::book_scripts::accept;
+use super::book_scripts::{accept, present_in, set_up_in};
 use super::*;
 use si_accept::{AcceptFault, Book};
-use si_model::{Edit, Key, MOST_EDITS, Number, Op, Ops, Stamp, Status, Txn, TxnId, Value};
-use si_scripts::{edit_of, key, ops_of, present};
+use si_model::{Edit, Key, MOST_EDITS, Number, Txn, TxnId, Value};
+use si_scripts::{History, edit_of, present};
 use std::hash::RandomState;
 use std::random::RandomSource;
 
@@ -25,15 +25,60 @@ struct Case<'a> {
     set_up: (usize, usize),
 }
 
-/// The book shows these transactions, and finds each by its id and no other.
-fn assert_found(rt: &impl Abort, book: &Book, wanted: &[Txn]) -> Result<(), Fail> {
-    assert_eq!(rt; book.len(), wanted.len());
-    assert!(rt; book.present()?.as_slice() == wanted);
-    for id in 0..12u64 {
-        let found = wanted.iter().find(|txn| txn.id.0 == id);
-        assert!(rt; book.get(TxnId(id)) == found, "at id {id}");
+/// The edit that the words say. Where memory is refused they are read again.
+fn edit(rt: &(impl Abort + AllocGlobal), words: &str) -> Edit {
+    match edit_of(rt, words) {
+        Ok(edit) => edit,
+        Err(_) => edit_of(rt, words).expect(rt, "an edit"),
     }
-    Ok(())
+}
+
+fn copy_of(rt: &impl Abort, edit: &Edit) -> Edit {
+    match edit.try_clone() {
+        Ok(copy) => copy,
+        Err(_) => edit.try_clone().expect(rt, "memory"),
+    }
+}
+
+fn all_of(rt: &(impl Abort + AllocGlobal), lines: &str) -> History {
+    match present(rt, lines) {
+        Ok(history) => history,
+        Err(_) => present(rt, lines).expect(rt, "a history"),
+    }
+}
+
+fn txns_in(rt: &impl Abort, book: &Book) -> Vec<Txn> {
+    match present_in(book) {
+        Ok(txns) => txns,
+        Err(_) => present_in(book).expect(rt, "memory"),
+    }
+}
+
+fn values_in(rt: &impl Abort, book: &Book) -> Vec<(Key, Value)> {
+    match set_up_in(book) {
+        Ok(values) => values,
+        Err(_) => set_up_in(book).expect(rt, "memory"),
+    }
+}
+
+/// The book finds the transaction by its id, or none where none has it.
+fn assert_found_at(rt: &impl Abort, book: &Book, wanted: &[Txn], id: u64) {
+    for txn in wanted {
+        if txn.id.0 == id {
+            assert!(rt; book.get(TxnId(id)) == Some(txn), "at id {id}");
+            return;
+        }
+    }
+    assert!(rt; book.get(TxnId(id)).is_none(), "at id {id}");
+}
+
+/// The book shows these transactions, and finds each by its id and no other.
+fn assert_found(rt: &impl Abort, book: &Book, wanted: &[Txn]) {
+    assert_eq!(rt; book.len(), wanted.len());
+    assert!(rt; txns_in(rt, book).as_slice() == wanted);
+    for id in 0..12u64 {
+        assert_found_at(rt, book, wanted, id);
+    }
 }
 
 /// The book shows exactly these transactions, so many keys that are set up, and a journal of that length.
@@ -43,11 +88,11 @@ fn assert_shown(
     lines: &str,
     journal: usize,
     set_up: usize,
-) -> Result<(), Fail> {
-    assert_eq!(rt; book.initial()?.len(), set_up);
+) {
+    assert_eq!(rt; values_in(rt, book).len(), set_up);
     assert_eq!(rt; book.journal().len(), journal);
-    let wanted = present(rt, lines)?;
-    assert_found(rt, book, &wanted.txns)
+    let wanted = all_of(rt, lines);
+    assert_found(rt, book, &wanted.txns);
 }
 
 /// Gives the book the edit. Where memory is refused, the book has to be as before and is given the edit again.
@@ -56,24 +101,21 @@ fn give_in_the_end(
     book: &mut Book,
     case: Case<'_>,
     edit: &Edit,
-) -> Result<(), Fail> {
-    let mut answer = accept(book, edit.try_clone()?);
+) {
+    let mut answer = accept(book, copy_of(rt, edit));
     if answer == Err(AcceptFault::OutOfMemory) {
-        println!(rt; "refused")?;
-        assert_shown(rt, book, case.before, case.journal.0, case.set_up.0)?;
-        answer = accept(book, edit.try_clone()?);
+        println!(rt; "refused").expect(rt, "output");
+        assert_shown(rt, book, case.before, case.journal.0, case.set_up.0);
+        answer = accept(book, copy_of(rt, edit));
     }
     assert_eq!(rt; answer, Ok(Number(case.journal.1 as u64)));
-    assert_shown(rt, book, case.after, case.journal.1, case.set_up.1)?;
-    assert!(rt; book.journal().last() == Some(edit));
-    Ok(())
 }
 
-fn give_all(rt: &(impl Abort + AllocGlobal), book: &mut Book, lines: &str) -> Result<(), Fail> {
-    for line in lines.trim().lines() {
-        accept(book, edit_of(rt, line.trim())?)?;
+/// Gives the edit. Where memory is refused, it is given again.
+fn give(rt: &(impl Abort + AllocGlobal), book: &mut Book, line: &str) {
+    if accept(book, edit(rt, line)).is_err() {
+        assert!(rt; accept(book, edit(rt, line)).is_ok(), "at {line}");
     }
-    Ok(())
 }
 
 /// The book accepts what the case says, and the edit in the end.
@@ -82,31 +124,27 @@ fn give_case(
     book: &mut Book,
     case: Case<'_>,
     edit: &Edit,
-) -> Result<(), Fail> {
-    give_all(rt, book, case.accepted)?;
-    give_in_the_end(rt, book, case, edit)
+) {
+    for line in case.accepted.trim().lines() {
+        give(rt, book, line.trim());
+    }
+    give_in_the_end(rt, book, case, edit);
+    assert_shown(rt, book, case.after, case.journal.1, case.set_up.1);
+    assert!(rt; book.journal().last() == Some(edit));
 }
 
 fn accept_in_the_end(
     rt: &(impl Abort + AllocGlobal + Print + RandomSource),
     case: Case<'_>,
-    edit: &Edit,
-) -> Result<(), Fail> {
-    let mut book = Book::new(rt.alloc(), RandomState::new(rt)?, MOST_EDITS);
-    give_case(rt, &mut book, case, edit)
-}
-
-fn accept_line_in_the_end(
-    rt: &(impl Abort + AllocGlobal + Print + RandomSource),
-    case: Case<'_>,
     line: &str,
-) -> Result<(), Fail> {
-    let edit = edit_of(rt, line)?;
-    accept_in_the_end(rt, case, &edit)
+) {
+    let hash = RandomState::new(rt).expect(rt, "random bytes");
+    let mut book = Book::new(rt.alloc(), hash, MOST_EDITS);
+    give_case(rt, &mut book, case, &edit(rt, line));
 }
 
 #[test]
-fn an_arrival_is_accepted_in_the_end(rt: HostRuntime) -> Result<(), Fail> {
+fn an_arrival_is_accepted_in_the_end(rt: HostRuntime) {
     // The first edit of a book: the journal, what is present and each index have to grow.
     let case = Case {
         accepted: "",
@@ -115,58 +153,34 @@ fn an_arrival_is_accepted_in_the_end(rt: HostRuntime) -> Result<(), Fail> {
         journal: (0, 1),
         set_up: (0, 0),
     };
-    accept_line_in_the_end(&rt, case, "arrive 5 3 10 x=1 y=1")
+    accept_in_the_end(&rt, case, "arrive 5 3 10 x=1 y=1");
 }
 
-/// A transaction, and one with over 32 operations, which writes each value to both of two keys.
-fn many_writes(rt: &impl AllocGlobal) -> Result<String, Fail> {
-    let mut lines = format!(in rt.alloc(); "5 3 10 a=24\n6 3 11")?;
-    for value in 0..24u64 {
-        let pair = format!(in rt.alloc(); " a={value} b={value}")?;
-        lines.push_str(&pair)?;
-    }
-    Ok(lines)
-}
+/// A transaction with over 32 operations, which writes each value to both of two keys.
+const MANY_WRITES: &str =
+    "arrive 6 3 11 a=0 b=0 a=1 b=1 a=2 b=2 a=3 b=3 a=4 b=4 a=5 b=5 a=6 b=6 a=7 b=7 a=8 b=8 a=9 b=9 a=10 b=10 a=11 b=11 \
+    a=12 b=12 a=13 b=13 a=14 b=14 a=15 b=15 a=16 b=16 a=17 b=17 a=18 b=18 a=19 b=19 a=20 b=20 a=21 b=21 a=22 b=22 a=23 b=23";
 
-fn push_writes(ops: &mut Vec<Op>, key: &Key, other: &Key, value: u64) -> Result<(), Fail> {
-    ops.push(Op::Write(key.try_clone()?, Value(value)))?;
-    ops.push(Op::Write(other.try_clone()?, Value(value)))?;
-    Ok(())
-}
-
-/// The operations of that transaction. The keys share their texts, so that few allocations come before `accept`.
-fn many_operations(rt: &impl AllocGlobal) -> Result<Ops, Fail> {
-    let mut ops = Vec::with_capacity(rt.alloc(), 48)?;
-    let first = key(rt, "a")?;
-    let second = key(rt, "b")?;
-    for value in 0..24u64 {
-        push_writes(&mut ops, &first, &second, value)?;
-    }
-    Ok(ops_of(ops)?)
-}
+/// It and another one.
+const WITH_MANY_WRITES: &str = "5 3 10 a=24
+    6 3 11 a=0 b=0 a=1 b=1 a=2 b=2 a=3 b=3 a=4 b=4 a=5 b=5 a=6 b=6 a=7 b=7 a=8 b=8 a=9 b=9 a=10 b=10 a=11 b=11 \
+    a=12 b=12 a=13 b=13 a=14 b=14 a=15 b=15 a=16 b=16 a=17 b=17 a=18 b=18 a=19 b=19 a=20 b=20 a=21 b=21 a=22 b=22 a=23 b=23";
 
 #[test]
-fn many_operations_are_accepted_in_the_end(rt: HostRuntime) -> Result<(), Fail> {
+fn many_operations_are_accepted_in_the_end(rt: HostRuntime) {
     // Over 32 operations are looked up in an index of their own.
-    let edit = Edit::Arrive(Txn {
-        id: TxnId(6),
-        start: Stamp(3),
-        status: Status::Committed(Stamp(11)),
-        ops: many_operations(&rt)?,
-    });
-    let after = many_writes(&rt)?;
     let case = Case {
         accepted: "arrive 5 3 10 a=24",
         before: "5 3 10 a=24",
-        after: &after,
+        after: WITH_MANY_WRITES,
         journal: (1, 2),
         set_up: (0, 0),
     };
-    accept_in_the_end(&rt, case, &edit)
+    accept_in_the_end(&rt, case, MANY_WRITES);
 }
 
 #[test]
-fn a_resolution_is_accepted_in_the_end(rt: HostRuntime) -> Result<(), Fail> {
+fn a_resolution_is_accepted_in_the_end(rt: HostRuntime) {
     // After four edits the journal has to grow, and no transaction has a commit yet.
     let case = Case {
         accepted: "
@@ -187,11 +201,11 @@ fn a_resolution_is_accepted_in_the_end(rt: HostRuntime) -> Result<(), Fail> {
         journal: (4, 5),
         set_up: (0, 0),
     };
-    accept_line_in_the_end(&rt, case, "resolve 5 40")
+    accept_in_the_end(&rt, case, "resolve 5 40");
 }
 
 #[test]
-fn a_withdrawal_is_accepted_in_the_end(rt: HostRuntime) -> Result<(), Fail> {
+fn a_withdrawal_is_accepted_in_the_end(rt: HostRuntime) {
     // After eight edits the journal has to grow. One of five is left, so the empty slots are closed up.
     let case = Case {
         accepted: "
@@ -210,11 +224,11 @@ fn a_withdrawal_is_accepted_in_the_end(rt: HostRuntime) -> Result<(), Fail> {
         journal: (8, 9),
         set_up: (0, 0),
     };
-    accept_line_in_the_end(&rt, case, "withdraw 5")
+    accept_in_the_end(&rt, case, "withdraw 5");
 }
 
 #[test]
-fn a_set_up_is_accepted_in_the_end(rt: HostRuntime) -> Result<(), Fail> {
+fn a_set_up_is_accepted_in_the_end(rt: HostRuntime) {
     // The first key that is set up: the journal and the values have to grow.
     let case = Case {
         accepted: "",
@@ -223,5 +237,5 @@ fn a_set_up_is_accepted_in_the_end(rt: HostRuntime) -> Result<(), Fail> {
         journal: (0, 1),
         set_up: (0, 1),
     };
-    accept_line_in_the_end(&rt, case, "setup x=1")
+    accept_in_the_end(&rt, case, "setup x=1");
 }
