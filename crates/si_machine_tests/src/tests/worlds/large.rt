@@ -22,12 +22,14 @@ fn set_up_many(rt: &(impl Abort + AllocGlobal), world: &mut World) {
     }
 }
 
-fn many_keys(rt: &(impl Abort + AllocGlobal), world: &mut World) {
-    set_up_many(rt, world);
-    let words = "arrive 1 5 6 k0?0 k1999?1999 k1999?7";
-    accept(rt, world, words, 2_001);
-    settle(rt, world, 2_001);
-    assert_eq!(rt; set_up_in(rt, world).len(), 2_000);
+/// So many keys are set up.
+fn sets_up(rt: &impl Abort, world: &World, count: usize) {
+    let values = set_up_in(rt, world);
+    assert_eq!(rt; values.len(), count);
+}
+
+/// The one finding is the read of a value that nobody wrote.
+fn finds_unknown(rt: &impl Abort, world: &World) {
     let found = found_in(world).expect(rt, "findings");
     let unknown = Kind::Unknown {
         txn: TxnId(1),
@@ -35,6 +37,15 @@ fn many_keys(rt: &(impl Abort + AllocGlobal), world: &mut World) {
         read: Some(Value(7)),
     };
     assert_kinds(rt, &found, &[unknown]);
+}
+
+fn many_keys(rt: &(impl Abort + AllocGlobal), world: &mut World) {
+    set_up_many(rt, world);
+    let words = "arrive 1 5 6 k0?0 k1999?1999 k1999?7";
+    accept(rt, world, words, 2_001);
+    settle(rt, world, 2_001);
+    sets_up(rt, world, 2_000);
+    finds_unknown(rt, world);
 }
 
 #[test]
