@@ -20,7 +20,8 @@ use thiserror::Error;
 /// Why a call on the state of a key gave nothing.
 #[derive(Clone, Copy, Debug, PartialEq, Eq, Error)]
 pub enum KeyFault {
-    /// Memory was refused to an earlier edit of the state. The state is spoiled for good, and the call changed nothing.
+    /// Memory was refused to an earlier edit, and the call changed nothing. A key's state stays spoiled for good, a shard until it is
+    /// rebuilt.
     #[error("spoiled")]
     Spoiled,
     /// The growth of some memory was refused. An edit that answers this has spoiled the state; `findings` leaves it as it was.
