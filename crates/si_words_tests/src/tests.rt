@@ -1,38 +1,60 @@
 //! The worked row, and what two threads see at once.
 
-ghost use Rattle.std.specs.Prelude.{◌≡◌, ◌<◌, ◌≤◌, [], All, IfOk, length};
+ghost use Rattle.std.specs.Prelude.{◌≡◌, ◌<◌, [], All, length};
 
-use si_model::{Edit, TxnId};
+mod steps;
+
 use si_words::{BookSeat, Pass, ShardSeat, Words};
-use std::alloc::{AllocError, Global};
+use std::alloc::AllocGlobal;
 use std::process::Abort;
-use std::snapshot::Snapshot;
-use std::test::Fail;
 use std::thread::join;
+use steps::{is_closed, issue, issued, mark, pull_and_publish, watermark};
+
+/// So many edits are issued, and these are the marks of the second and of the first shard and the watermark. The words are not closed.
+fn shows(rt: &impl Abort, words: &Words, pass: &mut Pass, wanted: (u64, u64, u64, u64))
+    requires own { pass.old.table ≡ words.now.table }
+    requires shards { words.now.shards ≡ 2 }
+    ensures own { pass.new.table ≡ words.now.table }
+{
+    let (count, second) = (issued(words, pass), mark(words, pass, 1));
+    let (first, least) = (mark(words, pass, 0), watermark(words, pass));
+    assert_eq!(rt; (count, second, first, least), wanted);
+    assert!(rt; !is_closed(words, pass));
+}
+
+fn play_row(
+    rt: &impl Abort,
+    words: &Words,
+    mut book: BookSeat,
+    mut first: ShardSeat,
+    mut second: ShardSeat,
+    mut pass: Pass,
+)
+    requires of_book { (book.table ≡ words.now.table) × (book.view.journal ≡ []) }
+    requires of_first { (first.table ≡ words.now.table) × (first.view.done ≡ 0) }
+    requires of_second { (second.table ≡ words.now.table) × (second.view.done ≡ 0) }
+    requires of_pass { pass.table ≡ words.now.table }
+    requires shards { words.now.shards ≡ 2 }
+{
+    issue(words, &mut book, &mut pass);
+    issue(words, &mut book, &mut pass);
+    issue(words, &mut book, &mut pass);
+    pull_and_publish(words, &mut second, &mut book, 3);
+    shows(rt, words, &mut pass, (3, 3, 0, 0));
+    pull_and_publish(words, &mut first, &mut book, 2);
+    shows(rt, words, &mut pass, (3, 3, 2, 2));
+    words.close(&mut book);
+    assert!(rt; is_closed(words, &mut pass));
+}
 
 #[test]
-fn a_row_on_one_thread(rt: HostRuntime) -> Result<(), Fail> {
-    let (words, mut book, mut shards, mut passes) = Words::open(rt.alloc(), 2, 1)?;
-    let edit = Edit::Withdraw(TxnId(7));
-    let mut second = shards.pop().ok_or("two shards")?;
-    let mut first = shards.pop().ok_or("two shards")?;
-    let mut pass = passes.pop().ok_or("one pass")?;
-    words.issue(&mut book, &mut pass, Snapshot::of(&edit));
-    words.issue(&mut book, &mut pass, Snapshot::of(&edit));
-    words.issue(&mut book, &mut pass, Snapshot::of(&edit));
-    words.pull(&mut second, &mut book);
-    words.publish(&mut second, 3);
-    assert_eq!(rt; words.issued(&mut pass), 3);
-    assert_eq!(rt; words.shard_mark(&mut pass, 1), 3);
-    assert_eq!(rt; words.shard_mark(&mut pass, 0), 0);
-    assert_eq!(rt; words.watermark(&mut pass), 0);
-    assert!(rt; !words.is_closed(&mut pass));
-    words.pull(&mut first, &mut book);
-    words.publish(&mut first, 2);
-    assert_eq!(rt; words.watermark(&mut pass), 2);
-    words.close(&mut book);
-    assert!(rt; words.is_closed(&mut pass));
-    Ok(())
+fn a_row_on_one_thread(rt: HostRuntime) {
+    let opened = Words::open(rt.alloc(), 2, 1);
+    let (words, book, mut shards, mut passes) = opened.expect(&rt, "memory");
+    let second = shards.pop().expect(&rt, "two shards");
+    let first = shards.pop().expect(&rt, "two shards");
+    let pass = passes.pop().expect(&rt, "one pass");
+    play_row(&rt, &words, book, first, second, pass);
 }
 
 const ROUNDS: u64 = 1000;
@@ -49,13 +71,26 @@ fn issue_and_publish(
     requires of_pass { pass.table ≡ words.now.table }
     ensures { result.table ≡ words.now.table }
 {
-    let edit = Edit::Withdraw(TxnId(7));
     for round in 0..ROUNDS {
-        words.issue(&mut book, &mut pass, Snapshot::of(&edit));
-        words.pull(&mut shard, &mut book);
-        words.publish(&mut shard, round + 1);
+        issue(words, &mut book, &mut pass);
+        pull_and_publish(words, &mut shard, &mut book, round + 1);
     }
     pass
+}
+
+/// How many are issued, the first shard's mark and the watermark.
+fn looked(words: &Words, pass: &mut Pass) -> (u64, u64, u64)
+    requires own { pass.old.table ≡ words.now.table }
+    requires shards { 0 < words.now.shards }
+    ensures { pass.new.table ≡ words.now.table }
+{
+    let (count, first) = (issued(words, pass), mark(words, pass, 0));
+    (count, first, watermark(words, pass))
+}
+
+/// Whether none of the numbers is above its bound.
+fn are_within(numbers: (u64, u64, u64), bounds: (u64, u64, u64)) -> bool {
+    numbers.0 <= bounds.0 && numbers.1 <= bounds.1 && numbers.2 <= bounds.2
 }
 
 /// Looks as often. None of the answers goes back, and none is above what is issued in all.
@@ -65,15 +100,8 @@ fn look_on(words: &Words, mut pass: Pass) -> bool
 {
     let mut last = (0, 0, 0);
     for _ in 0..ROUNDS {
-        let found = (
-            words.issued(&mut pass),
-            words.shard_mark(&mut pass, 0),
-            words.watermark(&mut pass),
-        );
-        if found.0 < last.0 || found.1 < last.1 || found.2 < last.2 {
-            return false;
-        }
-        if found.0 > ROUNDS || found.1 > ROUNDS || found.2 > ROUNDS {
+        let found = looked(words, &mut pass);
+        if !are_within(last, found) || !are_within(found, (ROUNDS, ROUNDS, ROUNDS)) {
             return false;
         }
         last = found;
@@ -82,11 +110,12 @@ fn look_on(words: &Words, mut pass: Pass) -> bool
 }
 
 #[test]
-fn answers_never_go_back(rt: HostRuntime) -> Result<(), Fail> {
-    let (words, book, mut shards, mut passes) = Words::open(rt.alloc(), 1, 2)?;
-    let shard = shards.pop().ok_or("a shard")?;
-    let looker = passes.pop().ok_or("two passes")?;
-    let issuer = passes.pop().ok_or("two passes")?;
+fn answers_never_go_back(rt: HostRuntime) {
+    let opened = Words::open(rt.alloc(), 1, 2);
+    let (words, book, mut shards, mut passes) = opened.expect(&rt, "memory");
+    let shard = shards.pop().expect(&rt, "a shard");
+    let looker = passes.pop().expect(&rt, "two passes");
+    let issuer = passes.pop().expect(&rt, "two passes");
     let shared = &words;
     let (mut issuer, steady) = join(
         &rt,
@@ -94,9 +123,8 @@ fn answers_never_go_back(rt: HostRuntime) -> Result<(), Fail> {
         move || look_on(shared, looker),
     );
     assert!(rt; steady);
-    assert_eq!(rt; words.issued(&mut issuer), ROUNDS);
-    assert_eq!(rt; words.shard_mark(&mut issuer, 0), ROUNDS);
-    Ok(())
+    assert_eq!(rt; issued(&words, &mut issuer), ROUNDS);
+    assert_eq!(rt; mark(&words, &mut issuer, 0), ROUNDS);
 }
 
 /// A pass, with the number of the last edit that it has issued.
@@ -115,41 +143,39 @@ struct Worker {
 }
 
 /// The passes, the last one first.
-fn issuers_of(
-    alloc: Global,
-    words: &Words,
-    mut passes: Vec<Pass>,
-) -> Result<Vec<Issuer>, AllocError>
+fn issuers_of(rt: &(impl Abort + AllocGlobal), words: &Words, mut passes: Vec<Pass>) -> Vec<Issuer>
     requires own { All (λ p. p.table ≡ words.now.table) passes.items }
-    ensures own { IfOk result (λ issuers. All (λ i. i.pass.table ≡ words.now.table) issuers.items) }
+    ensures own { All (λ i. i.pass.table ≡ words.now.table) result.items }
 {
-    let mut issuers = Vec::new(alloc);
+    let mut issuers = Vec::new(rt.alloc());
     for _ in 0..passes.len() {
         let Some(pass) = passes.pop() else {
             break;
         };
-        issuers.push(Issuer { pass, last: 0 })?;
+        let issuer = Issuer { pass, last: 0 };
+        issuers.push(issuer).expect(rt, "memory");
     }
-    Ok(issuers)
+    issuers
 }
 
 /// The shards' workers, the last one first.
 fn workers_of(
-    alloc: Global,
+    rt: &(impl Abort + AllocGlobal),
     words: &Words,
     mut seats: Vec<ShardSeat>,
-) -> Result<Vec<Worker>, AllocError>
+) -> Vec<Worker>
     requires own { All (λ s. (s.table ≡ words.now.table) × (s.view.done ≡ 0)) seats.items }
-    ensures own { IfOk result (λ workers. All (λ w. w.seat.table ≡ words.now.table) workers.items) }
+    ensures own { All (λ w. w.seat.table ≡ words.now.table) result.items }
 {
-    let mut workers = Vec::new(alloc);
+    let mut workers = Vec::new(rt.alloc());
     for _ in 0..seats.len() {
         let Some(seat) = seats.pop() else {
             break;
         };
-        workers.push(Worker { seat, done: 0 })?;
+        let worker = Worker { seat, done: 0 };
+        workers.push(worker).expect(rt, "memory");
     }
-    Ok(workers)
+    workers
 }
 
 impl Worker {
@@ -182,13 +208,13 @@ fn look_at_all(rt: &impl Abort, words: &Words, pass: &mut Pass, last: &mut Found
     requires shards { words.now.shards ≡ 4 }
     ensures own { pass.new.table ≡ pass.old.table }
 {
-    let issued = words.issued(pass);
-    let least = words.watermark(pass);
+    let issued = issued(words, pass);
+    let least = watermark(words, pass);
     let marks = [
-        words.shard_mark(pass, 0),
-        words.shard_mark(pass, 1),
-        words.shard_mark(pass, 2),
-        words.shard_mark(pass, 3),
+        mark(words, pass, 0),
+        mark(words, pass, 1),
+        mark(words, pass, 2),
+        mark(words, pass, 3),
     ];
     assert!(rt; issued >= last.issued && least >= last.least);
     for k in 0..4 {
@@ -219,7 +245,6 @@ fn run_in_turn(
     requires of_passes { All (λ i. i.pass.table ≡ words.now.table) issuers.old }
     requires of_looker { looker.old.table ≡ words.now.table }
 {
-    let edit = Edit::Withdraw(TxnId(7));
     let mut last = Found {
         issued: 0,
         marks: [0; 4],
@@ -229,7 +254,7 @@ fn run_in_turn(
     for round in 0..LONG_ROUNDS {
         let turn = (round % 4) as usize;
         let issuer = &mut issuers[turn];
-        words.issue(book, &mut issuer.pass, Snapshot::of(&edit));
+        issue(words, book, &mut issuer.pass);
         assert!(rt; issuer.last == round.saturating_sub(3));
         issuer.last = round + 1;
         let worker = &mut workers[turn];
@@ -241,11 +266,12 @@ fn run_in_turn(
 }
 
 #[test]
-fn passes_and_shards_take_turns(rt: HostRuntime) -> Result<(), Fail> {
-    let (words, mut book, shards, mut passes) = Words::open(rt.alloc(), 4, 5)?;
-    let mut looker = passes.pop().ok_or("five passes")?;
-    let mut workers = workers_of(rt.alloc(), &words, shards)?;
-    let mut issuers = issuers_of(rt.alloc(), &words, passes)?;
+fn passes_and_shards_take_turns(rt: HostRuntime) {
+    let opened = Words::open(rt.alloc(), 4, 5);
+    let (words, mut book, shards, mut passes) = opened.expect(&rt, "memory");
+    let mut looker = passes.pop().expect(&rt, "five passes");
+    let mut workers = workers_of(&rt, &words, shards);
+    let mut issuers = issuers_of(&rt, &words, passes);
     run_in_turn(
         &rt,
         &words,
@@ -254,7 +280,6 @@ fn passes_and_shards_take_turns(rt: HostRuntime) -> Result<(), Fail> {
         issuers.as_mut_slice(),
         &mut looker,
     );
-    Ok(())
 }
 
 /// Each pass issues once and each shard publishes once, the last shard first, so that the watermark rises at the last turn alone.
@@ -269,24 +294,24 @@ fn take_one_turn_each(
     requires of_shards { (words.now.shards ≡ 16) × All (λ w. w.seat.table ≡ words.now.table) workers.old }
     requires of_passes { All (λ i. i.pass.table ≡ words.now.table) issuers.old }
 {
-    let edit = Edit::Withdraw(TxnId(7));
     assert!(rt; workers.len() == 16 && issuers.len() == 16);
     for turn in 0..16 {
         let number = turn as u64 + 1;
-        words.issue(book, &mut issuers[turn].pass, Snapshot::of(&edit));
+        issue(words, book, &mut issuers[turn].pass);
         workers[turn].advance(words, book, number, 0);
         let pass = &mut issuers[15 - turn].pass;
-        assert_eq!(rt; words.issued(pass), number);
-        assert_eq!(rt; words.shard_mark(pass, 15 - turn), number);
-        assert_eq!(rt; words.watermark(pass), number / 16);
+        assert_eq!(rt; issued(words, pass), number);
+        assert_eq!(rt; mark(words, pass, 15 - turn), number);
+        assert_eq!(rt; watermark(words, pass), number / 16);
     }
 }
 
 #[test]
-fn sixteen_passes_and_shards_take_turns(rt: HostRuntime) -> Result<(), Fail> {
-    let (words, mut book, shards, passes) = Words::open(rt.alloc(), 16, 16)?;
-    let mut workers = workers_of(rt.alloc(), &words, shards)?;
-    let mut issuers = issuers_of(rt.alloc(), &words, passes)?;
+fn sixteen_passes_and_shards_take_turns(rt: HostRuntime) {
+    let opened = Words::open(rt.alloc(), 16, 16);
+    let (words, mut book, shards, passes) = opened.expect(&rt, "memory");
+    let mut workers = workers_of(&rt, &words, shards);
+    let mut issuers = issuers_of(&rt, &words, passes);
     take_one_turn_each(
         &rt,
         &words,
@@ -294,7 +319,6 @@ fn sixteen_passes_and_shards_take_turns(rt: HostRuntime) -> Result<(), Fail> {
         workers.as_mut_slice(),
         issuers.as_mut_slice(),
     );
-    Ok(())
 }
 
 fn crosses<T: Send>(value: &T) {
@@ -305,23 +329,37 @@ fn is_shared<T: Sync>(value: &T) {
     let _ = value;
 }
 
+/// The shard is told by its own seat of an edit that the pass issues, and of the close.
+fn look_by_own_seat(
+    rt: &impl Abort,
+    words: &Words,
+    mut book: BookSeat,
+    mut shard: ShardSeat,
+    mut pass: Pass,
+)
+    requires of_book { (book.table ≡ words.now.table) × (book.view.journal ≡ []) }
+    requires of_shard { shard.table ≡ words.now.table }
+    requires of_pass { pass.table ≡ words.now.table }
+{
+    assert_eq!(rt; words.issued_at(&mut shard), 0);
+    issue(words, &mut book, &mut pass);
+    words.see(&mut pass, &mut book);
+    assert_eq!(rt; words.issued_at(&mut shard), 1);
+    assert!(rt; !words.closed_at(&mut shard));
+    words.close(&mut book);
+    assert!(rt; words.closed_at(&mut shard));
+}
+
 #[test]
-fn a_shard_looks_by_its_own_seat(rt: HostRuntime) -> Result<(), Fail> {
-    let (words, mut book, mut shards, mut passes) = Words::open(rt.alloc(), 1, 1)?;
+fn a_shard_looks_by_its_own_seat(rt: HostRuntime) {
+    let opened = Words::open(rt.alloc(), 1, 1);
+    let (words, book, mut shards, mut passes) = opened.expect(&rt, "memory");
     is_shared(&words);
     crosses(&words);
     crosses(&book);
     crosses(&shards);
     crosses(&passes);
-    let shard = &mut shards[0];
-    let pass = &mut passes[0];
-    let edit = Edit::Withdraw(TxnId(7));
-    assert_eq!(rt; words.issued_at(shard), 0);
-    words.issue(&mut book, pass, Snapshot::of(&edit));
-    words.see(pass, &mut book);
-    assert_eq!(rt; words.issued_at(shard), 1);
-    assert!(rt; !words.closed_at(shard));
-    words.close(&mut book);
-    assert!(rt; words.closed_at(shard));
-    Ok(())
+    let shard = shards.pop().expect(&rt, "a shard");
+    let pass = passes.pop().expect(&rt, "a pass");
+    look_by_own_seat(&rt, &words, book, shard, pass);
 }

@@ -3,4 +3,4 @@ use Rattle.std.specs.Prelude.{All}
 use Rattle.si_words_tests.proofs.tests.workers_of.Given as goal
 
 abbrev pub invariant-loop : goal.invariant-loop
-invariant-loop l = All (λ s. (s.table ≡ l.words.table) × (s.view.done ≡ 0)) l.seats.items × All (λ w. w.seat.table ≡ l.words.table) l.workers.items
+invariant-loop g l = All (λ s. (s.table ≡ l.words.table) × (s.view.done ≡ 0)) l.seats.items × All (λ w. w.seat.table ≡ l.words.table) l.workers.items
