@@ -1,15 +1,16 @@
-ghost use Rattle.std.specs.Prelude.{◌≡◌, ℕ, ◌<◌, ◌≤◌, ◌↔◌, ◌%◌, IsTrue, IfOk, List, fold, length, take};
+ghost use Rattle.std.specs.Prelude.{◌≡◌, ℕ, ◌<◌, ◌↔◌, ◌%◌, IsTrue, IfOk, fold};
 ghost use Rattle.std.specs.String.{string_bytes};
 ghost use Rattle.si_model.specs.KeyTexts.{IsKeyText, shard_hash, shard_hash_with, shard_number};
-ghost use Rattle.si_model.specs.Keys.{IsWhole, IsText, text_bytes, text_hash};
+ghost use Rattle.si_model.specs.Keys.{text_bytes};
 
 use crate::OutOfMemory;
+use arrayvec::ArrayString;
 use std::alloc::Global;
 use std::cmp::Ordering;
+use std::fmt;
 use std::hash::{Hash, Hasher};
 use std::marker::Model;
 use std::sync::ArcStr;
-use std::{fmt, str};
 
 /// The most bytes that a key may have.
 pub const MOST_KEY_BYTES: usize = 128;
@@ -17,116 +18,50 @@ pub const MOST_KEY_BYTES: usize = 128;
 /// The most bytes of a text that stands in the key itself and takes no memory of its own. Most keys of a test are as short.
 pub const MOST_INLINE_BYTES: usize = 16;
 
-/// The text of a key, and the hash that picks its shard.
-///
-/// The length and the hash of a short text stand in what its tag leaves free of a word, so that a key takes three words.
+/// The text of a key.
 #[derive(Drop)]
 enum Text {
-    /// So many bytes of the array.
-    Short {
-        len: u8,
-        hash: u32,
-        bytes: [u8; MOST_INLINE_BYTES],
-    },
-    Long {
-        hash: u32,
-        text: ArcStr,
-    },
+    Short(ArrayString<MOST_INLINE_BYTES>),
+    Long(ArcStr),
 }
 
 impl Text {
     /// A copy of this text.
     fn new(alloc: Global, text: &str) -> Result<Self, OutOfMemory>
-        ensures { IfOk result (IsText text.now) }
+        ensures { IfOk result (λ made. text_bytes made ≡ text.now) }
     {
-        if text.len() <= MOST_INLINE_BYTES {
-            return Ok(Text::short(text));
+        match ArrayString::from(text) {
+            Ok(short) => Ok(Text::Short(short)),
+            Err(_) => Text::from_string(String::from_str(alloc, text)?),
         }
-        Text::from_string(String::from_str(alloc, text)?)
     }
 
     fn from_string(text: String) -> Result<Self, OutOfMemory>
-        ensures { IfOk result (IsText (string_bytes text)) }
+        ensures { IfOk result (λ made. text_bytes made ≡ string_bytes text) }
     {
-        if text.len() <= MOST_INLINE_BYTES {
-            return Ok(Text::short(text.as_str()));
+        if let Ok(short) = ArrayString::from(text.as_str()) {
+            return Ok(Text::Short(short));
         }
-        let hash = hash_of(text.as_bytes());
-        Ok(Text::Long {
-            hash,
-            text: ArcStr::from_string(text)?,
-        })
-    }
-
-    fn short(text: &str) -> Self
-        requires { length text.now ≤ MOST_INLINE_BYTES }
-        ensures { IsText text.now result }
-    {
-        let bytes = text.as_bytes();
-        Text::Short {
-            len: bytes.len() as u8,
-            hash: hash_of(bytes),
-            bytes: padded(bytes),
-        }
+        Ok(Text::Long(ArcStr::from_string(text)?))
     }
 
     fn try_clone(&self) -> Result<Self, OutOfMemory>
-        ensures { IfOk result (λ copy. (xs : List ℕ) → IsText xs self.now → IsText xs copy) }
-    {
-        let hash = self.hash();
-        match self {
-            Text::Short { len, bytes, .. } => Ok(Text::Short {
-                len: *len,
-                hash,
-                bytes: *bytes,
-            }),
-            Text::Long { text, .. } => Ok(Text::Long {
-                hash,
-                text: text.clone()?,
-            }),
-        }
-    }
-
-    fn as_bytes(&self) -> &[u8]
-        requires { IsWhole self.now }
-        ensures { result.now ≡ text_bytes self.now }
+        ensures { IfOk result (λ copy. text_bytes copy ≡ text_bytes self.now) }
     {
         match self {
-            Text::Short { len, bytes, .. } => &bytes[..*len as usize],
-            Text::Long { text, .. } => text.as_str().as_bytes(),
+            Text::Short(short) => Ok(Text::Short(*short)),
+            Text::Long(long) => Ok(Text::Long(long.clone()?)),
         }
     }
 
     fn as_str(&self) -> &str
-        requires { IsWhole self.now }
         ensures { result.now ≡ text_bytes self.now }
     {
         match self {
-            Text::Short { len, bytes, .. } => match str::from_utf8(&bytes[..*len as usize]) {
-                Ok(text) => text,
-                Err(_) => unreachable!(),
-            },
-            Text::Long { text, .. } => text.as_str(),
+            Text::Short(short) => short.as_str(),
+            Text::Long(long) => long.as_str(),
         }
     }
-
-    fn hash(&self) -> u32
-        ensures { result ≡ text_hash self.now }
-    {
-        match self {
-            Text::Short { hash, .. } | Text::Long { hash, .. } => *hash,
-        }
-    }
-}
-
-/// The bytes, and zeros behind them.
-fn padded(bytes: &[u8]) -> [u8; MOST_INLINE_BYTES]
-    requires { length bytes.now ≤ MOST_INLINE_BYTES }
-    ensures { take (length bytes.now) result ≡ bytes.now }
-{
-    let mut padded = [0; MOST_INLINE_BYTES];
-    padded[..bytes.len()].copy_from_slice(bytes);
-    padded
 }
 
 /// A key: text of 1 to 128 bytes, which contracts see as the list of its bytes.
@@ -135,18 +70,19 @@ fn padded(bytes: &[u8]) -> [u8; MOST_INLINE_BYTES]
 #[derive(Drop)]
 pub struct Key {
     text: Text,
+    hash: u32,
 }
 
 impl Model for Key {
     ghost use Rattle.std.specs.Prelude.{◌≡◌, ℕ, List};
-    ghost use Rattle.si_model.specs.KeyTexts.{IsKeyText};
-    ghost use Rattle.si_model.specs.Keys.{IsText, text_bytes};
+    ghost use Rattle.si_model.specs.KeyTexts.{IsKeyText, shard_hash};
+    ghost use Rattle.si_model.specs.Keys.{text_bytes};
 
     ghost Value = { List ℕ };
 
     ghost view = { λ k. text_bytes k.text };
 
-    ghost invariant = { λ k. IsKeyText (text_bytes k.text) × IsText (text_bytes k.text) k.text };
+    ghost invariant = { λ k. IsKeyText (text_bytes k.text) × (k.hash ≡ shard_hash (text_bytes k.text)) };
 }
 
 impl Key {
@@ -164,6 +100,7 @@ impl Key {
     {
         Ok(Key {
             text: Text::new(alloc, text)?,
+            hash: hash_of(text.as_bytes()),
         })
     }
 
@@ -172,8 +109,10 @@ impl Key {
         requires { IsKeyText (string_bytes text) }
         ensures { IfOk result (λ key. key ≡ string_bytes text) }
     {
+        let hash = hash_of(text.as_bytes());
         Ok(Key {
             text: Text::from_string(text)?,
+            hash,
         })
     }
 
@@ -183,6 +122,7 @@ impl Key {
     {
         Ok(Key {
             text: self.text.try_clone()?,
+            hash: self.hash,
         })
     }
 
@@ -197,7 +137,7 @@ impl Key {
     pub fn shard_hash(&self) -> u32
         ensures { result ≡ shard_hash self.now }
     {
-        self.text.hash()
+        self.hash
     }
 }
 
@@ -233,7 +173,7 @@ impl PartialEq for Key {
     ghost laws = { Cmp.partial_equiv_from_equiv nat_list_eq_equiv };
 
     fn eq(&self, other: &Self) -> bool {
-        self.text.as_bytes() == other.text.as_bytes()
+        self.as_str() == other.as_str()
     }
 }
 
@@ -272,22 +212,21 @@ impl Ord for Key {
     ghost matches_eq = { texts_ties };
 
     fn cmp(&self, other: &Self) -> Ordering {
-        self.text.as_bytes().cmp(other.text.as_bytes())
+        self.as_str().cmp(other.as_str())
     }
 }
 
 impl Hash for Key {
-    ghost use Rattle.std.specs.Prelude.{[], ◌∷◌};
     ghost use Rattle.std.proofs.Common.{rules};
+    ghost use Rattle.std.specs.Hash as fed;
     ghost use Rattle.std.specs.Cmp.Rules.{hashing};
 
-    ghost hash_input = { λ k. k ∷ [] };
+    ghost hash_input = { fed.str };
 
     ghost respects_eq = { Prim.search (hashing, rules) };
 
     fn hash<H: Hasher>(&self, state: &mut H) {
-        // (one write, as a key's hash is fed nothing besides it)
-        state.write(self.text.as_bytes());
+        self.as_str().hash(state);
     }
 }
 
