@@ -16,7 +16,7 @@ use Rattle.si_accept.specs.Indexes.{Indexes, AreIndexes, IsExact, StartsAt, Comm
 use Rattle.si_accept.proofs.Exact.{arrived, exact_arrived, exact_withdrawn}
 use Rattle.si_accept.proofs.StampChanges.{sets_true, sets_false, perhaps_true, perhaps_false, set_undone, perhaps_undone}
 use Rattle.si_accept.proofs.PairChanges.{writers_true, writers_false}
-use Rattle.si_accept.proofs.WriterLemmas.{undone}
+use Rattle.si_accept.proofs.WriterChanges.{undone}
 
 -- ---- an arrival
 

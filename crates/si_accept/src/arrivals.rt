@@ -7,6 +7,7 @@ ghost use Rattle.si_model.specs.Edits.{with_id, resolved, is_another};
 ghost use Rattle.si_accept.specs.Arrivals.{resolved_slot};
 
 use indexmap::IndexMap;
+use si_hashing::NumberHash;
 use si_model::{OutOfMemory, Outcome, Txn, TxnId};
 use std::alloc::Global;
 use std::hash::RandomState;
@@ -23,7 +24,7 @@ pub struct Arrivals {
     // The transactions in their order, with empty slots between them.
     slots: Vec<Option<Txn>>,
     // From an id to its slot.
-    places: IndexMap<u64, usize, RandomState>,
+    places: IndexMap<u64, usize, NumberHash>,
     // How many slots aren't empty.
     count: usize,
 }
@@ -49,7 +50,7 @@ impl Arrivals {
             alloc,
             hash,
             slots: Vec::new(alloc),
-            places: IndexMap::with_hasher(alloc, hash),
+            places: IndexMap::with_hasher(alloc, NumberHash::new(hash)),
             count: 0,
         }
     }

@@ -35,7 +35,7 @@ impl SetUps {
     }
 
     /// The value that the key was set up with.
-    #[tactic(auto, using(crate::proofs::SetUpLemmas::set_up_found))]
+    #[tactic(auto, using(crate::proofs::SetUpFinds::set_up_found))]
     pub fn value(&self, key: &Key) -> Option<Value>
         ensures { result ≡ set_up_value key.now self.now }
     {
@@ -47,7 +47,7 @@ impl SetUps {
     }
 
     /// The key is set up with the value. It may not be set up already.
-    #[tactic(auto, using(crate::proofs::SetUpLemmas::set_up_found))]
+    #[tactic(auto, using(crate::proofs::SetUpFinds::set_up_found))]
     pub fn add(&mut self, key: Key, value: Value) -> Result<(), OutOfMemory>
         requires { set_up_value key self.old ≡ None }
         ensures ok { OnOk result (self.new ≡ self.old ++ (key, value) ∷ []) }

@@ -4,6 +4,7 @@ ghost use Rattle.std.specs.Prelude.{◌≡◌, Some, None, OnOk, OnErr};
 ghost use Rattle.si_accept.specs.Writers.{writer_of, SetsWriter, SetsWriters, SameWriters, AreFree};
 
 use crate::key_numbers::KeyNumbers;
+use si_hashing::NumberHash;
 use si_model::{Key, Op, OutOfMemory, TxnId, Value};
 use std::alloc::Global;
 use std::collections::HashMap;
@@ -15,7 +16,7 @@ use std::marker::Model;
 pub struct Writers {
     keys: KeyNumbers,
     // From a key's number and a value to the writer.
-    ids: HashMap<(usize, u64), TxnId, RandomState>,
+    ids: HashMap<(usize, u64), TxnId, NumberHash>,
 }
 
 impl Model for Writers {
@@ -34,7 +35,7 @@ impl Writers {
     {
         Writers {
             keys: KeyNumbers::new(alloc, hash),
-            ids: HashMap::with_hasher(alloc, hash),
+            ids: HashMap::with_hasher(alloc, NumberHash::new(hash)),
         }
     }
 

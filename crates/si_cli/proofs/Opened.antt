@@ -14,17 +14,17 @@ use Rattle.si_run.specs.declared.faults.RunFault.TheVariants as fault
 use Rattle.si_run.specs.Outputs.{Terms}
 use Rattle.si_run.specs.Runs.{BeginsSome, BeginsText, IsTrueDeviceFault, MayBeTooLong, WritesBeginning, WritesOutput, WritesSome, WritesText, all_known}
 use Rattle.si_run.specs.Takings.{Device}
-use Rattle.si_cli.specs.Openings.{AreKept}
+use Rattle.si_cli.specs.Openings.{HoldFiles}
 use Rattle.si_cli.specs.Programs.{EndsCheck, EndsFiles, EndsNamed, Files, Input}
 
-pub as_many : (files lefts : List (Option (List ℕ))) → AreKept files lefts → length lefts ≡ length files
+pub as_many : (files lefts : List (Option (List ℕ))) → HoldFiles files lefts → length lefts ≡ length files
 as_many [] [] k = refl
 as_many [] (l ∷ lefts) k = absurd k
 as_many (f ∷ files) [] k = absurd k
 as_many (f ∷ files) (l ∷ lefts) k = ap suc (as_many files lefts k.1)
 
 -- one more
-pub kept_push : (files lefts : List (Option (List ℕ))) (f l : Option (List ℕ)) → AreKept files lefts → Keeps f l → AreKept (files ++ f ∷ []) (lefts ++ l ∷ [])
+pub kept_push : (files lefts : List (Option (List ℕ))) (f l : Option (List ℕ)) → HoldFiles files lefts → Keeps f l → HoldFiles (files ++ f ∷ []) (lefts ++ l ∷ [])
 kept_push [] [] f l k one = (one, tt)
 kept_push [] (m ∷ lefts) f l k one = absurd k
 kept_push (g ∷ files) [] f l k one = absurd k
@@ -36,7 +36,7 @@ of_one P none None l k p = none
 of_one P none (Some xs) None k p = absurd k
 of_one P none (Some xs) (Some ys) k p = subst (λ b. P (Some b)) k p
 
-known_kept : (files lefts : List (Option (List ℕ))) (all : List (List ℕ)) → AreKept files lefts → all_known files ≡ Some all → all_known lefts ≡ Some all
+known_kept : (files lefts : List (Option (List ℕ))) (all : List (List ℕ)) → HoldFiles files lefts → all_known files ≡ Some all → all_known lefts ≡ Some all
 known_kept [] [] all k e = e
 known_kept [] (l ∷ lefts) all k e = absurd k
 known_kept (f ∷ files) [] all k e = absurd k
@@ -46,14 +46,14 @@ known_kept (Some xs ∷ files) (Some ys ∷ lefts) all k e =
     let m = mapped_some (λ (l : List (List ℕ)). xs ∷ l) (all_known files) all e in
     ap (option_map (λ (l : List (List ℕ)). ys ∷ l)) (known_kept files lefts m.0 k.1 m.1) ∙ ap (λ (l : List (List ℕ)). Some l) (ap (λ (y : List ℕ). y ∷ m.0) k.0 ∙ m.2)
 
-of_all : (P : Option (List (List ℕ)) → Type 0) → P None → (files lefts : List (Option (List ℕ))) → AreKept files lefts → P (all_known lefts) → P (all_known files)
+of_all : (P : Option (List (List ℕ)) → Type 0) → P None → (files lefts : List (Option (List ℕ))) → HoldFiles files lefts → P (all_known lefts) → P (all_known files)
 of_all P none files lefts k p = by (all_known files) refl
   where
     by : (known : Option (List (List ℕ))) → all_known files ≡ known → P known
     by None e = none
     by (Some all) e = subst P (known_kept files lefts all k e) p
 
-pub kept_text : (terms : Terms) (files lefts : List (Option (List ℕ))) (old new : Option (List ℕ)) (status : ExitStatus) → AreKept files lefts → WritesText terms lefts old new status → WritesText terms files old new status
+pub kept_text : (terms : Terms) (files lefts : List (Option (List ℕ))) (old new : Option (List ℕ)) (status : ExitStatus) → HoldFiles files lefts → WritesText terms lefts old new status → WritesText terms files old new status
 kept_text terms [] [] old new status k w = w
 kept_text terms [] (l ∷ lefts) old new status k w = absurd k
 kept_text terms (f ∷ files) [] old new status k w = absurd k
@@ -62,7 +62,7 @@ kept_text terms (f ∷ []) (l ∷ m ∷ lefts) old new status k w = absurd k.1
 kept_text terms (f ∷ g ∷ files) (l ∷ []) old new status k w = absurd k.1
 kept_text terms (f ∷ g ∷ files) (l ∷ m ∷ lefts) old new status k w = of_all (λ known. WritesSome terms known old new status) tt (f ∷ g ∷ files) (l ∷ m ∷ lefts) k w
 
-pub kept_beginning : (terms : Terms) (files lefts : List (Option (List ℕ))) (old new : Option (List ℕ)) → AreKept files lefts → BeginsText terms lefts old new → BeginsText terms files old new
+pub kept_beginning : (terms : Terms) (files lefts : List (Option (List ℕ))) (old new : Option (List ℕ)) → HoldFiles files lefts → BeginsText terms lefts old new → BeginsText terms files old new
 kept_beginning terms [] [] old new k w = w
 kept_beginning terms [] (l ∷ lefts) old new k w = absurd k
 kept_beginning terms (f ∷ files) [] old new k w = absurd k
@@ -71,14 +71,14 @@ kept_beginning terms (f ∷ []) (l ∷ m ∷ lefts) old new k w = absurd k.1
 kept_beginning terms (f ∷ g ∷ files) (l ∷ []) old new k w = absurd k.1
 kept_beginning terms (f ∷ g ∷ files) (l ∷ m ∷ lefts) old new k w = of_all (λ known. BeginsSome terms known old new) tt (f ∷ g ∷ files) (l ∷ m ∷ lefts) k w
 
-kept_long : (files lefts : List (Option (List ℕ))) (i : ℕ) → AreKept files lefts → MayBeTooLong (slice_index_or lefts i None) → MayBeTooLong (slice_index_or files i None)
+kept_long : (files lefts : List (Option (List ℕ))) (i : ℕ) → HoldFiles files lefts → MayBeTooLong (slice_index_or lefts i None) → MayBeTooLong (slice_index_or files i None)
 kept_long [] [] i k long = long
 kept_long [] (l ∷ lefts) i k long = absurd k
 kept_long (f ∷ files) [] i k long = absurd k
 kept_long (f ∷ files) (l ∷ lefts) zero k long = of_one MayBeTooLong tt f l k.0 long
 kept_long (f ∷ files) (l ∷ lefts) (suc i) k long = kept_long files lefts i k.1 long
 
-pub kept_fault : (files lefts : List (Option (List ℕ))) (failed : List Bool) (writer_failed : Bool) (f : RunFault) → AreKept files lefts → IsTrueDeviceFault lefts failed writer_failed f → IsTrueDeviceFault files failed writer_failed f
+pub kept_fault : (files lefts : List (Option (List ℕ))) (failed : List Bool) (writer_failed : Bool) (f : RunFault) → HoldFiles files lefts → IsTrueDeviceFault lefts failed writer_failed f → IsTrueDeviceFault files failed writer_failed f
 kept_fault files lefts failed w (fault.Input source) k t =
     let many = as_many files lefts k in let below = t.0 in (
       omega arith,
@@ -92,7 +92,7 @@ kept_fault files lefts failed w (fault.Open opening) k t = t
 kept_fault files lefts failed w fault.Output k t = t
 kept_fault files lefts failed w fault.Memory k t = t
 
-pub kept_check : (terms : Terms) (files lefts : List (Option (List ℕ))) (failed : List Bool) (out err : Device) (result : ℕ) → AreKept files lefts → EndsCheck terms lefts failed out err result → EndsCheck terms files failed out err result
+pub kept_check : (terms : Terms) (files lefts : List (Option (List ℕ))) (failed : List Bool) (out err : Device) (result : ℕ) → HoldFiles files lefts → EndsCheck terms lefts failed out err result → EndsCheck terms files failed out err result
 kept_check terms files lefts failed out err result k ends = elim ends [
   | inl done ↦ inl (done.0, done.1, kept_text terms files lefts out.before out.after done.0 k done.2, done.3, done.4, done.5)
   | inr f ↦ inr (f.0, kept_fault files lefts failed out.failed f.0 k f.1, kept_beginning terms files lefts out.before out.after k f.2, f.3)
@@ -113,11 +113,11 @@ all_mapped f P (x ∷ xs) each (suc k) d below = all_mapped f P xs (λ i e withi
 
 -- one more file was opened
 pub kept_next : (bytes : List ℕ → Option (List ℕ)) (names : List (List ℕ)) (place : ℕ) (lefts : List (Option (List ℕ))) (left : Option (List ℕ))
-    → place < length names → AreKept (map bytes (take place names)) lefts → Keeps (bytes (slice_index_or names place [])) left
-    → AreKept (map bytes (take (place + 1) names)) (lefts ++ left ∷ [])
+    → place < length names → HoldFiles (map bytes (take place names)) lefts → Keeps (bytes (slice_index_or names place [])) left
+    → HoldFiles (map bytes (take (place + 1) names)) (lefts ++ left ∷ [])
 kept_next bytes names place lefts left below k one =
     let next : place + 1 ≡ suc place = omega arith in
-    subst (λ (l : List (Option (List ℕ))). AreKept l (lefts ++ left ∷ []))
+    subst (λ (l : List (Option (List ℕ))). HoldFiles l (lefts ++ left ∷ []))
     (sym (ap (λ n. map bytes (take n names)) next ∙ ap (map bytes) (take-suc names place [] below) ∙ map-append bytes (take place names) (slice_index_or names place [] ∷ [])))
     (kept_push (map bytes (take place names)) lefts (bytes (slice_index_or names place [])) left k one)
 

@@ -6,11 +6,11 @@ use Rattle.si_cli.specs.declared.programs.NotOpened.{NotOpened}
 use Rattle.si_cli.specs.declared.programs.NotOpened.TheVariants.{File, Memory}
 
 -- as far as the bytes of the files are known, they are what their sources give, file by file
-abbrev pub AreKept : List (Option (List ℕ)) → List (Option (List ℕ)) → Type 0
-AreKept [] [] = ⊤
-AreKept [] (left ∷ lefts) = ⊥
-AreKept (bytes ∷ files) [] = ⊥
-AreKept (bytes ∷ files) (left ∷ lefts) = Keeps bytes left × AreKept files lefts
+abbrev pub HoldFiles : List (Option (List ℕ)) → List (Option (List ℕ)) → Type 0
+HoldFiles [] [] = ⊤
+HoldFiles [] (left ∷ lefts) = ⊥
+HoldFiles (bytes ∷ files) [] = ⊥
+HoldFiles (bytes ∷ files) (left ∷ lefts) = Keeps bytes left × HoldFiles files lefts
 
 -- the file of that place may be one that can't be opened, or memory was refused
 abbrev pub IsNotOpened : (Text → Bool) → List Text → NotOpened → Type 0

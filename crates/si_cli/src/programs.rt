@@ -2,7 +2,7 @@ ghost use Rattle.std.specs.Prelude.{◌≡◌, ◌≤◌, ◌<◌, ◌++◌, ◌
 ghost use Rattle.std.specs.Io.KnownBytes.{Appends};
 ghost use Rattle.std.specs.Mem.{FitsInMemory};
 ghost use Rattle.si_cli.specs.declared.settings.TheConstants.{MOST_FILES};
-ghost use Rattle.si_cli.specs.Openings.{AreKept, IsNotOpened};
+ghost use Rattle.si_cli.specs.Openings.{HoldFiles, IsNotOpened};
 ghost use Rattle.si_cli.specs.Programs.{EndsCheck, EndsFiles, EndsLine, EndsNamed, EndsProgram, EndsUnsettled, EndsWithoutKey, Fails, fault_line, files_with, input_with, memory_line, output_line, source_line};
 ghost use Rattle.si_run.specs.Runs.{IsRunnable, terms_by};
 ghost use Rattle.si_run.specs.Takings.{device};
@@ -184,7 +184,7 @@ fn open_all<F: NamedFiles>(
     alloc: Global,
     names: &[&str],
 ) -> Result<Vec<F::Source>, NotOpened>
-    ensures kept { IfOk result (λ sources. AreKept (map (F.bytes files.now) (map (λ name. name.now) names.now)) (map F.Source.left sources.items)) }
+    ensures kept { IfOk result (λ sources. HoldFiles (map (F.bytes files.now) (map (λ name. name.now) names.now)) (map F.Source.left sources.items)) }
     ensures works { IfOk result (λ sources. All (λ s. F.Source.failed s ≡ false) sources.items) }
     ensures err { IfErr result (IsNotOpened (F.may_lack files.now) (map (λ name. name.now) names.now)) }
 {

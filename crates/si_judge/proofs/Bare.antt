@@ -19,7 +19,7 @@ use Rattle.si_judge.specs.declared.indexes.Indexes.{Indexes}
 use Rattle.si_judge.specs.declared.judgements.ReadId.{ReadId}
 use Rattle.si_judge.specs.declared.reads.Reader.{Reader}
 use Rattle.si_judge.specs.declared.reads.Write.{Write}
-use Rattle.si_judge.specs.Indexes.{AreIndexes, reader_of, reads_in, version_of, write_of, writes_of}
+use Rattle.si_judge.specs.Indexes.{AreIndexes, reader_of, reads_in, version_by, write_of, writes_of}
 use Rattle.si_judge.specs.Following.{empty_key}
 use Rattle.si_judge.specs.Kept.{IsBare, Kept, Shows, found_in}
 use Rattle.si_judge.specs.Readers.{AreInOrder, own_at, reader_cmp}
@@ -68,7 +68,7 @@ module _ {M : OnKey} (ix : Indexes) (is : AreIndexes M ix) where
 -- ---- nothing is found there
 
 module _ (M : OnKey) (bare : IsBare M) where
-  no_version : (T : Part) (d : Dated) → Contains M.parts T → version_of T ≡ Some d → ⊥
+  no_version : (T : Part) (d : Dated) → Contains M.parts T → version_by T ≡ Some d → ⊥
   no_version T d c e =
       let w = last_written T d.1.value (version_from T d e).value in
       nothing_of (writes_of T) (write_of T w.0 d.1.value) (bare.writes T c) (write_to T w.0 d.1.value w.1)

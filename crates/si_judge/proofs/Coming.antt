@@ -11,7 +11,7 @@ use Rattle.si_timeline.specs.Timelines.{Dated}
 use Rattle.si_judge.specs.declared.indexes.Indexes.{Indexes}
 use Rattle.si_judge.specs.Spread.{at_value, value_cmp}
 use Rattle.si_judge.specs.Maps.{AreInserted, AreTakenOut}
-use Rattle.si_judge.specs.Indexes.{AddsVersion, AreIndexes, Fits, Joins, LacksVersion, HasVersion, RemovesVersion, reads_in, version_of, writes_of}
+use Rattle.si_judge.specs.Indexes.{AddsVersion, AreIndexes, Fits, Joins, LacksVersion, HasVersion, RemovesVersion, reads_in, version_by, writes_of}
 use Rattle.si_judge.specs.Readers.{reader_cmp, own_at, AreInOrder}
 use Rattle.si_judge.specs.Mending.{installer}
 use Rattle.si_judge.proofs.IndexEdits.{comes, goes, no_value}
@@ -36,25 +36,25 @@ history_within Q R h initial within names = record {
 module _ (old new : Indexes) (T : Part) {M R : OnKey} (is : AreIndexes M old) (joins : Joins T M R) (history : IsOfHistory R) (initial : new.initial ≡ old.initial) where
   pub came : AreInserted (eq_by_cmp value_cmp) (at_value old.writes) (writes_of T) (at_value new.writes)
       → AreInserted (eq_by_cmp reader_cmp) (own_at old.readers) (reads_in T) (own_at new.readers)
-      → AddsVersion (version_of T) old.timeline new.timeline
+      → AddsVersion (version_by T) old.timeline new.timeline
       → AreInOrder new.readers
       → AreIndexes R new
   came writes readers timeline readers_ordered = record {
     ordered = readers_ordered;
     history = history;
     initial = initial ∙ is.initial ∙ joins.initial;
-    timeline = versions (version_of T) refl timeline;
+    timeline = versions (version_by T) refl timeline;
     writes = comes (eq_by_cmp value_cmp) value_decides writes_of T M.parts R.parts joins.parts (writes_are_apart R history) (at_value old.writes) (at_value new.writes) is.writes writes;
     readers = comes (eq_by_cmp reader_cmp) reader_decides reads_in T M.parts R.parts joins.parts (reads_are_apart R history) (own_at old.readers) (own_at new.readers) is.readers readers;
   }
     where
-      versions : (o : Option Dated) → version_of T ≡ o → AddsVersion o old.timeline new.timeline → (d : Dated)
-          → Contains new.timeline d ↔ ((X : Part) × Contains R.parts X × (version_of X ≡ Some d))
+      versions : (o : Option Dated) → version_by T ≡ o → AddsVersion o old.timeline new.timeline → (d : Dated)
+          → Contains new.timeline d ↔ ((X : Part) × Contains R.parts X × (version_by X ≡ Some d))
       versions None e same d = (
         (λ c. let x = (is.timeline d).0 (subst (λ l. Contains l d) same c) in (x.0, (joins.parts x.0).1 (inl x.1), x.2)),
         (λ x. elim ((joins.parts x.0).0 x.1) [
           | inl c ↦ subst (λ l. Contains l d) (sym same) ((is.timeline d).1 (x.0, c, x.2))
-          | inr s ↦ absurd (no_value d (sym e ∙ ap version_of (sym s) ∙ x.2))
+          | inr s ↦ absurd (no_value d (sym e ∙ ap version_by (sym s) ∙ x.2))
         ]),
       )
       versions (Some n) e adds d = (
@@ -64,15 +64,15 @@ module _ (old new : Indexes) (T : Part) {M R : OnKey} (is : AreIndexes M old) (j
         ]),
         (λ x. (added_are n.0 n.1 old.timeline new.timeline adds d).1 (elim ((joins.parts x.0).0 x.1) [
           | inl c ↦ inl ((is.timeline d).1 (x.0, c, x.2))
-          | inr s ↦ inr (same_some (sym x.2 ∙ ap version_of s ∙ e))
+          | inr s ↦ inr (same_some (sym x.2 ∙ ap version_by s ∙ e))
         ])),
       )
 
 -- no version stands yet at the commit of one that comes
-pub lacks_version : {M : OnKey} (ix : Indexes) (T : Part) → AreIndexes M ix → Fits T M → LacksVersion (version_of T) ix.timeline
-lacks_version ix T is fits = by (version_of T) refl
+pub lacks_version : {M : OnKey} (ix : Indexes) (T : Part) → AreIndexes M ix → Fits T M → LacksVersion (version_by T) ix.timeline
+lacks_version ix T is fits = by (version_by T) refl
   where
-    by : (o : Option Dated) → version_of T ≡ o → LacksVersion o ix.timeline
+    by : (o : Option Dated) → version_by T ≡ o → LacksVersion o ix.timeline
     by None e = tt
     by (Some d) e = λ v c.
         let x = (is.timeline (d.0, v)).0 c in
@@ -81,18 +81,18 @@ lacks_version ix T is fits = by (version_of T) refl
         fits.1.absent x.0 x.1 (ap (λ (X : Part). X.id) same)
 
 -- the version of one that is there stands
-pub has_version : {M : OnKey} (ix : Indexes) (T : Part) → AreIndexes M ix → Contains M.parts T → HasVersion (version_of T) ix.timeline
-has_version ix T is c = by (version_of T) refl
+pub has_version : {M : OnKey} (ix : Indexes) (T : Part) → AreIndexes M ix → Contains M.parts T → HasVersion (version_by T) ix.timeline
+has_version ix T is c = by (version_by T) refl
   where
-    by : (o : Option Dated) → version_of T ≡ o → HasVersion o ix.timeline
+    by : (o : Option Dated) → version_by T ≡ o → HasVersion o ix.timeline
     by None e = tt
     by (Some d) e = (d.1, (is.timeline d).1 (T, c, e))
 
 -- it itself does
-pub version_stands : {M : OnKey} (ix : Indexes) (T : Part) → AreIndexes M ix → Contains M.parts T → IfSome (version_of T) (Contains ix.timeline)
-version_stands ix T is c = by (version_of T) refl
+pub version_stands : {M : OnKey} (ix : Indexes) (T : Part) → AreIndexes M ix → Contains M.parts T → IfSome (version_by T) (Contains ix.timeline)
+version_stands ix T is c = by (version_by T) refl
   where
-    by : (o : Option Dated) → version_of T ≡ o → IfSome o (Contains ix.timeline)
+    by : (o : Option Dated) → version_by T ≡ o → IfSome o (Contains ix.timeline)
     by None e = tt
     by (Some d) e = (is.timeline d).1 (T, c, e)
 
@@ -107,31 +107,31 @@ module _ (old new : Indexes) (T : Part) {M R : OnKey} (is : AreIndexes M old) (j
 
   pub went : AreTakenOut (eq_by_cmp value_cmp) (at_value old.writes) (writes_of T) (at_value new.writes)
       → AreTakenOut (eq_by_cmp reader_cmp) (own_at old.readers) (reads_in T) (own_at new.readers)
-      → RemovesVersion (version_of T) old.timeline new.timeline
+      → RemovesVersion (version_by T) old.timeline new.timeline
       → AreInOrder new.readers
       → AreIndexes R new
   went writes readers timeline readers_ordered = record {
     ordered = readers_ordered;
     history = history;
     initial = initial ∙ is.initial ∙ sym joins.initial;
-    timeline = versions (version_of T) refl timeline;
+    timeline = versions (version_by T) refl timeline;
     writes = goes (eq_by_cmp value_cmp) value_decides writes_of T R.parts M.parts joins.parts (writes_are_apart M is.history) (at_value old.writes) (at_value new.writes) apart_T is.writes writes;
     readers = goes (eq_by_cmp reader_cmp) reader_decides reads_in T R.parts M.parts joins.parts (reads_are_apart M is.history) (own_at old.readers) (own_at new.readers) apart_T is.readers readers;
   }
     where
-      versions : (o : Option Dated) → version_of T ≡ o → RemovesVersion o old.timeline new.timeline → (d : Dated)
-          → Contains new.timeline d ↔ ((X : Part) × Contains R.parts X × (version_of X ≡ Some d))
+      versions : (o : Option Dated) → version_by T ≡ o → RemovesVersion o old.timeline new.timeline → (d : Dated)
+          → Contains new.timeline d ↔ ((X : Part) × Contains R.parts X × (version_by X ≡ Some d))
       versions None e same d = (
         (λ c. let x = (is.timeline d).0 (subst (λ l. Contains l d) same c) in elim ((joins.parts x.0).0 x.1) [
           | inl n ↦ (x.0, n, x.2)
-          | inr s ↦ absurd (no_value d (sym e ∙ ap version_of (sym s) ∙ x.2))
+          | inr s ↦ absurd (no_value d (sym e ∙ ap version_by (sym s) ∙ x.2))
         ]),
         (λ x. subst (λ l. Contains l d) (sym same) ((is.timeline d).1 (x.0, (joins.parts x.0).1 (inl x.1), x.2))),
       )
       versions (Some n) e removes d = (
         (λ c. let x = (is.timeline d).0 ((added_are n.0 removes.0.0 new.timeline old.timeline removes.0.1 d).1 (inl c)) in elim ((joins.parts x.0).0 x.1) [
           | inl m ↦ (x.0, m, x.2)
-          | inr s ↦ (let same : n ≡ d = same_some (sym e ∙ ap version_of (sym s) ∙ x.2) in
+          | inr s ↦ (let same : n ≡ d = same_some (sym e ∙ ap version_by (sym s) ∙ x.2) in
               absurd (removes.1 n.1 (subst (Contains new.timeline) (sym same) c)))
         ]),
         (λ x. elim ((added_are n.0 removes.0.0 new.timeline old.timeline removes.0.1 d).0 ((is.timeline d).1 (x.0, (joins.parts x.0).1 (inl x.1), x.2))) [

@@ -18,7 +18,7 @@ use Rattle.si_timeline.specs.Timelines.{Dated}
 use Rattle.si_judge.specs.declared.reads.Reader.{Reader}
 use Rattle.si_judge.specs.declared.judgements.ReadId.{ReadId}
 use Rattle.si_judge.specs.declared.indexes.Indexes.{Indexes}
-use Rattle.si_judge.specs.Indexes.{AreIndexes, AreReadsOf, Fits, IsTouchedBy, Joins, reader_of, reads_in, version_of}
+use Rattle.si_judge.specs.Indexes.{AreIndexes, AreReadsOf, Fits, IsTouchedBy, Joins, reader_of, reads_in, version_by}
 use Rattle.si_judge.specs.Mending.{ArePairKinds, AreReadKinds, Found, IsJudgedWith, IsJudgedWithout, IsReadKind, IsRight, IsVersionForgotten, IsVersionJudged, id_of, installer, read_cmp, risen}
 use Rattle.si_judge.specs.Touched.{IsBoundedBy, IsTouched, RestsOn}
 use Rattle.si_judge.proofs.Coverage.{bounded, bounded_by_both, own_once, readers_once}
@@ -78,19 +78,19 @@ module _ (J : Rules) {M R : OnKey} (ix new_ix : Indexes) (is : AreIndexes M ix) 
           (λ i. record { txn = e i; place = o.place })
 
   pairs_right : ArePairKinds J R new.overlaps
-  pairs_right = by (version_of T) refl judged.version
+  pairs_right = by (version_by T) refl judged.version
     where
-      by : (o : Option Dated) → version_of T ≡ o → IsVersionJudged J R new_ix o old.overlaps new.overlaps → ArePairKinds J R new.overlaps
+      by : (o : Option Dated) → version_by T ≡ o → IsVersionJudged J R new_ix o old.overlaps new.overlaps → ArePairKinds J R new.overlaps
       by None e same = λ c k.
           let p = pairs_apart J T.id Q R before.history is_new.history (differ J ix is T U named joins.absent Q R before after less judged.others gathered) idle
           (λ n i t. (let s = named_T i.0 i.1 (sym i.2.txn ∙ t) in
-          let v = installs_version i.0 n i.2 in no_value v.0 (sym e ∙ ap version_of (sym s) ∙ v.1))) old.overlaps right.overlaps c k in
+          let v = installs_version i.0 n i.2 in no_value v.0 (sym e ∙ ap version_by (sym s) ∙ v.1))) old.overlaps right.overlaps c k in
           ((λ f. p.0 (sym (same c) ∙ f)), (λ f. same c ∙ p.1 f))
       by (Some d) e j = pairs_after_coming J new_ix is_new T.id Q before.history (differ J ix is T U named joins.absent Q R before after less judged.others gathered) d
           (λ n i t. absurd (idle n i t))
           (λ n i t. (let s = named_T i.0 i.1 (sym i.2.txn ∙ t) in
           let v = installs_version i.0 n i.2 in
-          let one : v.0 ≡ d = same_some (sym v.1 ∙ ap version_of s ∙ e) in
+          let one : v.0 ≡ d = same_some (sym v.1 ∙ ap version_by s ∙ e) in
           sym (ap (λ (m : Installer). m.commit) v.2) ∙ ap (λ (x : Dated). x.0) one))
           old.overlaps right.overlaps (T, there, version_installs T d e) j.0 new.overlaps j.1 j.2
 
@@ -154,19 +154,19 @@ module _ (J : Rules) {M : OnKey} (ix : Indexes) (is : AreIndexes M ix) (T : Part
   pub right_without : IsRight J M new
   right_without = record {
     reads = λ o k. right_after J ix is judged.others (λ p c. reader_in ix is (IsTouchedBy ix T) judged.others collected p c) judged.middle new.reads judged.others_judged o k (forgotten_or_not o k);
-    overlaps = by (version_of T) refl judged.version;
+    overlaps = by (version_by T) refl judged.version;
   }
     where
-      by : (o : Option Dated) → version_of T ≡ o → IsVersionForgotten J M ix o old.overlaps new.overlaps → ArePairKinds J M new.overlaps
+      by : (o : Option Dated) → version_by T ≡ o → IsVersionForgotten J M ix o old.overlaps new.overlaps → ArePairKinds J M new.overlaps
       by None e same = λ c k.
           let p = pairs_apart J T.id Q M h is.history (differ J ix is T T refl joins.absent Q M was stays (λ r t. t) judged.others collected)
-          (λ n i t. (let s = named_had i.0 i.1 (sym i.2.txn ∙ t) in let v = installs_version i.0 n i.2 in no_value v.0 (sym e ∙ ap version_of (sym s) ∙ v.1)))
+          (λ n i t. (let s = named_had i.0 i.1 (sym i.2.txn ∙ t) in let v = installs_version i.0 n i.2 in no_value v.0 (sym e ∙ ap version_by (sym s) ∙ v.1)))
           (λ n i t. joins.absent i.0 i.1 (sym i.2.txn ∙ t)) old.overlaps right.overlaps c k in
           ((λ f. p.0 (sym (same c) ∙ f)), (λ f. same c ∙ p.1 f))
       by (Some d) e j = pairs_after_going J ix is T.id Q h (differ J ix is T T refl joins.absent Q M was stays (λ r t. t) judged.others collected) d
           (λ n i t. (let s = named_had i.0 i.1 (sym i.2.txn ∙ t) in
           let v = installs_version i.0 n i.2 in
-          let one : v.0 ≡ d = same_some (sym v.1 ∙ ap version_of s ∙ e) in
+          let one : v.0 ≡ d = same_some (sym v.1 ∙ ap version_by s ∙ e) in
           sym (ap (λ (m : Installer). m.commit) v.2) ∙ ap (λ (x : Dated). x.0) one))
           (λ n i t. absurd (joins.absent i.0 i.1 (sym i.2.txn ∙ t)))
           old.overlaps right.overlaps

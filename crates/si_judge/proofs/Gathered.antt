@@ -30,7 +30,7 @@ use Rattle.si_timeline.specs.Timelines.{Dated, IsNearestBefore}
 use Rattle.si_judge.specs.declared.reads.Reader.{Reader}
 use Rattle.si_judge.specs.declared.reads.Write.{Write}
 use Rattle.si_judge.specs.declared.indexes.Indexes.{Indexes}
-use Rattle.si_judge.specs.Indexes.{AreIndexes, AreReadsBefore, AreReadsOf, AreTouchedReads, Fits, IsTouchedBy, IsValueBefore, reader_of, readers_in, reads_in, returned_by, version_of, write_at, write_by, write_of, writes_of}
+use Rattle.si_judge.specs.Indexes.{AreIndexes, AreReadsBefore, AreReadsOf, AreTouchedReads, Fits, IsTouchedBy, IsValueBefore, reader_of, readers_in, reads_in, returned_by, version_by, write_at, write_by, write_of, writes_of}
 use Rattle.si_judge.specs.Readers.{IsLaterThan, IsReaderOf, is_later, is_reader_of, reader_cmp, own_at}
 use Rattle.si_judge.specs.Mending.{id_of, installer}
 use Rattle.si_judge.proofs.IndexEdits.{no_value}
@@ -171,7 +171,7 @@ module _ {M : OnKey} (ix : Indexes) (is : AreIndexes M ix) where
     )
 
     abbrev IsReadBefore : Reader → Type 0
-    IsReadBefore r = (d : Dated) × (v : Option Value) × (version_of T ≡ Some d) × IsValueBefore ix d.0 v × IsReaderOf v (Some d.0) r
+    IsReadBefore r = (d : Dated) × (v : Option Value) × (version_by T ≡ Some d) × IsValueBefore ix d.0 v × IsReaderOf v (Some d.0) r
 
     -- two stand before one stamp only where they are one
     same_before : (c : Stamp) (v w : Option Value) → IsValueBefore ix c v → IsValueBefore ix c w → v ≡ w
@@ -183,7 +183,7 @@ module _ {M : OnKey} (ix : Indexes) (is : AreIndexes M ix) where
             let y = (is.timeline e).0 f in
             let part = one_installer M is.history x.0 y.0 (installer d) (installer e) x.1 y.1
             (version_installs x.0 d x.2) (version_installs y.0 e y.2) same in
-            same_some (sym x.2 ∙ ap version_of part ∙ y.2)
+            same_some (sym x.2 ∙ ap version_by part ∙ y.2)
 
         by : (o p : Option Dated) → IsNearestBefore ix.timeline c o → IsNearestBefore ix.timeline c p → v ≡ returned_by ix.initial o → w ≡ returned_by ix.initial p → v ≡ w
         by None None near close e f = e ∙ sym f
@@ -195,7 +195,7 @@ module _ {M : OnKey} (ix : Indexes) (is : AreIndexes M ix) where
             let n : o.0.0 ≡ p.0.0 = omega (arith, a, b) in
             e ∙ ap (λ (d : Dated). Some d.1.value) (one o p near.0 close.0 (ap (λ (k : ℕ). record { 0 = k }) n)) ∙ sym f
 
-    before_are : (o : Option Dated) (reads : List (Reader × Option Value)) → version_of T ≡ o → AreReadsBefore ix o reads → AreReadsOf ix IsReadBefore reads
+    before_are : (o : Option Dated) (reads : List (Reader × Option Value)) → version_by T ≡ o → AreReadsBefore ix o reads → AreReadsOf ix IsReadBefore reads
     before_are None reads e is_none = subst (AreReadsOf ix IsReadBefore) (sym is_none) (none_are (λ r i. no_value i.0 (sym e ∙ i.2)))
     before_are (Some d) reads e before = subst (AreReadsOf ix IsReadBefore) (sym before.2) (same_reads (readers_in ix before.0 (Some d.0)) (readers_are before.0 (Some d.0)) (λ r. (
       (λ i. (d, before.0, e, before.1, i)),
@@ -208,7 +208,7 @@ module _ {M : OnKey} (ix : Indexes) (is : AreIndexes M ix) where
     pub touched_are : (reads : List (Reader × Option Value)) → AreTouchedReads ix T (writes_of T) reads → AreReadsOf ix (IsTouchedBy ix T) reads
     touched_are reads t =
         let written = same_reads _ (of_writes (writes_of T) values_apart) written_is in
-        subst (AreReadsOf ix (IsTouchedBy ix T)) (sym t.2) (both_are (flat_map (λ w. readers_in ix (Some w.0) None) (writes_of T)) t.0 written (before_are (version_of T) t.0 refl t.1)
+        subst (AreReadsOf ix (IsTouchedBy ix T)) (sym t.2) (both_are (flat_map (λ w. readers_in ix (Some w.0) None) (writes_of T)) t.0 written (before_are (version_by T) t.0 refl t.1)
         (λ r a b. not_before b.0.0 b.1 a.0 b.3 (sym b.4.0 ∙ a.2) a.1))
 
   -- ---- one read of an id

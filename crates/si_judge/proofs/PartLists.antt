@@ -20,7 +20,7 @@ use Rattle.si_timeline.specs.Timelines.{Adds, Dated}
 use Rattle.si_timeline.specs.declared.versions.Version.{Version}
 use Rattle.si_judge.specs.declared.reads.Reader.{Reader}
 use Rattle.si_judge.specs.declared.reads.Write.{Write}
-use Rattle.si_judge.specs.Indexes.{reader_of, read_by, read_at, reads_by, reads_in, write_of, write_by, write_at, writes_of, version_with, version_of}
+use Rattle.si_judge.specs.Indexes.{reader_of, read_by, read_at, reads_by, reads_in, write_of, write_by, write_at, writes_of, version_with, version_by}
 use Rattle.si_judge.specs.Mending.{installer}
 use Rattle.si_judge.proofs.IndexEdits.{IsApart}
 
@@ -111,7 +111,7 @@ pub record IsVersionOf (T : Part) (d : Dated) : Type 0 where
   pub start : d.1.start ≡ T.start
   pub value : last_write T.accesses ≡ Some d.1.value
 
-pub version_from : (T : Part) (d : Dated) → version_of T ≡ Some d → IsVersionOf T d
+pub version_from : (T : Part) (d : Dated) → version_by T ≡ Some d → IsVersionOf T d
 version_from T d e = by (commit_of T.status) (last_write T.accesses) refl refl e
   where
     by : (c : Option Stamp) (v : Option Value) → commit_of T.status ≡ c → last_write T.accesses ≡ v → version_with T c v ≡ Some d → IsVersionOf T d
@@ -133,13 +133,13 @@ version_from T d e = by (commit_of T.status) (last_write T.accesses) refl refl e
         }
 
 pub version_to : (T : Part) (c : Stamp) (v : Value) → T.status ≡ status.Committed c → last_write T.accesses ≡ Some v
-    → version_of T ≡ Some (c, record { writer = T.id; start = T.start; value = v })
+    → version_by T ≡ Some (c, record { writer = T.id; start = T.start; value = v })
 version_to T c v e f = ap₂ (version_with T) (ap commit_of e) f
 
-pub version_installs : (T : Part) (d : Dated) → version_of T ≡ Some d → Installs T (installer d)
+pub version_installs : (T : Part) (d : Dated) → version_by T ≡ Some d → Installs T (installer d)
 version_installs T d e = let v = version_from T d e in record { txn = v.writer; start = v.start; committed = v.committed; writes = (d.1.value, last_written T d.1.value v.value) }
 
-pub installs_version : (T : Part) (n : Installer) → Installs T n → (d : Dated) × (version_of T ≡ Some d) × (installer d ≡ n)
+pub installs_version : (T : Part) (n : Installer) → Installs T n → (d : Dated) × (version_by T ≡ Some d) × (installer d ≡ n)
 installs_version T n i =
     let w = some_last T i.writes.0 i.writes.1 in (
       (n.commit, record { writer = T.id; start = T.start; value = w.0 }),

@@ -25,7 +25,7 @@ use Rattle.si_judge.specs.declared.reads.Write.{Write}
 use Rattle.si_judge.specs.declared.indexes.Indexes.{Indexes}
 use Rattle.si_judge.specs.Indexes.{AreIndexes, fate_of, reader_of, reads_in, write_of}
 use Rattle.si_judge.specs.Spread.{at_value}
-use Rattle.si_judge.specs.Sights.{is_later_write, sight_in, source_in, source_told, source_with, write_in}
+use Rattle.si_judge.specs.Sights.{is_write_after, sight_in, source_in, source_told, source_with, write_in}
 use Rattle.si_judge.proofs.IndexEdits.{no_value}
 use Rattle.si_judge.proofs.PartLists.{read_from, write_from, write_to}
 
@@ -82,14 +82,14 @@ module _ {M : OnKey} (ix : Indexes) (is : AreIndexes M ix) where
   -- ---- a later write
 
   module _ (T : Part) (there : Contains M.parts T) (i : ℕ) where
-    later_found : (w : Value) (o : Option Write) → at_value ix.writes w ≡ o → is_later_write (reader_of T i (Some w)) o ≡ writes_later T i (Some w)
+    later_found : (w : Value) (o : Option Write) → at_value ix.writes w ≡ o → is_write_after (reader_of T i (Some w)) o ≡ writes_later T i (Some w)
     later_found w None e = same_tests false (writes_later T i (Some w)) (λ t. absurd (true≢false (sym t))) (λ t.
         let l = (later_are T i (Some w)).0 t in
         let same : w ≡ l.0 = same_some l.1 in
         absurd (unwritten w e T there (l.2.0, subst (λ y. Contains T.accesses (record { place = l.2.0; access = access.Write y })) (sym same) l.2.2)))
-    later_found w (Some x) e = same_tests (is_later_write (reader_of T i (Some w)) (Some x)) (writes_later T i (Some w)) to from
+    later_found w (Some x) e = same_tests (is_write_after (reader_of T i (Some w)) (Some x)) (writes_later T i (Some w)) to from
       where
-        to : is_later_write (reader_of T i (Some w)) (Some x) ≡ true → writes_later T i (Some w) ≡ true
+        to : is_write_after (reader_of T i (Some w)) (Some x) ≡ true → writes_later T i (Some w) ≡ true
         to t =
             let u = found w x e in
             let both = and_parts (same_id x.txn T.id) (nat_lt i x.place) t in
@@ -106,7 +106,7 @@ module _ {M : OnKey} (ix : Indexes) (is : AreIndexes M ix) where
               ),
             )
 
-        from : writes_later T i (Some w) ≡ true → is_later_write (reader_of T i (Some w)) (Some x) ≡ true
+        from : writes_later T i (Some w) ≡ true → is_write_after (reader_of T i (Some w)) (Some x) ≡ true
         from t =
             let u = found w x e in
             let l = (later_are T i (Some w)).0 t in
@@ -117,7 +117,7 @@ module _ {M : OnKey} (ix : Indexes) (is : AreIndexes M ix) where
             let place : l.2.0 ≡ x.place = same.1 ∙ ap (λ p. p.1.place) u.2.2 in
             and_from (same_id x.txn T.id) (nat_lt i x.place) (same_id_from x.txn T.id id) (lt-ltb i x.place (subst (λ n. i < n) place l.2.1))
 
-    later_is : (v : Option Value) → is_later_write (reader_of T i v) (write_in ix v) ≡ writes_later T i v
+    later_is : (v : Option Value) → is_write_after (reader_of T i v) (write_in ix v) ≡ writes_later T i v
     unfolding writes_later
     later_is None = refl
     later_is (Some w) = later_found w (at_value ix.writes w) refl

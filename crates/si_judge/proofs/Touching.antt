@@ -14,14 +14,14 @@ use Rattle.si_model.specs.declared.sights.VersionId.TheVariants as version
 use Rattle.si_model.specs.declared.sights.Source.{Source}
 use Rattle.si_model.specs.declared.sights.Source.TheVariants as source
 use Rattle.si_model.specs.Versions.{Writes, IsAfter, IsInstaller, IsNext, Installs}
-use Rattle.si_model.specs.Reads.{IsSource, IsWriter, ReturnsVersion, version_of as version_read}
+use Rattle.si_model.specs.Reads.{IsSource, IsWriter, ReturnsVersion, version_of}
 use Rattle.si_model.specs.History.{IsOfHistory}
 use Rattle.si_model.proofs.Histories.{same_commit}
 use Rattle.si_model.proofs.LastWrites.{last_is_final, last_written}
 use Rattle.si_timeline.specs.Timelines.{Dated, IsNearestBefore}
 use Rattle.si_judge.specs.declared.reads.Reader.{Reader}
 use Rattle.si_judge.specs.declared.indexes.Indexes.{Indexes}
-use Rattle.si_judge.specs.Indexes.{AreIndexes, IsTouchedBy, IsValueBefore, returned_by, version_of}
+use Rattle.si_judge.specs.Indexes.{AreIndexes, IsTouchedBy, IsValueBefore, returned_by, version_by}
 use Rattle.si_judge.specs.Mending.{installer}
 use Rattle.si_judge.specs.Touched.{InstallsMissed, RestsOn}
 use Rattle.si_judge.proofs.Neighbours.{installed, standing}
@@ -50,11 +50,11 @@ module _ {M : OnKey} (ix : Indexes) (is : AreIndexes M ix) (T : Part) (absent : 
 
   -- ---- what rests on T is touched
 
-  module _ (d : Dated) (is_T : version_of T ≡ Some d) where
+  module _ (d : Dated) (is_T : version_by T ≡ Some d) where
     pub value_before : (v : Option Value) (a : VersionId) (n : Installer) → ReturnsVersion S v a → IsNext S a n → n.commit ≡ d.0 → IsValueBefore ix d.0 v
     value_before v a n returns next commit = by returns.0 returns.1 returns.2
       where
-        by : (s : Source) → IsSource S v s → version_read s ≡ Some a → IsValueBefore ix d.0 v
+        by : (s : Source) → IsSource S v s → version_of s ≡ Some a → IsValueBefore ix d.0 v
         by source.Missing i e = absurd (no_version a e)
         by (source.InDoubt u) i e = absurd (no_version a e)
         by (source.Aborted u) i e = absurd (no_version a e)
@@ -110,7 +110,7 @@ module _ {M : OnKey} (ix : Indexes) (is : AreIndexes M ix) (T : Part) (absent : 
   -- ---- what T touches, it touches by the definitions
 
   module _ (there : Contains S.parts T) where
-    first_after : (d : Dated) → version_of T ≡ Some d → (a : VersionId) → ((x : Dated) → Contains ix.timeline x → IsAfter a x.0 → d.0.0 ≤ x.0.0)
+    first_after : (d : Dated) → version_by T ≡ Some d → (a : VersionId) → ((x : Dated) → Contains ix.timeline x → IsAfter a x.0 → d.0.0 ≤ x.0.0)
         → (m : Installer) → IsInstaller S m → IsAfter a m.commit → d.0.0 ≤ m.commit.0
     first_after d e a least m i after = elim (side.within i.0 i.1) [
       | inl c ↦ (let s = standing ix is m (i.0, c, i.2) in
@@ -122,7 +122,7 @@ module _ {M : OnKey} (ix : Indexes) (is : AreIndexes M ix) (T : Part) (absent : 
           omega (arith, n))
     ]
 
-    pub installs_missed : (d : Dated) (v : Option Value) (start : Stamp) → version_of T ≡ Some d → IsValueBefore ix d.0 v → d.0.0 < start.0 → InstallsMissed S T.id start v
+    pub installs_missed : (d : Dated) (v : Option Value) (start : Stamp) → version_by T ≡ Some d → IsValueBefore ix d.0 v → d.0.0 < start.0 → InstallsMissed S T.id start v
     installs_missed d v start e before late = by before.0 before.1 before.2
       where
         is_n : IsInstaller S (installer d)

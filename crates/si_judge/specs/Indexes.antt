@@ -84,8 +84,8 @@ version_with T (Some c) None = None
 version_with T (Some c) (Some v) = Some (c, record { writer = T.id; start = T.start; value = v })
 
 -- the version that T installs, if it installs one
-abbrev pub version_of : Part → Option Dated
-version_of T = version_with T (commit_of T.status) (last_write T.accesses)
+abbrev pub version_by : Part → Option Dated
+version_by T = version_with T (commit_of T.status) (last_write T.accesses)
 
 -- ---- what the indexes hold
 
@@ -97,7 +97,7 @@ IsIndexOf {K} {V} f parts at = (k : K) (v : V) → (at k ≡ Some v) ↔ ((T : P
 pub record AreIndexes (M : OnKey) (ix : Indexes) : Type 0 where
   pub history : IsOfHistory M
   pub initial : ix.initial ≡ M.initial
-  pub timeline : (d : Dated) → Contains ix.timeline d ↔ ((T : Part) × Contains M.parts T × (version_of T ≡ Some d))
+  pub timeline : (d : Dated) → Contains ix.timeline d ↔ ((T : Part) × Contains M.parts T × (version_by T ≡ Some d))
   pub writes : IsIndexOf writes_of M.parts (at_value ix.writes)
   pub readers : IsIndexOf reads_in M.parts (own_at ix.readers)
   pub ordered : AreInOrder ix.readers
@@ -154,14 +154,14 @@ AreReadsBefore ix (Some d) reads = (v : Option Value) × IsValueBefore ix d.0 v 
 
 -- the reads of what T writes, and those of the version before its own
 abbrev pub AreTouchedReads : Indexes → Part → List (Value × Write) → List (Reader × Option Value) → Type 0
-AreTouchedReads ix T writes reads = (more : List (Reader × Option Value)) × AreReadsBefore ix (version_of T) more
+AreTouchedReads ix T writes reads = (more : List (Reader × Option Value)) × AreReadsBefore ix (version_by T) more
     × (reads ≡ flat_map (λ w. readers_in ix (Some w.0) None) writes ++ more)
 
 -- a read of another transaction that T touches: of a value that T writes, or of the version before T's by a reader that started
 -- after T's commit
 abbrev pub IsTouchedBy : Indexes → Part → Reader → Type 0
 IsTouchedBy ix T r = ((w : Value) × Writes T w × (r.value ≡ Some w))
-    ⊎ ((d : Dated) × (v : Option Value) × (version_of T ≡ Some d) × IsValueBefore ix d.0 v × IsReaderOf v (Some d.0) r)
+    ⊎ ((d : Dated) × (v : Option Value) × (version_by T ≡ Some d) × IsValueBefore ix d.0 v × IsReaderOf v (Some d.0) r)
 
 -- the reads that P holds of, each once
 pub record AreReadsOf (ix : Indexes) (P : Reader → Type 0) (reads : List (Reader × Option Value)) : Type 0 where

@@ -24,7 +24,7 @@ pub record Kept : Type 0 where
   pub overlaps : List (Stamp × Kind)
   -- how many answers the judge has given
   pub judged : ℕ
-  -- whether an edit wanted memory
+  -- whether memory was refused to an edit
   pub spoiled : Bool
 
 -- what the judge found, and its count

@@ -21,7 +21,7 @@ use Rattle.si_judge.specs.declared.reads.Reader.{Reader}
 use Rattle.si_judge.specs.declared.indexes.Indexes.{Indexes}
 use Rattle.si_judge.specs.declared.judgements.ReadId.{ReadId}
 use Rattle.si_judge.specs.declared.judgements.Judgements.{Judgements}
-use Rattle.si_judge.specs.Indexes.{AreTouchedReads, reads_in, version_of, writes_of}
+use Rattle.si_judge.specs.Indexes.{AreTouchedReads, reads_in, version_by, writes_of}
 use Rattle.si_judge.specs.Sights.{sight_in}
 use Rattle.si_judge.specs.Judges.{one_more}
 
@@ -126,7 +126,7 @@ pub record IsJudgedWith (J : Rules) (T : Part) (R : OnKey) (before after : Index
   pub middle : ReadId → Option Kind
   pub others_judged : AreReadsJudged J R after others old.reads middle
   pub own_judged : AreReadsJudged J R after (reads_in T) middle new.reads
-  pub version : IsVersionJudged J R after (version_of T) old.overlaps new.overlaps
+  pub version : IsVersionJudged J R after (version_by T) old.overlaps new.overlaps
   pub counted : RisesBy (length others + length (reads_in T) + 2) old.answers new.answers
 
 -- T went from a key on which R is left, and the indexes are without it: the reads that it touched were judged, its own were
@@ -137,7 +137,7 @@ pub record IsJudgedWithout (J : Rules) (T : Part) (R : OnKey) (after : Indexes) 
   pub middle : ReadId → Option Kind
   pub own_forgotten : AreForgotten (reads_in T) old.reads middle
   pub others_judged : AreReadsJudged J R after others middle new.reads
-  pub version : IsVersionForgotten J R after (version_of T) old.overlaps new.overlaps
+  pub version : IsVersionForgotten J R after (version_by T) old.overlaps new.overlaps
   pub counted : RisesBy (length others + 2) old.answers new.answers
 
 -- what a judge that is counted so found on a key

@@ -47,9 +47,9 @@ abbrev pub source_in : Indexes → Option Value → Option Write → Source
 source_in ix v w = if option_eq same_value v ix.initial then source.Initial else source_with w
 
 -- whether the write is one of the reader, after the read
-abbrev pub is_later_write : Reader → Option Write → Bool
-is_later_write r None = false
-is_later_write r (Some w) = same_id w.txn r.txn && nat_lt r.place w.place
+abbrev pub is_write_after : Reader → Option Write → Bool
+is_write_after r None = false
+is_write_after r (Some w) = same_id w.txn r.txn && nat_lt r.place w.place
 
 -- all that is seen at a read of a key on which M is
 abbrev pub sight_in : OnKey → Indexes → Reader × Option Value → Sight
@@ -59,7 +59,7 @@ sight_in M ix p = record {
   start = p.0.start;
   read = p.0.value;
   own = p.1;
-  later = is_later_write p.0 (write_in ix p.0.value);
+  later = is_write_after p.0 (write_in ix p.0.value);
   source = source_in ix p.0.value (write_in ix p.0.value);
   missed = missed_of M.parts p.0.start (version_of (source_in ix p.0.value (write_in ix p.0.value)));
 }

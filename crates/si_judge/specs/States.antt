@@ -20,7 +20,7 @@ pub record State : Type 0 where
   pub present : OnKey
   -- how many answers its judge has given
   pub judged : ℕ
-  -- whether an edit of it wanted memory
+  -- whether memory was refused to an edit of it
   pub spoiled : Bool
 
 -- what is on the key, whose transactions these are
@@ -48,7 +48,7 @@ pub record IsMended (IsTouchedRead : TxnId × ℕ → Type 0) (asked : OnKey) (o
   pub judged : (n : ℕ) × IsBoundedBy IsTouchedRead n × (new.judged ≡ risen old.judged n)
   pub whole : new.spoiled ≡ false
 
--- a state that wanted memory is spoiled for good
+-- a state to which memory was refused is spoiled for good
 abbrev pub IsSpoiledBy : State → State → Type 0
 IsSpoiledBy old new = (new.key ≡ old.key) × (new.spoiled ≡ true)
 

@@ -6,15 +6,15 @@ ghost use Rattle.si_model.specs.declared.parts.OnKey.{OnKey};
 ghost use Rattle.si_model.specs.History.{IsOfHistory};
 ghost use Rattle.si_model.specs.Versions.{next_after};
 ghost use Rattle.si_model.specs.Reads.{missed_of};
-ghost use Rattle.si_model.specs.Reads.{version_of as version_read};
-ghost use Rattle.si_judge.specs.Indexes.{AddsVersion, AreIndexes, Fits, HasVersion, IsValueBefore, Joins, LacksVersion, RemovesVersion, readers_in, reads_in, version_of, writes_of};
-ghost use Rattle.si_judge.specs.Sights.{is_later_write, sight_in, source_in, stamp_of, write_in};
+ghost use Rattle.si_model.specs.Reads.{version_of};
+ghost use Rattle.si_judge.specs.Indexes.{AddsVersion, AreIndexes, Fits, HasVersion, IsValueBefore, Joins, LacksVersion, RemovesVersion, readers_in, reads_in, version_by, writes_of};
+ghost use Rattle.si_judge.specs.Sights.{is_write_after, sight_in, source_in, stamp_of, write_in};
 ghost use Rattle.si_judge.specs.Mending.{installer};
 
 use crate::maps::{insert_writes, remove_writes};
 use crate::readers::Readers;
-use crate::reads::{OwnRead, Reader, Write, reads_in, version_of, writes_of};
-use si_model::reads::{if_before, version_of as version_read};
+use crate::reads::{OwnRead, Reader, Write, reads_in, version_by, writes_of};
+use si_model::reads::{if_before, version_of};
 use si_model::{Installer, OutOfMemory, Part, Sight, Source, Stamp, Value, VersionId};
 use si_sorted::SortedMap;
 use si_timeline::{Timeline, Version};
@@ -140,7 +140,7 @@ impl Indexes {
             start: reader.start,
             read: reader.value,
             own,
-            later: is_later_write(reader, write),
+            later: is_write_after(reader, write),
             source,
             missed: self.missed_at(reader.start, source),
         }
@@ -166,19 +166,19 @@ impl Indexes {
     }
 
     fn missed_at(&self, start: Stamp, source: Source) -> Option<Installer>
-        ensures { (M : OnKey) → AreIndexes M self.now → result ≡ missed_of M.parts start (version_read source) }
+        ensures { (M : OnKey) → AreIndexes M self.now → result ≡ missed_of M.parts start (version_of source) }
     {
-        let read = version_read(source)?;
+        let read = version_of(source)?;
         if_before(start, self.next_after(read))
     }
 }
 
 /// Adds the version that the transaction installs, if it installs one.
 fn add_version(timeline: &mut Timeline, part: &Part) -> Result<(), OutOfMemory>
-    requires { LacksVersion (version_of part.now) timeline.old }
-    ensures { OnOk result (AddsVersion (version_of part.now) timeline.old timeline.new) }
+    requires { LacksVersion (version_by part.now) timeline.old }
+    ensures { OnOk result (AddsVersion (version_by part.now) timeline.old timeline.new) }
 {
-    match version_of(part) {
+    match version_by(part) {
         Some((commit, version)) => timeline.insert(commit, version),
         None => Ok(()),
     }
@@ -186,17 +186,17 @@ fn add_version(timeline: &mut Timeline, part: &Part) -> Result<(), OutOfMemory>
 
 /// Takes out the version that the transaction installs, if it installs one.
 fn remove_version(timeline: &mut Timeline, part: &Part)
-    requires { HasVersion (version_of part.now) timeline.old }
-    ensures { RemovesVersion (version_of part.now) timeline.old timeline.new }
+    requires { HasVersion (version_by part.now) timeline.old }
+    ensures { RemovesVersion (version_by part.now) timeline.old timeline.new }
 {
-    if let Some((commit, _)) = version_of(part) {
+    if let Some((commit, _)) = version_by(part) {
         timeline.remove(commit);
     }
 }
 
 /// Whether the write is one of the reader, after the read.
-fn is_later_write(reader: Reader, write: Option<Write>) -> bool
-    ensures { result ≡ is_later_write reader write }
+fn is_write_after(reader: Reader, write: Option<Write>) -> bool
+    ensures { result ≡ is_write_after reader write }
 {
     match write {
         None => false,

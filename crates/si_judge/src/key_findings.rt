@@ -12,13 +12,13 @@ ghost use Rattle.si_judge.specs.Touched.{IsTouched, IsTouchedBySetUp};
 ghost use Rattle.si_judge.specs.States.{AreSameOnKey};
 ghost use Rattle.si_judge.specs.Kept.{IsBare, IsInDoubt, IsShown, Shows};
 ghost use Rattle.si_judge.specs.declared.reads.Reader.{Reader};
-ghost use Rattle.si_judge.specs.Indexes.{AreIndexes, AreReadsBefore, AreTouchedReads, Fits, Joins, reads_in, version_of, writes_of};
+ghost use Rattle.si_judge.specs.Indexes.{AreIndexes, AreReadsBefore, AreTouchedReads, Fits, Joins, reads_in, version_by, writes_of};
 ghost use Rattle.si_judge.specs.Mending.{IsJudgedWith, IsJudgedWithout, found_by};
 
 use crate::Judge;
 use crate::indexes::{Indexes, TakenOut};
 use crate::judgements::Judgements;
-use crate::reads::{OwnRead, Write, reads_in, version_of, writes_of};
+use crate::reads::{OwnRead, Write, reads_in, version_by, writes_of};
 use crate::states::KeyFault;
 use si_model::sorting::put_in_order;
 use si_model::{Finding, Key, Kind, OutOfMemory, Outcome, Part, Value};
@@ -36,7 +36,7 @@ pub struct KeyFindings<J: Judge + Drop> {
     key: Key,
     indexes: Indexes,
     judgements: Judgements<J>,
-    // True from the beginning of an edit until it is whole, and so for good once an edit wanted memory.
+    // True from the beginning of an edit until it is whole, and so for good once memory was refused to one.
     spoiled: bool,
 }
 
@@ -73,7 +73,7 @@ impl<J: Judge + Drop> KeyFindings<J> {
 
     /// A transaction arrives that does this on the key.
     ///
-    /// `Spoiled` says that an earlier edit wanted memory, and nothing changes; `OutOfMemory` that the growth of some memory was
+    /// `Spoiled` says that memory was refused to an earlier edit, and nothing changes; `OutOfMemory` that the growth of some memory was
     /// refused, and the findings are spoiled from then on.
     pub fn arrive(&mut self, part: &Part) -> Result<(), KeyFault>
         requires { self.old.spoiled ≡ false → (M : OnKey) × Shows J.rules M self.old × IsOfHistory (arrived_on part.now M) }
@@ -95,7 +95,7 @@ impl<J: Judge + Drop> KeyFindings<J> {
 
     /// The transaction that does this on the key, and is in doubt, is resolved. It becomes what it is from then on.
     ///
-    /// `Spoiled` says that an earlier edit wanted memory, and nothing changes; `OutOfMemory` that the growth of some memory was
+    /// `Spoiled` says that memory was refused to an earlier edit, and nothing changes; `OutOfMemory` that the growth of some memory was
     /// refused, and the findings are spoiled from then on.
     pub fn resolve(&mut self, part: &mut Part, outcome: Outcome) -> Result<(), KeyFault>
         requires { self.old.spoiled ≡ false → (M : OnKey) × Shows J.rules M self.old × IsInDoubt part.old M
@@ -121,7 +121,7 @@ impl<J: Judge + Drop> KeyFindings<J> {
 
     /// The transaction that does this on the key is withdrawn.
     ///
-    /// `Spoiled` says that an earlier edit wanted memory, and nothing changes; `OutOfMemory` that the growth of some memory was
+    /// `Spoiled` says that memory was refused to an earlier edit, and nothing changes; `OutOfMemory` that the growth of some memory was
     /// refused, and the findings are spoiled from then on.
     pub fn withdraw(&mut self, part: &Part) -> Result<(), KeyFault>
         requires { self.old.spoiled ≡ false → (M : OnKey) × Shows J.rules M self.old × Contains M.parts part.now }
@@ -150,7 +150,7 @@ impl<J: Judge + Drop> KeyFindings<J> {
 
     /// The key, which isn't set up, is set up with the value.
     ///
-    /// `Spoiled` says that an earlier edit wanted memory, and nothing changes; `OutOfMemory` that the growth of some memory was
+    /// `Spoiled` says that memory was refused to an earlier edit, and nothing changes; `OutOfMemory` that the growth of some memory was
     /// refused, and the findings are spoiled from then on.
     pub fn set_up(&mut self, value: Value) -> Result<(), KeyFault>
         ensures ok { OnOk result ((M : OnKey) → Shows J.rules M self.old → M.initial ≡ None → IsOfHistory (set_up_on value M)
@@ -177,7 +177,7 @@ impl<J: Judge + Drop> KeyFindings<J> {
 
     /// The findings on the key, in order.
     ///
-    /// `Spoiled` says that an earlier edit wanted memory, `OutOfMemory` that the growth of some memory was refused for them.
+    /// `Spoiled` says that memory was refused to an earlier edit, `OutOfMemory` that the growth of some memory was refused for them.
     /// Nothing changes.
     pub fn findings(&self) -> Result<Vec<Finding>, KeyFault>
         ensures ok { IfOk result (λ found. (M : OnKey) → Shows J.rules M self.now → found.items ≡ findings_on J.rules self.now.key M) }
@@ -200,7 +200,7 @@ impl<J: Judge + Drop> KeyFindings<J> {
         self.judgements.judge.calls()
     }
 
-    /// Whether an edit wanted memory. It stays so for good.
+    /// Whether memory was refused to an edit. It stays so for good.
     pub fn is_spoiled(&self) -> bool
         ensures { result ≡ self.now.spoiled }
     {
@@ -268,7 +268,7 @@ fn add<J: Judge + Drop>(
     indexes.put_in(part, reads.as_slice(), writes.as_slice())?;
     judgements.judge_reads(indexes, others.as_slice())?;
     judgements.judge_reads(indexes, reads.as_slice())?;
-    judgements.judge_version(indexes, version_of(part))?;
+    judgements.judge_version(indexes, version_by(part))?;
     Ok(())
 }
 
@@ -288,7 +288,7 @@ fn drop_out<J: Judge + Drop>(
     let others = touched(alloc, indexes, part, taken.writes.as_slice())?;
     judgements.forget_reads(taken.reads.as_slice());
     judgements.judge_reads(indexes, others.as_slice())?;
-    judgements.forget_version(indexes, version_of(part))?;
+    judgements.forget_version(indexes, version_by(part))?;
     Ok(())
 }
 
@@ -316,10 +316,10 @@ fn add_readers_before(
     part: &Part,
     reads: &mut Vec<OwnRead>,
 ) -> Result<(), OutOfMemory>
-    ensures { OnOk result ((more : List (Reader × Option Value)) × AreReadsBefore indexes.now (version_of part.now) more
+    ensures { OnOk result ((more : List (Reader × Option Value)) × AreReadsBefore indexes.now (version_by part.now) more
         × (reads.new.items ≡ reads.old.items ++ more)) }
 {
-    match version_of(part) {
+    match version_by(part) {
         Some((commit, _)) => {
             let before = indexes.value_before(commit);
             indexes.add_readers(reads, before, Some(commit))

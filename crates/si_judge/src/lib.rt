@@ -1,7 +1,9 @@
-//! The judges of what is found on one key, and which reads an edit can change.
+//! What is found on one key, mended after each edit: by `KeyFindings`, which keeps no transaction, and by `KeyState`, which keeps those
+//! on the key beside it. Both ask a `Judge`; that of snapshot isolation is `Cases`.
 //!
-//! It carries the promise that a judge's answers are functions of what it looks at and are counted, and that an edit changes
-//! what is seen at the reads that it touches alone. It stands on `si_model`, and its proofs on `si_lists`.
+//! It carries the promise that for every judge the findings are those of the definitions after each edit, and that the judge is asked
+//! no more often than the edit touches reads, and twice more. A judge's answers are functions of what it looks at and are counted. It
+//! stands on `si_model`, `si_sorted` and `si_timeline`, and its proofs on `si_lists`.
 #![tactic(auto)]
 
 mod held;

@@ -19,14 +19,14 @@ use std::mem::replace;
 ///
 /// Contracts see their list, whose order means nothing.
 #[derive(Drop)]
-pub struct Parts {
+pub struct HeldParts {
     // Under their ids.
     sorted: BTreeMap<Spread, Held>,
     // Those that came since one was taken out: what only comes is never sorted.
     recent: Vec<(Spread, Held)>,
 }
 
-impl Model for Parts {
+impl Model for HeldParts {
     ghost use Rattle.std.specs.Prelude.{◌++◌, List};
     ghost use Rattle.si_model.specs.declared.parts.Part.{Part as Seen};
     ghost use Rattle.si_judge.specs.Held.{parts_in};
@@ -36,12 +36,12 @@ impl Model for Parts {
     ghost view = { λ s. parts_in (s.sorted.entries ++ s.recent.items) };
 }
 
-impl Parts {
+impl HeldParts {
     /// No transaction.
     pub fn new(alloc: Global) -> Self
         ensures { result ≡ [] }
     {
-        Parts {
+        HeldParts {
             sorted: BTreeMap::new(alloc),
             recent: Vec::new(alloc),
         }

@@ -2,7 +2,7 @@
 
 ghost use Rattle.std.specs.Prelude.{◌≡◌, ◌<◌, IfOk, None, length};
 ghost use Rattle.std.specs.List.{AllPairs};
-ghost use Rattle.si_judge.specs.Indexes.{fate_of, read_at, reads_of, reads_in, write_at, writes_of, version_of};
+ghost use Rattle.si_judge.specs.Indexes.{fate_of, read_at, reads_of, reads_in, write_at, writes_of, version_by};
 ghost use Rattle.si_model.specs.Versions.{last_write};
 ghost use Rattle.si_model.specs.Reads.{own_value};
 ghost use Rattle.si_judge.specs.Sights.{source_told};
@@ -152,8 +152,8 @@ fn fate_of(status: Status, last: Option<Value>, value: Value) -> Fate
 }
 
 /// The version that the transaction installs, if it installs one, with its commit stamp.
-pub fn version_of(part: &Part) -> Option<(Stamp, Version)>
-    ensures { result ≡ version_of part.now }
+pub fn version_by(part: &Part) -> Option<(Stamp, Version)>
+    ensures { result ≡ version_by part.now }
 {
     let commit = part.status.commit()?;
     let value = last_write(part.accesses.as_slice())?;

@@ -11,7 +11,7 @@ ghost use Rattle.si_judge.specs.States.{HasDoubt, HasPart, IsMended, IsSpoiledBy
 
 use crate::Judge;
 use crate::key_findings::KeyFindings;
-use crate::parts::Parts;
+use crate::parts::HeldParts;
 use si_model::{Finding, Key, Outcome, Part, TxnId, Value};
 use std::alloc::{AllocError, AllocFailed, Global};
 use std::marker::Model;
@@ -20,7 +20,8 @@ use thiserror::Error;
 /// Why a call on the state of a key gave nothing.
 #[derive(Clone, Copy, Debug, PartialEq, Eq, Error)]
 pub enum KeyFault {
-    /// An earlier edit of the state wanted memory. The state is spoiled for good, and the call changed nothing.
+    /// Memory was refused to an earlier edit, and the call changed nothing. A key's state stays spoiled for good, a shard until it is
+    /// rebuilt.
     #[error("spoiled")]
     Spoiled,
     /// The growth of some memory was refused. An edit that answers this has spoiled the state; `findings` leaves it as it was.
@@ -70,8 +71,8 @@ impl<T: Drop> From<AllocFailed<T>> for KeyFault {
 pub struct KeyState<J: Judge + Drop> {
     alloc: Global,
     findings: KeyFindings<J>,
-    parts: Parts,
-    // True from the beginning of an edit until it is whole, and so for good once an edit wanted memory.
+    parts: HeldParts,
+    // True from the beginning of an edit until it is whole, and so for good once memory was refused to one.
     spoiled: bool,
 }
 
@@ -105,14 +106,14 @@ impl<J: Judge + Drop> KeyState<J> {
         KeyState {
             alloc,
             findings: KeyFindings::new(alloc, key, judge),
-            parts: Parts::new(alloc),
+            parts: HeldParts::new(alloc),
             spoiled: false,
         }
     }
 
     /// A transaction arrives that does this on the key.
     ///
-    /// `Spoiled` says that an earlier edit wanted memory, and the state stays as it is; `OutOfMemory` that the growth of some
+    /// `Spoiled` says that memory was refused to an earlier edit, and the state stays as it is; `OutOfMemory` that the growth of some
     /// memory was refused, and the state is spoiled from then on.
     pub fn arrive(&mut self, part: Part) -> Result<(), KeyFault>
         requires { self.old.spoiled ≡ false → IsOfHistory (arrived_on part self.old.present) }
@@ -133,7 +134,7 @@ impl<J: Judge + Drop> KeyState<J> {
 
     /// The transaction, which is in doubt, is resolved.
     ///
-    /// `Spoiled` says that an earlier edit wanted memory, and the state stays as it is; `OutOfMemory` that the growth of some
+    /// `Spoiled` says that memory was refused to an earlier edit, and the state stays as it is; `OutOfMemory` that the growth of some
     /// memory was refused, and the state is spoiled from then on.
     pub fn resolve(&mut self, id: TxnId, outcome: Outcome) -> Result<(), KeyFault>
         requires { self.old.spoiled ≡ false → HasDoubt self.old.present id × IsOfHistory (resolved_on id outcome self.old.present) }
@@ -155,7 +156,7 @@ impl<J: Judge + Drop> KeyState<J> {
 
     /// The transaction is withdrawn.
     ///
-    /// `Spoiled` says that an earlier edit wanted memory, and the state stays as it is; `OutOfMemory` that the growth of some
+    /// `Spoiled` says that memory was refused to an earlier edit, and the state stays as it is; `OutOfMemory` that the growth of some
     /// memory was refused, and the state is spoiled from then on.
     pub fn withdraw(&mut self, id: TxnId) -> Result<(), KeyFault>
         requires { self.old.spoiled ≡ false → HasPart self.old.present id }
@@ -176,7 +177,7 @@ impl<J: Judge + Drop> KeyState<J> {
 
     /// The key is set up with the value.
     ///
-    /// `Spoiled` says that an earlier edit wanted memory, and the state stays as it is; `OutOfMemory` that the growth of some
+    /// `Spoiled` says that memory was refused to an earlier edit, and the state stays as it is; `OutOfMemory` that the growth of some
     /// memory was refused, and the state is spoiled from then on.
     pub fn set_up(&mut self, value: Value) -> Result<(), KeyFault>
         requires { self.old.spoiled ≡ false → (self.old.present.initial ≡ None) × IsOfHistory (set_up_on value self.old.present) }
@@ -196,7 +197,7 @@ impl<J: Judge + Drop> KeyState<J> {
 
     /// The findings on the key, in order.
     ///
-    /// `Spoiled` says that an earlier edit wanted memory, `OutOfMemory` that the growth of some memory was refused for them. The
+    /// `Spoiled` says that memory was refused to an earlier edit, `OutOfMemory` that the growth of some memory was refused for them. The
     /// state stays as it is.
     pub fn findings(&self) -> Result<Vec<Finding>, KeyFault>
         ensures ok { IfOk result (λ found. found.items ≡ findings_on J.rules self.now.key self.now.present) }
@@ -215,7 +216,7 @@ impl<J: Judge + Drop> KeyState<J> {
         self.findings.judged()
     }
 
-    /// Whether an edit wanted memory. It stays so for good.
+    /// Whether memory was refused to an edit. It stays so for good.
     pub fn is_spoiled(&self) -> bool
         ensures { result ≡ self.now.spoiled }
     {

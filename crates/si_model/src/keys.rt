@@ -1,16 +1,15 @@
-ghost use Rattle.std.specs.Prelude.{◌≡◌, ℕ, ◌<◌, ◌↔◌, ◌%◌, IsTrue, IfOk, fold};
+ghost use Rattle.std.specs.Prelude.{◌≡◌, ℕ, ◌<◌, ◌≤◌, ◌↔◌, ◌%◌, IsTrue, IfOk, List, fold, length, take};
 ghost use Rattle.std.specs.String.{string_bytes};
 ghost use Rattle.si_model.specs.KeyTexts.{IsKeyText, shard_hash, shard_hash_with, shard_number};
-ghost use Rattle.si_model.specs.Keys.{text_bytes};
+ghost use Rattle.si_model.specs.Keys.{IsWhole, IsText, text_bytes, text_hash};
 
 use crate::OutOfMemory;
-use arrayvec::ArrayString;
 use std::alloc::Global;
 use std::cmp::Ordering;
-use std::fmt;
 use std::hash::{Hash, Hasher};
 use std::marker::Model;
 use std::sync::ArcStr;
+use std::{fmt, str};
 
 /// The most bytes that a key may have.
 pub const MOST_KEY_BYTES: usize = 128;
@@ -18,50 +17,116 @@ pub const MOST_KEY_BYTES: usize = 128;
 /// The most bytes of a text that stands in the key itself and takes no memory of its own. Most keys of a test are as short.
 pub const MOST_INLINE_BYTES: usize = 16;
 
-/// The text of a key.
+/// The text of a key, and the hash that picks its shard.
+///
+/// The length and the hash of a short text stand in what its tag leaves free of a word, so that a key takes three words.
 #[derive(Drop)]
 enum Text {
-    Short(ArrayString<MOST_INLINE_BYTES>),
-    Long(ArcStr),
+    /// So many bytes of the array.
+    Short {
+        len: u8,
+        hash: u32,
+        bytes: [u8; MOST_INLINE_BYTES],
+    },
+    Long {
+        hash: u32,
+        text: ArcStr,
+    },
 }
 
 impl Text {
     /// A copy of this text.
     fn new(alloc: Global, text: &str) -> Result<Self, OutOfMemory>
-        ensures { IfOk result (λ made. text_bytes made ≡ text.now) }
+        ensures { IfOk result (IsText text.now) }
     {
-        match ArrayString::from(text) {
-            Ok(short) => Ok(Text::Short(short)),
-            Err(_) => Text::from_string(String::from_str(alloc, text)?),
+        if text.len() <= MOST_INLINE_BYTES {
+            return Ok(Text::short(text));
         }
+        Text::from_string(String::from_str(alloc, text)?)
     }
 
     fn from_string(text: String) -> Result<Self, OutOfMemory>
-        ensures { IfOk result (λ made. text_bytes made ≡ string_bytes text) }
+        ensures { IfOk result (IsText (string_bytes text)) }
     {
-        if let Ok(short) = ArrayString::from(text.as_str()) {
-            return Ok(Text::Short(short));
+        if text.len() <= MOST_INLINE_BYTES {
+            return Ok(Text::short(text.as_str()));
         }
-        Ok(Text::Long(ArcStr::from_string(text)?))
+        let hash = hash_of(text.as_bytes());
+        Ok(Text::Long {
+            hash,
+            text: ArcStr::from_string(text)?,
+        })
+    }
+
+    fn short(text: &str) -> Self
+        requires { length text.now ≤ MOST_INLINE_BYTES }
+        ensures { IsText text.now result }
+    {
+        let bytes = text.as_bytes();
+        Text::Short {
+            len: bytes.len() as u8,
+            hash: hash_of(bytes),
+            bytes: padded(bytes),
+        }
     }
 
     fn try_clone(&self) -> Result<Self, OutOfMemory>
-        ensures { IfOk result (λ copy. text_bytes copy ≡ text_bytes self.now) }
+        ensures { IfOk result (λ copy. (xs : List ℕ) → IsText xs self.now → IsText xs copy) }
+    {
+        let hash = self.hash();
+        match self {
+            Text::Short { len, bytes, .. } => Ok(Text::Short {
+                len: *len,
+                hash,
+                bytes: *bytes,
+            }),
+            Text::Long { text, .. } => Ok(Text::Long {
+                hash,
+                text: text.clone()?,
+            }),
+        }
+    }
+
+    fn as_bytes(&self) -> &[u8]
+        requires { IsWhole self.now }
+        ensures { result.now ≡ text_bytes self.now }
     {
         match self {
-            Text::Short(short) => Ok(Text::Short(*short)),
-            Text::Long(long) => Ok(Text::Long(long.clone()?)),
+            Text::Short { len, bytes, .. } => &bytes[..*len as usize],
+            Text::Long { text, .. } => text.as_str().as_bytes(),
         }
     }
 
     fn as_str(&self) -> &str
+        requires { IsWhole self.now }
         ensures { result.now ≡ text_bytes self.now }
     {
         match self {
-            Text::Short(short) => short.as_str(),
-            Text::Long(long) => long.as_str(),
+            Text::Short { len, bytes, .. } => match str::from_utf8(&bytes[..*len as usize]) {
+                Ok(text) => text,
+                Err(_) => unreachable!(),
+            },
+            Text::Long { text, .. } => text.as_str(),
         }
     }
+
+    fn hash(&self) -> u32
+        ensures { result ≡ text_hash self.now }
+    {
+        match self {
+            Text::Short { hash, .. } | Text::Long { hash, .. } => *hash,
+        }
+    }
+}
+
+/// The bytes, and zeros behind them.
+fn padded(bytes: &[u8]) -> [u8; MOST_INLINE_BYTES]
+    requires { length bytes.now ≤ MOST_INLINE_BYTES }
+    ensures { take (length bytes.now) result ≡ bytes.now }
+{
+    let mut padded = [0; MOST_INLINE_BYTES];
+    padded[..bytes.len()].copy_from_slice(bytes);
+    padded
 }
 
 /// A key: text of 1 to 128 bytes, which contracts see as the list of its bytes.
@@ -70,19 +135,18 @@ impl Text {
 #[derive(Drop)]
 pub struct Key {
     text: Text,
-    hash: u32,
 }
 
 impl Model for Key {
     ghost use Rattle.std.specs.Prelude.{◌≡◌, ℕ, List};
-    ghost use Rattle.si_model.specs.KeyTexts.{IsKeyText, shard_hash};
-    ghost use Rattle.si_model.specs.Keys.{text_bytes};
+    ghost use Rattle.si_model.specs.KeyTexts.{IsKeyText};
+    ghost use Rattle.si_model.specs.Keys.{IsText, text_bytes};
 
     ghost Value = { List ℕ };
 
     ghost view = { λ k. text_bytes k.text };
 
-    ghost invariant = { λ k. IsKeyText (text_bytes k.text) × (k.hash ≡ shard_hash (text_bytes k.text)) };
+    ghost invariant = { λ k. IsKeyText (text_bytes k.text) × IsText (text_bytes k.text) k.text };
 }
 
 impl Key {
@@ -100,7 +164,6 @@ impl Key {
     {
         Ok(Key {
             text: Text::new(alloc, text)?,
-            hash: hash_of(text.as_bytes()),
         })
     }
 
@@ -109,10 +172,8 @@ impl Key {
         requires { IsKeyText (string_bytes text) }
         ensures { IfOk result (λ key. key ≡ string_bytes text) }
     {
-        let hash = hash_of(text.as_bytes());
         Ok(Key {
             text: Text::from_string(text)?,
-            hash,
         })
     }
 
@@ -122,7 +183,6 @@ impl Key {
     {
         Ok(Key {
             text: self.text.try_clone()?,
-            hash: self.hash,
         })
     }
 
@@ -137,7 +197,7 @@ impl Key {
     pub fn shard_hash(&self) -> u32
         ensures { result ≡ shard_hash self.now }
     {
-        self.hash
+        self.text.hash()
     }
 }
 
@@ -173,7 +233,7 @@ impl PartialEq for Key {
     ghost laws = { Cmp.partial_equiv_from_equiv nat_list_eq_equiv };
 
     fn eq(&self, other: &Self) -> bool {
-        self.as_str() == other.as_str()
+        self.text.as_bytes() == other.text.as_bytes()
     }
 }
 
@@ -212,21 +272,22 @@ impl Ord for Key {
     ghost matches_eq = { texts_ties };
 
     fn cmp(&self, other: &Self) -> Ordering {
-        self.as_str().cmp(other.as_str())
+        self.text.as_bytes().cmp(other.text.as_bytes())
     }
 }
 
 impl Hash for Key {
+    ghost use Rattle.std.specs.Prelude.{[], ◌∷◌};
     ghost use Rattle.std.proofs.Common.{rules};
-    ghost use Rattle.std.specs.Hash as fed;
     ghost use Rattle.std.specs.Cmp.Rules.{hashing};
 
-    ghost hash_input = { fed.str };
+    ghost hash_input = { λ k. k ∷ [] };
 
     ghost respects_eq = { Prim.search (hashing, rules) };
 
     fn hash<H: Hasher>(&self, state: &mut H) {
-        self.as_str().hash(state);
+        // (one write, as a key's hash is fed nothing besides it)
+        state.write(self.text.as_bytes());
     }
 }
 

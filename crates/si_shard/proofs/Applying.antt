@@ -1,5 +1,5 @@
 -- One more edit gathered.
-use Rattle.std.proofs.Common.{◌≡◌, ◌≤◌, ◌+◌, ◌∙◌, inl, inr, ℕ, Bool, true, false, nat_eq, List, [], ◌∷◌, ◌++◌, length, refl, sym, ap, subst, Option, Some, arith}
+use Rattle.std.proofs.Common.{◌≡◌, ◌↔◌, ◌≤◌, ◌+◌, ◌∙◌, inl, inr, ℕ, Bool, true, false, nat_eq, List, [], ◌∷◌, ◌++◌, length, refl, sym, ap, subst, Option, Some, arith}
 use Rattle.std.specs.HashMap.{HashMap, get}
 use Rattle.std.proofs.lemmas.List.{length-append}
 use Rattle.si_lists.proofs.Members.{same_some}
@@ -7,7 +7,7 @@ use Rattle.si_model.specs.declared.parts.OnKey.{OnKey}
 use Rattle.si_model.specs.declared.edits.Edit.{Edit}
 use Rattle.si_model.specs.declared.edits.Edit.TheVariants as edit
 use Rattle.si_model.specs.Operations.{same_key}
-use Rattle.si_model.specs.Parts.{Present, accesses, on_key}
+use Rattle.si_model.specs.Parts.{Present, on_key}
 use Rattle.si_model.specs.Edits.{IsAcceptable, after}
 use Rattle.si_model.specs.Journals.{IsAccepted, present}
 use Rattle.si_model.proofs.Acceptance.{accepted_push, present_push}
@@ -18,41 +18,41 @@ use Rattle.si_shard.specs.declared.applied.Arrival.{Arrival}
 use Rattle.si_shard.specs.declared.changes.Change.{Change}
 use Rattle.si_shard.specs.declared.waiting.Waits.{Waits}
 use Rattle.si_shard.specs.ShardIds.{is_ours}
-use Rattle.si_shard.specs.Applied.{AreArrivals, IsChangeOn, SetsArrival, TouchesShard, change_by, head_for, ops_for}
+use Rattle.si_shard.specs.Applied.{AreArrivals, IsChangeOn, SetsArrival, head_for, ops_for}
 use Rattle.si_shard.specs.Changes.{LeadsTo}
+use Rattle.si_shard.specs.Keeping.{Concerns, IsTaken}
 use Rattle.si_shard.specs.Keyed.{IsOn}
-use Rattle.si_shard.specs.Waiting.{AreGatheredTo, IsGathered, IsNothing, changes_in, waiting_at}
+use Rattle.si_shard.specs.Waiting.{AreGatheredTo, IsGathered, IsTold, changes_in, waiting_at}
 use Rattle.si_shard.proofs.ArrivalPlaces.{after_arrival, after_resolution, after_set_up, after_withdrawal}
+use Rattle.si_shard.proofs.Concerning.{arrivals_stay, told_concerns}
 use Rattle.si_shard.proofs.KeyChanges.{can_change, change_or_not, follows_change, stays}
 use Rattle.si_shard.proofs.Leading.{leads_on}
 
 -- the arrivals after one more edit
 module _ (id : ShardId) (edits : List Edit) (e : Edit) (old : Applied) (arrivals : AreArrivals id edits (present edits).txns (get nat_eq old.arrivals)) (new : Applied) (touches : Bool)
-    (quiet : touches ≡ false → IsNothing id (ops_for (get nat_eq old.arrivals) edits e) (head_for (get nat_eq old.arrivals) edits e) e)
+    (told : (touches ≡ true) ↔ Concerns id (present edits) e)
     (sets : SetsArrival e touches (length edits) (get nat_eq old.arrivals) (get nat_eq new.arrivals)) where
-  arrivals_by : (f : Edit) → f ≡ e → (touches ≡ false → IsNothing id (ops_for (get nat_eq old.arrivals) edits f) (head_for (get nat_eq old.arrivals) edits f) f)
-      → SetsArrival f touches (length edits) (get nat_eq old.arrivals) (get nat_eq new.arrivals) → AreArrivals id (edits ++ f ∷ []) (after f (present edits)).txns (get nat_eq new.arrivals)
+  arrivals_by : (f : Edit) → (touches ≡ true) ↔ Concerns id (present edits) f → SetsArrival f touches (length edits) (get nat_eq old.arrivals) (get nat_eq new.arrivals) → AreArrivals id (edits ++ f ∷ []) (after f (present edits)).txns (get nat_eq new.arrivals)
   unfolding after
-  arrivals_by (edit.Arrive T) is quiet sets = after_arrival id edits (present edits).txns (get nat_eq old.arrivals) (get nat_eq new.arrivals) arrivals T touches (told touches refl) sets
-    where
-      told : (b : Bool) → touches ≡ b → TouchesShard id T → touches ≡ true
-      told true s t = s
-      told false s (x, a, ours, c) = absurd (quiet s x (change_by (head_for (get nat_eq old.arrivals) edits (edit.Arrive T)) (edit.Arrive T) (accesses x T.ops)) ours (a, c, refl))
-  arrivals_by (edit.Resolve u o) is quiet sets = after_resolution id edits (present edits).txns (get nat_eq old.arrivals) (get nat_eq new.arrivals) arrivals u o touches sets
-  arrivals_by (edit.Withdraw u) is quiet sets = after_withdrawal id edits (present edits).txns (get nat_eq old.arrivals) (get nat_eq new.arrivals) arrivals u touches sets
-  arrivals_by (edit.SetUp x v) is quiet sets = after_set_up id edits (present edits).txns (get nat_eq old.arrivals) (get nat_eq new.arrivals) arrivals x v touches sets
+  arrivals_by (edit.Arrive T) told sets = after_arrival id edits (present edits).txns (get nat_eq old.arrivals) (get nat_eq new.arrivals) arrivals T touches told sets
+  arrivals_by (edit.Resolve u o) told sets = after_resolution id edits (present edits).txns (get nat_eq old.arrivals) (get nat_eq new.arrivals) arrivals u o touches sets
+  arrivals_by (edit.Withdraw u) told sets = after_withdrawal id edits (present edits).txns (get nat_eq old.arrivals) (get nat_eq new.arrivals) arrivals u touches sets
+  arrivals_by (edit.SetUp x v) told sets = after_set_up id edits (present edits).txns (get nat_eq old.arrivals) (get nat_eq new.arrivals) arrivals x v touches sets
 
   pub arrivals_next : AreArrivals id (edits ++ e ∷ []) (present (edits ++ e ∷ [])).txns (get nat_eq new.arrivals)
-  arrivals_next = subst (λ P. AreArrivals id (edits ++ e ∷ []) P.txns (get nat_eq new.arrivals)) (sym (present_push edits e)) (arrivals_by e refl quiet sets)
+  arrivals_next = subst (λ P. AreArrivals id (edits ++ e ∷ []) P.txns (get nat_eq new.arrivals)) (sym (present_push edits e)) (arrivals_by e told sets)
 
 module _ {S : Type 0} (id : ShardId) (edits : List Edit) (e : Edit) (old : Applied) (lists : HashMap (List ℕ) Waits S) (sound : AreGatheredTo id edits old lists)
-    (accepted : IsAccepted (edits ++ e ∷ [])) where
-  module _ (new : Applied) (touches : Bool) (quiet : touches ≡ false → IsNothing id (ops_for (get nat_eq old.arrivals) edits e) (head_for (get nat_eq old.arrivals) edits e) e) (keys : new.keys ≡ old.keys)
-      (more : HashMap (List ℕ) Waits S) (adds : IsGathered id (ops_for (get nat_eq old.arrivals) edits e) (head_for (get nat_eq old.arrivals) edits e) e (length edits) lists more)
-      (sets : SetsArrival e touches (length edits) (get nat_eq old.arrivals) (get nat_eq new.arrivals)) where
-    abbrev at : ℕ → Option Arrival
-    at = get nat_eq old.arrivals
+    (new : Applied) (touches : Bool) (tells : IsTold id (ops_for (get nat_eq old.arrivals) edits e) (head_for (get nat_eq old.arrivals) edits e) e touches) (keys : new.keys ≡ old.keys)
+    (more : HashMap (List ℕ) Waits S) (adds : IsGathered id (ops_for (get nat_eq old.arrivals) edits e) (head_for (get nat_eq old.arrivals) edits e) e (length edits) lists more)
+    (sets : SetsArrival e touches (length edits) (get nat_eq old.arrivals) (get nat_eq new.arrivals)) where
+  abbrev at : ℕ → Option Arrival
+  at = get nat_eq old.arrivals
 
+  told : (touches ≡ true) ↔ Concerns id (present edits) e
+  told = told_concerns id edits at sound.arrivals e touches tells
+
+  module _ (accepted : IsAccepted (edits ++ e ∷ [])) where
     both : IsAccepted edits × IsAcceptable (present edits) e
     both = (accepted_push edits e).0 accepted
 
@@ -98,7 +98,7 @@ module _ {S : Type 0} (id : ShardId) (edits : List Edit) (e : Edit) (old : Appli
           | inr none ↦ older (adds.others x (λ o. none))
         ]
 
-    pub gathered_next : AreGatheredTo id (edits ++ e ∷ []) new more
+    gathered_next : AreGatheredTo id (edits ++ e ∷ []) new more
     gathered_next =
         let now = sym (present_push edits e) in
         record {
@@ -110,5 +110,22 @@ module _ {S : Type 0} (id : ShardId) (edits : List Edit) (e : Edit) (old : Appli
             adds.others x (λ o. (let no : true ≡ false = sym o ∙ other in cc)) ∙ (sound.others x other).1,
           );
           before = λ x list f. (let long : length (edits ++ e ∷ []) ≡ length edits + 1 = length-append edits (e ∷ []) in let near = soon x list f in omega arith);
-          arrivals = arrivals_next id edits e old sound.arrivals new touches quiet sets;
+          arrivals = arrivals_next id edits e old sound.arrivals new touches told sets;
         }
+
+  -- where it is nothing on the keys nothing more waits
+  gathered_still : touches ≡ false → AreGatheredTo id edits new more
+  gathered_still quiet = record {
+    ours = λ x ours.
+        (let was = sound.ours x ours in
+        (was.0, subst (λ ks. IsOn ks x was.0) (sym keys) was.1, subst (λ o. LeadsTo (changes_in o) was.0 (on_key x (present edits))) (sym (same x)) was.2));
+    others = λ x other. (subst (λ ks. IsOn ks x empty_key) (sym keys) (sound.others x other).0, same x ∙ (sound.others x other).1);
+    before = λ x list f. sound.before x list (sym (same x) ∙ f);
+    arrivals = arrivals_stay id edits at sound.arrivals e touches (length edits) (get nat_eq new.arrivals) told quiet sets;
+  }
+    where
+      same : (x : List ℕ) → get same_key more x ≡ get same_key lists x
+      same x = adds.others x (λ o c k. tells.nothing quiet x c o k)
+
+  pub gathered_taken : IsTaken id edits e touches (λ l. AreGatheredTo id l new more)
+  gathered_taken = record { told = told; next = gathered_next; same = gathered_still }

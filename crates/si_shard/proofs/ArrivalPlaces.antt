@@ -1,5 +1,5 @@
 -- The arrivals of transactions, kept through one more edit.
-use Rattle.std.proofs.Common.{◌≡◌, ◌∙◌, inl, inr, ℕ, zero, suc, Bool, true, false, cond, not, nat_eq, List, [], ◌∷◌, ◌++◌, map, length, Option, Some, None, refl, sym, ap, subst, eqb-true, eq-eqb, slice_get}
+use Rattle.std.proofs.Common.{◌≡◌, ◌↔◌, ◌∙◌, inl, inr, ℕ, zero, suc, Bool, true, false, cond, not, nat_eq, List, [], ◌∷◌, ◌++◌, map, length, Option, Some, None, refl, sym, ap, subst, eqb-true, eq-eqb, slice_get}
 use Rattle.std.specs.List.{Contains, filter}
 use Rattle.std.specs.Option.{option_map}
 use Rattle.si_lists.proofs.Members.{Contains-filter, Contains-from_filter, Contains-from_map, Contains-map, same_some}
@@ -34,7 +34,7 @@ resolved_id u o T = by (same_id T.id u)
     by true = refl
     by false = refl
 
-resolved_ops : (u : TxnId) (o : Outcome) (T : Txn) → (resolved u o T).ops ≡ T.ops
+pub resolved_ops : (u : TxnId) (o : Outcome) (T : Txn) → (resolved u o T).ops ≡ T.ops
 resolved_ops u o T = by (same_id T.id u)
   where
     by : (b : Bool) → (cond b (record T { status = status_after o }) T).ops ≡ T.ops
@@ -65,18 +65,18 @@ module _ (id : ShardId) (edits : List Edit) (txns : List Txn) (at new : ℕ → 
   abbrev mine : Txn → Arrival
   mine T = record { place = length edits; status = T.status }
 
-  pub after_arrival : (T : Txn) (touches : Bool) → (TouchesShard id T → touches ≡ true) → SetsArrival (edit.Arrive T) touches (length edits) at new
+  pub after_arrival : (T : Txn) (touches : Bool) → (touches ≡ true) ↔ TouchesShard id T → SetsArrival (edit.Arrive T) touches (length edits) at new
       → AreArrivals id (edits ++ edit.Arrive T ∷ []) (txns ++ T ∷ []) new
   after_arrival T touches told sets = record {
     had = λ X c t. elim (push_cases txns T X c) [
       | inl o ↦ (let k = sound.had X o t in let s = kept X.id.0 k.0 k.1 touches (nat_eq T.id.0 X.id.0) in (s.0, sets X.id.0 ∙ s.1))
       | inr e ↦ (
         mine T,
-        sets X.id.0 ∙ ap (λ b. cond b (cond (nat_eq T.id.0 X.id.0) (Some (mine T)) (at X.id.0)) (at X.id.0)) (told (subst (TouchesShard id) (sym e) t))
+        sets X.id.0 ∙ ap (λ b. cond b (cond (nat_eq T.id.0 X.id.0) (Some (mine T)) (at X.id.0)) (at X.id.0)) (told.1 (subst (TouchesShard id) (sym e) t))
             ∙ ap (λ b. cond b (Some (mine T)) (at X.id.0)) (eq-eqb T.id.0 X.id.0 (ap (λ (Y : Txn). Y.id.0) e)),
       )
     ];
-    right = λ n i e. found n i touches (nat_eq T.id.0 n) refl (sym (sets n) ∙ e);
+    right = λ n i e. found n i touches (nat_eq T.id.0 n) refl refl (sym (sets n) ∙ e);
   }
     where
       kept : (n : ℕ) (j : Arrival) → at n ≡ Some j → (b d : Bool) → (k : Arrival) × (cond b (cond d (Some (mine T)) (at n)) (at n) ≡ Some k)
@@ -84,17 +84,18 @@ module _ (id : ShardId) (edits : List Edit) (txns : List Txn) (at new : ℕ → 
       kept n j e true true = (mine T, refl)
       kept n j e true false = (j, e)
 
-      older : (n : ℕ) (i : Arrival) → at n ≡ Some i → (X : Txn) × Contains (txns ++ T ∷ []) X × (X.id.0 ≡ n) × IsArrivalOf (edits ++ edit.Arrive T ∷ []) i X
-      older n i e = (let r = sound.right n i e in (r.0, push_keeps txns T r.0 r.1, r.2, later (edit.Arrive T) i r.0 r.3))
+      older : (n : ℕ) (i : Arrival) → at n ≡ Some i → (X : Txn) × Contains (txns ++ T ∷ []) X × (X.id.0 ≡ n) × TouchesShard id X × IsArrivalOf (edits ++ edit.Arrive T ∷ []) i X
+      older n i e = (let r = sound.right n i e in (r.0, push_keeps txns T r.0 r.1, r.2, r.3, later (edit.Arrive T) i r.0 r.4))
 
-      found : (n : ℕ) (i : Arrival) (b d : Bool) → nat_eq T.id.0 n ≡ d → cond b (cond d (Some (mine T)) (at n)) (at n) ≡ Some i
-          → (X : Txn) × Contains (txns ++ T ∷ []) X × (X.id.0 ≡ n) × IsArrivalOf (edits ++ edit.Arrive T ∷ []) i X
-      found n i false d s e = older n i e
-      found n i true false s e = older n i e
-      found n i true true s e = (
+      found : (n : ℕ) (i : Arrival) (b d : Bool) → touches ≡ b → nat_eq T.id.0 n ≡ d → cond b (cond d (Some (mine T)) (at n)) (at n) ≡ Some i
+          → (X : Txn) × Contains (txns ++ T ∷ []) X × (X.id.0 ≡ n) × TouchesShard id X × IsArrivalOf (edits ++ edit.Arrive T ∷ []) i X
+      found n i false d t s e = older n i e
+      found n i true false t s e = older n i e
+      found n i true true t s e = (
         T,
         push_last txns T,
         eqb-true T.id.0 n s,
+        told.0 t,
         subst (λ k. IsArrivalOf (edits ++ edit.Arrive T ∷ []) k T) (same_some e) (record { arrived = T; at = last_at edits (edit.Arrive T); id = refl; start = refl; ops = refl; status = refl }),
       )
 
@@ -116,13 +117,14 @@ module _ (id : ShardId) (edits : List Edit) (txns : List Txn) (at new : ℕ → 
 
       -- its transaction, resolved, with that status
       moved : (n : ℕ) (i j : Arrival) → at n ≡ Some i → j.place ≡ i.place → ((T : Txn) → T.id.0 ≡ n → i.status ≡ T.status → j.status ≡ (resolved u o T).status)
-          → (X : Txn) × Contains (map (resolved u o) txns) X × (X.id.0 ≡ n) × IsArrivalOf (edits ++ edit.Resolve u o ∷ []) j X
+          → (X : Txn) × Contains (map (resolved u o) txns) X × (X.id.0 ≡ n) × TouchesShard id X × IsArrivalOf (edits ++ edit.Resolve u o ∷ []) j X
       moved n i j e place status =
           let r = sound.right n i e in
-          let a = later (edit.Resolve u o) i r.0 r.3 in (
+          let a = later (edit.Resolve u o) i r.0 r.4 in (
             resolved u o r.0,
             Contains-map (resolved u o) txns r.0 r.1,
             ap (λ w. w.0) (resolved_id u o r.0) ∙ r.2,
+            touches_by id r.0 (resolved u o r.0) (sym (resolved_ops u o r.0)) r.3,
             record {
               arrived = a.arrived;
               at = ap (slice_get (edits ++ edit.Resolve u o ∷ [])) place ∙ a.at;
@@ -134,10 +136,10 @@ module _ (id : ShardId) (edits : List Edit) (txns : List Txn) (at new : ℕ → 
           )
 
       found : (n : ℕ) (j : Arrival) (b : Bool) → nat_eq u.0 n ≡ b → cond b (option_map (resolved_arrival o) (at n)) (at n) ≡ Some j
-          → (X : Txn) × Contains (map (resolved u o) txns) X × (X.id.0 ≡ n) × IsArrivalOf (edits ++ edit.Resolve u o ∷ []) j X
+          → (X : Txn) × Contains (map (resolved u o) txns) X × (X.id.0 ≡ n) × TouchesShard id X × IsArrivalOf (edits ++ edit.Resolve u o ∷ []) j X
       found n j true s e = by (at n) refl e
         where
-          by : (p : Option Arrival) → at n ≡ p → option_map (resolved_arrival o) p ≡ Some j → (X : Txn) × Contains (map (resolved u o) txns) X × (X.id.0 ≡ n) × IsArrivalOf (edits ++ edit.Resolve u o ∷ []) j X
+          by : (p : Option Arrival) → at n ≡ p → option_map (resolved_arrival o) p ≡ Some j → (X : Txn) × Contains (map (resolved u o) txns) X × (X.id.0 ≡ n) × TouchesShard id X × IsArrivalOf (edits ++ edit.Resolve u o ∷ []) j X
           by None f e = cc
           by (Some i) f e = moved n i j f (ap (λ (a : Arrival). a.place) (sym (same_some e))) (λ T is was. ap (λ (a : Arrival). a.status) (sym (same_some e))
               ∙ sym (status_there u o T (eq-eqb T.id.0 u.0 (is ∙ sym (eqb-true u.0 n s)))))
@@ -166,14 +168,14 @@ module _ (id : ShardId) (edits : List Edit) (txns : List Txn) (at new : ℕ → 
       another X n is other false s = ap not s
 
       found : (n : ℕ) (i : Arrival) (b : Bool) → nat_eq u.0 n ≡ b → cond b None (at n) ≡ Some i
-          → (X : Txn) × Contains (filter (is_another u) txns) X × (X.id.0 ≡ n) × IsArrivalOf (edits ++ edit.Withdraw u ∷ []) i X
+          → (X : Txn) × Contains (filter (is_another u) txns) X × (X.id.0 ≡ n) × TouchesShard id X × IsArrivalOf (edits ++ edit.Withdraw u ∷ []) i X
       found n i true s e = cc
       found n i false s e =
           let r = sound.right n i e in
-          (r.0, Contains-filter (is_another u) txns r.0 r.1 (another r.0 n r.2 s (same_id r.0.id u) refl), r.2, later (edit.Withdraw u) i r.0 r.3)
+          (r.0, Contains-filter (is_another u) txns r.0 r.1 (another r.0 n r.2 s (same_id r.0.id u) refl), r.2, r.3, later (edit.Withdraw u) i r.0 r.4)
 
   pub after_set_up : (x : List ℕ) (v : Value) (touches : Bool) → SetsArrival (edit.SetUp x v) touches (length edits) at new → AreArrivals id (edits ++ edit.SetUp x v ∷ []) txns new
   after_set_up x v touches sets = record {
     had = λ X c t. (let k = sound.had X c t in (k.0, sets X.id.0 ∙ k.1));
-    right = λ n i e. (let r = sound.right n i (sym (sets n) ∙ e) in (r.0, r.1, r.2, later (edit.SetUp x v) i r.0 r.3));
+    right = λ n i e. (let r = sound.right n i (sym (sets n) ∙ e) in (r.0, r.1, r.2, r.3, later (edit.SetUp x v) i r.0 r.4));
   }

@@ -9,6 +9,7 @@ use Rattle.si_model.proofs.Acceptance.{accepted_begins}
 use Rattle.si_shard.specs.declared.shard_ids.ShardId.{ShardId}
 use Rattle.si_shard.specs.declared.applied.Applied.{Applied}
 use Rattle.si_shard.specs.Applied.{AreApplied}
+use Rattle.si_shard.specs.Keeping.{AreKept}
 use Rattle.si_shard.specs.Shards.{IsShard}
 
 -- the empty journal is accepted
@@ -19,13 +20,19 @@ none_accepted before e rest is = by before is
     by [] f = cc
     by (x ∷ xs) f = cc
 
--- a beginning with one more edit is accepted
-pub begins_accepted : (edits : List Edit) (i : ℕ) (e : Edit) → i < length edits → e ≡ slice_index_or edits i e → IsAccepted edits → IsAccepted (take i edits ++ e ∷ [])
-begins_accepted edits i e within is accepted =
+-- a beginning with one more edit is accepted, after edits that were stored before
+pub begins_after : (stored edits : List Edit) (i : ℕ) (e : Edit) → i < length edits → e ≡ slice_index_or edits i e → IsAccepted (stored ++ edits) → IsAccepted ((stored ++ take i edits) ++ e ∷ [])
+begins_after stored edits i e within is accepted =
     let one : suc i ≡ i + 1 = omega arith in
     let cons : drop i edits ≡ e ∷ drop (i + 1) edits = drop-cons edits i e within ∙ ap (λ n. slice_index_or edits i e ∷ drop n edits) one ∙ ap (λ f. f ∷ drop (i + 1) edits) (sym is) in
-    let whole : (take i edits ++ e ∷ []) ++ drop (i + 1) edits ≡ edits = append_assoc (take i edits) (e ∷ []) (drop (i + 1) edits) ∙ ap (λ l. take i edits ++ l) (sym cons) ∙ take-append-drop i edits in
-    accepted_begins (take i edits ++ e ∷ []) (drop (i + 1) edits) (subst IsAccepted (sym whole) accepted)
+    let whole : ((stored ++ take i edits) ++ e ∷ []) ++ drop (i + 1) edits ≡ stored ++ edits =
+    append_assoc (stored ++ take i edits) (e ∷ []) (drop (i + 1) edits) ∙ append_assoc stored (take i edits) (e ∷ drop (i + 1) edits)
+    ∙ ap (λ l. stored ++ l) (ap (λ l. take i edits ++ l) (sym cons) ∙ take-append-drop i edits) in
+    accepted_begins ((stored ++ take i edits) ++ e ∷ []) (drop (i + 1) edits) (subst IsAccepted (sym whole) accepted)
+
+-- and with none before
+pub begins_accepted : (edits : List Edit) (i : ℕ) (e : Edit) → i < length edits → e ≡ slice_index_or edits i e → IsAccepted edits → IsAccepted (take i edits ++ e ∷ [])
+begins_accepted edits i e within is accepted = begins_after [] edits i e within is accepted
 
 -- a beginning with one more edit is the next one
 pub one_more_taken : (edits : List Edit) (i : ℕ) (e : Edit) → i < length edits → e ≡ slice_index_or edits i e → take i edits ++ e ∷ [] ≡ take (i + 1) edits
@@ -39,6 +46,11 @@ all_taken (x ∷ xs) zero le = absurd (omega arith)
 all_taken (x ∷ xs) (suc n) le = ap (λ l. x ∷ l) (all_taken xs n (omega arith))
 
 -- a shard that has stored no edit
-pub new_shard : (id : ShardId) (stored : List Edit) (a : Applied) → id.shard < id.shards → stored ≡ [] → ((s : ShardId) → AreApplied s [] a) → IsShard id stored a false
-new_shard id stored a within is applied =
-    subst (λ edits. IsShard id edits a false) (sym is) (record { within = within; accepted = none_accepted; whole = λ e. applied id })
+nothing_kept : (id : ShardId) → AreKept id [] []
+unfolding present
+nothing_kept id = record { accepted = none_accepted; leave = refl }
+
+pub new_shard : (id : ShardId) (stored kept : List Edit) (a : Applied) → id.shard < id.shards → stored ≡ [] → kept ≡ [] → ((s : ShardId) → AreApplied s [] a) → IsShard id stored kept a false
+new_shard id stored kept a within is are applied =
+    subst (λ edits. IsShard id edits kept a false) (sym is)
+    (subst (λ edits. IsShard id [] edits a false) (sym are) (record { within = within; accepted = none_accepted; keeps = nothing_kept id; whole = λ e. applied id }))

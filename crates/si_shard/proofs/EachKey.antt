@@ -1,5 +1,5 @@
 -- What an edit is on the keys of a shard, made on each of them by itself.
-use Rattle.std.proofs.Common.{◌≡◌, ◌≢◌, ◌⊎◌, ◌∙◌, ◌<◌, ◌≤◌, inl, inr, ℕ, suc, ◌+◌, ◌-◌, drop, take, Bool, true, false, cond, List, [], ◌∷◌, ◌++◌, length, Some, None, refl, sym, ap, subst, arith, slice_index_or, IfOk, Ok, Err}
+use Rattle.std.proofs.Common.{◌≡◌, ◌≢◌, ◌⊎◌, ◌∙◌, ◌<◌, ◌≤◌, inl, inr, ℕ, suc, ◌+◌, ◌-◌, drop, take, Bool, true, false, cond, List, [], ◌∷◌, length, Some, None, refl, sym, ap, subst, arith, slice_index_or, IfOk, Ok, Err}
 use Rattle.std.proofs.Math.Dec.{ltb}
 use Rattle.std.proofs.lemmas.Bool.{ltb-false, ltb-true}
 use Rattle.std.proofs.lemmas.List.{get_or-drop, get_or_default, length-drop, take_all}
@@ -25,8 +25,8 @@ use Rattle.si_shard.specs.Changes.{LeadsTo}
 use Rattle.si_shard.specs.Keyed.{IsChangedAt, IsMadeAt, IsOn, StaysAt}
 use Rattle.si_shard.specs.ShardIds.{is_ours}
 use Rattle.si_shard.specs.Straight.{AreApart, CanBeMadeBy, IsMadeBy}
-use Rattle.si_shard.specs.Waiting.{IsNothing}
-use Rattle.si_shard.proofs.Gathering.{from_on}
+use Rattle.si_shard.specs.Waiting.{IsTold}
+use Rattle.si_shard.proofs.Gathering.{IsAccessed, from_on}
 
 -- ---- operations that are apart access a key at most once
 
@@ -88,10 +88,11 @@ pub record AreMade (id : ShardId) (ops : List Op) (h : Head) (e : Edit) (i : ℕ
       ⊎ ((from_on x i left ≡ []) × ((a : Placed) × Contains (accesses x ops) a) × IsMadeAt x (change_by h e (accesses x ops) ∷ []) old new)
   pub others : (x : List ℕ) → is_ours id x ≡ false → StaysAt x old new
   pub quiet : touches ≡ false → (x : List ℕ) → is_ours id x ≡ true → from_on x i left ≡ accesses x ops
+  pub loud : touches ≡ true → IsAccessed id ops
 
 -- at the beginning
 pub none_made : (id : ShardId) (ops : List Op) (h : Head) (e : Edit) (keys : KeyStates) → AreMade id ops h e 0 ops false keys keys
-none_made id ops h e keys = record { ours = λ x o. inl (refl, (λ Q on. on)); others = λ x o Q on. on; quiet = λ q x o. refl }
+none_made id ops h e keys = record { ours = λ x o. inl (refl, (λ Q on. on)); others = λ x o Q on. on; quiet = λ q x o. refl; loud = λ q. cc }
 
 module _ (id : ShardId) (ops : List Op) (h : Head) (e : Edit) (i : ℕ) (p : Op) (left : List Op) (old mid : KeyStates) where
   abbrev a : Placed
@@ -113,6 +114,7 @@ module _ (id : ShardId) (ops : List Op) (h : Head) (e : Edit) (i : ℕ) (p : Op)
     ]);
     others = w.others;
     quiet = λ q x o. sym (past x (not_same other x o (same_key (key_of p) x) refl)) ∙ w.quiet q x o;
+    loud = w.loud;
   }
 
   module _ (touches : Bool) (ours : is_ours id (key_of p) ≡ true) (apart : AreApart ops) (w : AreMade id ops h e i (p ∷ left) touches old mid) where
@@ -143,6 +145,7 @@ module _ (id : ShardId) (ops : List Op) (h : Head) (e : Edit) (i : ℕ) (p : Op)
       ours = λ x o. here_or x o (same_key (key_of p) x) refl;
       others = λ x o Q on. changed.others x (λ f. (let no : false ≡ true = sym o ∙ ap (is_ours id) f ∙ ours in cc)) Q (w.others x o Q on);
       quiet = λ q. cc;
+      loud = λ q. (key_of p, a, ours, subst (λ l. Contains l a) fresh.0 (here a []));
     }
       where
         at_key : Here new (key_of p)
@@ -183,6 +186,9 @@ module _ (id : ShardId) (ops : List Op) (h : Head) (e : Edit) (i : ℕ) (touches
   nothing : touches ≡ false → (x : List ℕ) (c : Change) → is_ours id x ≡ true → IsAccessChange ops h e x c → ⊥
   nothing q x c o (a, there, is) = Contains-nil a (subst (λ l. Contains l a) (sym (w.quiet q x o)) there)
 
+  something : touches ≡ true → (x : List ℕ) × (c : Change) × (is_ours id x ≡ true) × IsAccessChange ops h e x c
+  something q = (let k = w.loud q in (k.0, change_by h e (accesses k.0 ops), k.2, (k.1, k.3, refl)))
+
 -- all was made of an edit that sets no key up
 module _ (id : ShardId) (ops : List Op) (h : Head) (i : ℕ) (touches : Bool) (old new : KeyStates) where
   pub made_all : (e : Edit) → ((x : List ℕ) (v : Value) → e ≡ edit.SetUp x v → ⊥) → AreMade id ops h e i [] touches old new → IsMadeBy id ops h e old new
@@ -191,11 +197,11 @@ module _ (id : ShardId) (ops : List Op) (h : Head) (i : ℕ) (touches : Bool) (o
   made_all (edit.Withdraw u) other w = record { changed = changed id ops h (edit.Withdraw u) i touches old new w; others = others id ops h (edit.Withdraw u) i touches old new w }
   made_all (edit.SetUp x v) other w = absurd (other x v refl)
 
-  pub nothing_made : (e : Edit) → ((x : List ℕ) (v : Value) → e ≡ edit.SetUp x v → ⊥) → AreMade id ops h e i [] touches old new → touches ≡ false → IsNothing id ops h e
-  nothing_made (edit.Arrive T) other w q = nothing id ops h (edit.Arrive T) i touches old new w q
-  nothing_made (edit.Resolve u o) other w q = nothing id ops h (edit.Resolve u o) i touches old new w q
-  nothing_made (edit.Withdraw u) other w q = nothing id ops h (edit.Withdraw u) i touches old new w q
-  nothing_made (edit.SetUp x v) other w q = absurd (other x v refl)
+  pub told_made : (e : Edit) → ((x : List ℕ) (v : Value) → e ≡ edit.SetUp x v → ⊥) → AreMade id ops h e i [] touches old new → IsTold id ops h e touches
+  told_made (edit.Arrive T) other w = record { nothing = nothing id ops h (edit.Arrive T) i touches old new w; something = something id ops h (edit.Arrive T) i touches old new w }
+  told_made (edit.Resolve u o) other w = record { nothing = nothing id ops h (edit.Resolve u o) i touches old new w; something = something id ops h (edit.Resolve u o) i touches old new w }
+  told_made (edit.Withdraw u) other w = record { nothing = nothing id ops h (edit.Withdraw u) i touches old new w; something = something id ops h (edit.Withdraw u) i touches old new w }
+  told_made (edit.SetUp x v) other w = absurd (other x v refl)
 
 -- what such an edit is where a key is accessed can be made there
 pub can_access : (id : ShardId) (ops : List Op) (h : Head) (e : Edit) (keys : KeyStates) → ((x : List ℕ) (v : Value) → e ≡ edit.SetUp x v → ⊥) → CanBeMadeBy id ops h e keys → CanBeAccessed id ops h e keys
@@ -212,17 +218,8 @@ set_up_made id ops h y v old new ours changed = record {
   others = λ x none. changed.others x (λ f. none (ap (is_ours id) f ∙ ours) (change.SetUp v) (f, refl));
 }
 
-pub set_up_elsewhere : (id : ShardId) (ops : List Op) (h : Head) (y : List ℕ) (v : Value) (keys : KeyStates) → is_ours id y ≡ false → IsMadeBy id ops h (edit.SetUp y v) keys keys
-set_up_elsewhere id ops h y v keys other = record {
-  changed = λ x c o k. (let no : false ≡ true = sym other ∙ ap (is_ours id) (sym k.0) ∙ o in cc);
-  others = λ x none Q on. on;
-}
-
-pub set_up_is_nothing : (id : ShardId) (ops : List Op) (h : Head) (y : List ℕ) (v : Value) → is_ours id y ≡ false → IsNothing id ops h (edit.SetUp y v)
-set_up_is_nothing id ops h y v other x c o k = (let no : false ≡ true = sym other ∙ ap (is_ours id) (sym k.0) ∙ o in cc)
-
 -- what is so of a set-up, whatever the operations, is so of the edit that is one
 pub as_set_up : {E : Type 0} (r : Result Bool E) (id : ShardId) (ops : List Op) (h : Head) (e : Edit) (y : List ℕ) (v : Value) → e ≡ edit.SetUp y v
-    → IfOk r (λ t. t ≡ false → (ops : List Op) (h : Head) → IsNothing id ops h (edit.SetUp y v)) → IfOk r (λ t. t ≡ false → IsNothing id ops h e)
-as_set_up (Ok t) id ops h e y v is k = λ q. subst (IsNothing id ops h) (sym is) (k q ops h)
+    → IfOk r (λ t. (ops : List Op) (h : Head) → IsTold id ops h (edit.SetUp y v) t) → IfOk r (IsTold id ops h e)
+as_set_up (Ok t) id ops h e y v is k = subst (λ d. IsTold id ops h d t) (sym is) (k ops h)
 as_set_up (Err x) id ops h e y v is k = tt

@@ -3,6 +3,7 @@ use Rattle.std.proofs.Common.{◌≡◌, ◌≢◌, ◌∙◌, ◌<◌, ℕ, ◌
 use Rattle.std.specs.List.{Contains, cons_option, enumerate_from, filter_map}
 use Rattle.std.specs.HashMap.{HashMap, get}
 use Rattle.std.proofs.lemmas.List.{append-nil, append_assoc}
+use Rattle.std.proofs.lemmas.List.Elements.{Contains-append_right}
 use Rattle.si_lists.proofs.Members.{Contains-nil, here, same_some}
 use Rattle.si_model.specs.declared.numbers.Value.{Value}
 use Rattle.si_model.specs.declared.operations.Op.{Op}
@@ -19,7 +20,7 @@ use Rattle.si_shard.specs.declared.waiting.Head.{Head}
 use Rattle.si_shard.specs.declared.waiting.Waits.{Waits}
 use Rattle.si_shard.specs.Applied.{IsAccessChange, change_by}
 use Rattle.si_shard.specs.ShardIds.{is_ours}
-use Rattle.si_shard.specs.Waiting.{AddsAccess, AddsToSome, AreBefore, IsGathered, IsNothing, changes_in}
+use Rattle.si_shard.specs.Waiting.{AddsAccess, AddsToSome, AreBefore, IsGathered, IsTold, changes_in}
 
 -- ---- the operations that are left
 
@@ -32,15 +33,20 @@ abbrev pub IsWalkedTo : Head → Edit → ℕ → List Placed → Option Waits �
 IsWalkedTo h e n [] old new = new ≡ old
 IsWalkedTo h e n (a ∷ ys) old new = (list : Waits) × (new ≡ Some list) × (list.last ≡ n) × (list.changes.items ≡ changes_in old ++ change_by h e (a ∷ ys) ∷ [])
 
+-- an operation is on a key of the shard
+abbrev pub IsAccessed : ShardId → List Op → Type 0
+IsAccessed id ops = (x : List ℕ) × (a : Placed) × (is_ours id x ≡ true) × Contains (accesses x ops) a
+
 -- what was gathered of the operations before the place i, of which these are left
 pub record AreWalked {S : Type 0} (id : ShardId) (ops : List Op) (h : Head) (e : Edit) (n i : ℕ) (left : List Op) (touches : Bool) (old new : HashMap (List ℕ) Waits S) : Type 0 where
   pub ours : (x : List ℕ) → is_ours id x ≡ true → (ys : List Placed) × (ys ++ from_on x i left ≡ accesses x ops) × IsWalkedTo h e n ys (get same_key old x) (get same_key new x)
   pub others : (x : List ℕ) → is_ours id x ≡ false → get same_key new x ≡ get same_key old x
   pub quiet : touches ≡ false → (x : List ℕ) → is_ours id x ≡ true → from_on x i left ≡ accesses x ops
+  pub loud : touches ≡ true → IsAccessed id ops
 
 -- at the beginning
 pub none_walked : {S : Type 0} (id : ShardId) (ops : List Op) (h : Head) (e : Edit) (n : ℕ) (lists : HashMap (List ℕ) Waits S) → AreWalked id ops h e n 0 ops false lists lists
-none_walked id ops h e n lists = record { ours = λ x o. ([], refl, refl); others = λ x o. refl; quiet = λ q x o. refl }
+none_walked id ops h e n lists = record { ours = λ x o. ([], refl, refl); others = λ x o. refl; quiet = λ q x o. refl; loud = λ q. cc }
 
 -- one more access after those that were walked
 walked_once : (h : Head) (e : Edit) (n : ℕ) (ys : List Placed) (p : Placed) (old mid : Option Waits) (new : Waits) → ((list : Waits) → old ≡ Some list → list.last < n) → new.last ≡ n
@@ -76,6 +82,7 @@ module _ {S : Type 0} (id : ShardId) (ops : List Op) (h : Head) (e : Edit) (n i 
     ours = λ x o. (let k = w.ours x o in (k.0, ap (λ l. k.0 ++ l) (sym (next x false (not_same other x o (same_key (key_of p) x) refl))) ∙ k.1, k.2));
     others = w.others;
     quiet = λ q x o. sym (next x false (not_same other x o (same_key (key_of p) x) refl)) ∙ w.quiet q x o;
+    loud = w.loud;
   }
 
   -- one of ours adds its access
@@ -85,8 +92,15 @@ module _ {S : Type 0} (id : ShardId) (ops : List Op) (h : Head) (e : Edit) (n i 
     ours = λ x o. here_or x o (same_key (key_of p) x) refl;
     others = λ x o. else_at x (differs x o (same_key (key_of p) x) refl) ∙ w.others x o;
     quiet = λ q. cc;
+    loud = λ q. (key_of p, a, ours, accessed);
   }
     where
+      accessed : Contains (accesses (key_of p) ops) a
+      accessed =
+          let k = w.ours (key_of p) ours in
+          let first = next (key_of p) true (same_key_from (key_of p) (key_of p) refl) in
+          subst (λ l. Contains l a) (ap (λ l. k.0 ++ l) (sym first) ∙ k.1) (Contains-append_right k.0 (a ∷ from_on (key_of p) (i + 1) left) a (here a (from_on (key_of p) (i + 1) left)))
+
       else_at : (x : List ℕ) → same_key (key_of p) x ≡ false → get same_key new x ≡ get same_key mid x
       else_at x s = adds.updates.0 x ∙ ap (λ b. cond b (Some adds.list) (get same_key mid x)) s
 
@@ -138,6 +152,9 @@ module _ {S : Type 0} (id : ShardId) (ops : List Op) (h : Head) (e : Edit) (n i 
   nothing : touches ≡ false → (x : List ℕ) (c : Change) → is_ours id x ≡ true → IsAccessChange ops h e x c → ⊥
   nothing q x c o (a, there, is) = Contains-nil a (subst (λ l. Contains l a) (sym (w.quiet q x o)) there)
 
+  something : touches ≡ true → (x : List ℕ) × (c : Change) × (is_ours id x ≡ true) × IsAccessChange ops h e x c
+  something q = (let k = w.loud q in (k.0, change_by h e (accesses k.0 ops), k.2, (k.1, k.3, refl)))
+
 -- all was gathered of an edit that sets no key up
 module _ {S : Type 0} (id : ShardId) (ops : List Op) (h : Head) (n i : ℕ) (touches : Bool) (old new : HashMap (List ℕ) Waits S) where
   pub gathered_all : (e : Edit) → ((x : List ℕ) (v : Value) → e ≡ edit.SetUp x v → ⊥) → AreWalked id ops h e n i [] touches old new → IsGathered id ops h e n old new
@@ -146,11 +163,11 @@ module _ {S : Type 0} (id : ShardId) (ops : List Op) (h : Head) (n i : ℕ) (tou
   gathered_all (edit.Withdraw u) other w = record { changed = changed id ops h (edit.Withdraw u) n i touches old new w; others = others id ops h (edit.Withdraw u) n i touches old new w }
   gathered_all (edit.SetUp x v) other w = absurd (other x v refl)
 
-  pub nothing_there : (e : Edit) → ((x : List ℕ) (v : Value) → e ≡ edit.SetUp x v → ⊥) → AreWalked id ops h e n i [] touches old new → touches ≡ false → IsNothing id ops h e
-  nothing_there (edit.Arrive T) other w q = nothing id ops h (edit.Arrive T) n i touches old new w q
-  nothing_there (edit.Resolve u o) other w q = nothing id ops h (edit.Resolve u o) n i touches old new w q
-  nothing_there (edit.Withdraw u) other w q = nothing id ops h (edit.Withdraw u) n i touches old new w q
-  nothing_there (edit.SetUp x v) other w q = absurd (other x v refl)
+  pub told_there : (e : Edit) → ((x : List ℕ) (v : Value) → e ≡ edit.SetUp x v → ⊥) → AreWalked id ops h e n i [] touches old new → IsTold id ops h e touches
+  told_there (edit.Arrive T) other w = record { nothing = nothing id ops h (edit.Arrive T) n i touches old new w; something = something id ops h (edit.Arrive T) n i touches old new w }
+  told_there (edit.Resolve u o) other w = record { nothing = nothing id ops h (edit.Resolve u o) n i touches old new w; something = something id ops h (edit.Resolve u o) n i touches old new w }
+  told_there (edit.Withdraw u) other w = record { nothing = nothing id ops h (edit.Withdraw u) n i touches old new w; something = something id ops h (edit.Withdraw u) n i touches old new w }
+  told_there (edit.SetUp x v) other w = absurd (other x v refl)
 
 -- ---- a set-up
 
@@ -174,8 +191,9 @@ module _ {S : Type 0} (id : ShardId) (ops : List Op) (h : Head) (y : List ℕ) (
       by x none true s = (let is = same_key_is y x s in absurd (none (ap (is_ours id) (sym is) ∙ ours) (change.SetUp v) (sym is, refl)))
       by x none false s = ap (λ b. cond b (Some adds.list) (get same_key old x)) s
 
-  pub set_up_past : is_ours id y ≡ false → IsGathered id ops h (edit.SetUp y v) n old old
-  set_up_past other = record { changed = λ x c o k. (let no : true ≡ false = sym o ∙ ap (is_ours id) k.0 ∙ other in cc); others = λ x none. refl }
-
-  pub set_up_nothing : is_ours id y ≡ false → IsNothing id ops h (edit.SetUp y v)
-  set_up_nothing other x c o k = (let no : true ≡ false = sym o ∙ ap (is_ours id) k.0 ∙ other in cc)
+-- it's told whether the key is of the shard
+pub set_up_told : (id : ShardId) (ops : List Op) (h : Head) (y : List ℕ) (v : Value) (touches : Bool) → touches ≡ is_ours id y → IsTold id ops h (edit.SetUp y v) touches
+set_up_told id ops h y v touches is = record {
+  nothing = λ q x c o k. (let no : false ≡ true = sym q ∙ is ∙ ap (is_ours id) (sym k.0) ∙ o in cc);
+  something = λ q. (y, change.SetUp v, sym is ∙ q, (refl, refl));
+}

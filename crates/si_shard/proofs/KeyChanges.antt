@@ -34,7 +34,7 @@ use Rattle.si_shard.specs.Applied.{AreApplied, AreArrivals, IsArrivalOf, IsChang
 use Rattle.si_shard.specs.Changes.{AsksRightly, CanChange, changed_on}
 use Rattle.si_shard.specs.Keyed.{IsOn}
 
-some_or_none : (ys : List Placed) → ((b : Placed) × Contains ys b) ⊎ (ys ≡ [])
+pub some_or_none : (ys : List Placed) → ((b : Placed) × Contains ys b) ⊎ (ys ≡ [])
 some_or_none [] = inr refl
 some_or_none (b ∷ ys) = inl (b, here b ys)
 
@@ -43,7 +43,7 @@ part_there : (x : List ℕ) (T : Txn) (b : Placed) → Contains (accesses x T.op
 part_there x T b c = part_some x T (record { id = T.id; start = T.start; status = T.status; accesses = accesses x T.ops })
     (record { id = refl; start = refl; status = refl; accesses = refl; some = (b, c) })
 
-part_not : (x : List ℕ) (T : Txn) → accesses x T.ops ≡ [] → part x T ≡ None
+pub part_not : (x : List ℕ) (T : Txn) → accesses x T.ops ≡ [] → part x T ≡ None
 unfolding part
 part_not x T e = ap (part_with T) e
 
@@ -61,7 +61,7 @@ module _ (id : ShardId) (edits : List Edit) (at : ℕ → Option Arrival) (arriv
     arrival_of T c b d =
         let k = arrivals.had T c (x, b, ours, d) in
         let r = arrivals.right T.id.0 k.0 k.1 in
-        (k.0, k.1, subst (IsArrivalOf edits k.0) (same_named (λ (U : Txn). U.id) (present edits).txns h.names r.0 T r.1 c (ap (λ n. record { 0 = n }) r.2)) r.3)
+        (k.0, k.1, subst (IsArrivalOf edits k.0) (same_named (λ (U : Txn). U.id) (present edits).txns h.names r.0 T r.1 c (ap (λ n. record { 0 = n }) r.2)) r.4)
 
     -- the stored arrival tells the accesses of the shard's keys
     same_accesses : (T : Txn) → Contains (present edits).txns T → accesses x (ops_at edits (at T.id.0)) ≡ accesses x T.ops
@@ -76,7 +76,7 @@ module _ (id : ShardId) (edits : List Edit) (at : ℕ → Option Arrival) (arriv
         by (Some i) e =
             let r = arrivals.right T.id.0 i e in
             let one : r.0 ≡ T = same_named (λ (U : Txn). U.id) (present edits).txns h.names r.0 T r.1 c (ap (λ n. record { 0 = n }) r.2) in
-            ap (accesses x) (ap ops_in_some r.3.at ∙ r.3.ops ∙ ap (λ (U : Txn). U.ops) one)
+            ap (accesses x) (ap ops_in_some r.4.at ∙ r.4.ops ∙ ap (λ (U : Txn). U.ops) one)
 
     -- and with the status beside it what the transaction is
     same_head : (T : Txn) → Contains (present edits).txns T → (b : Placed) → Contains (accesses x T.ops) b → head_at edits (at T.id.0) ≡ record { id = T.id; start = T.start; status = T.status }

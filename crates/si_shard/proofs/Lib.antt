@@ -3,11 +3,15 @@ pub mod Together
 pub mod Gathering
 pub mod ArrivalPlaces
 pub mod KeyChanges
+pub mod Concerning
+pub mod PresentOn
+pub mod Keeps
 pub mod Leading
 pub mod EachKey
 pub mod Applying
 pub mod AppliedEach
 pub mod ShardFindings
 pub mod Beginnings
+pub mod Coming
 pub mod ShardsTogether
 pub mod Changing

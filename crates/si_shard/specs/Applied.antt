@@ -40,10 +40,10 @@ pub record IsArrivalOf (edits : List Edit) (a : Arrival) (T : Txn) : Type 0 wher
 abbrev pub TouchesShard : ShardId → Txn → Type 0
 TouchesShard id T = (x : List ℕ) × (a : Placed) × (is_ours id x ≡ true) × Contains (accesses x T.ops) a
 
--- under the id of each transaction that does something on the shard's keys stand the place of its arrival and its status
+-- under the id of each transaction that does something on the shard's keys stand the place of its arrival and its status, and nothing else
 pub record AreArrivals (id : ShardId) (edits : List Edit) (txns : List Txn) (at : ℕ → Option Arrival) : Type 0 where
   pub had : (T : Txn) → Contains txns T → TouchesShard id T → (a : Arrival) × (at T.id.0 ≡ Some a)
-  pub right : (n : ℕ) (a : Arrival) → at n ≡ Some a → (T : Txn) × Contains txns T × (T.id.0 ≡ n) × IsArrivalOf edits a T
+  pub right : (n : ℕ) (a : Arrival) → at n ≡ Some a → (T : Txn) × Contains txns T × (T.id.0 ≡ n) × TouchesShard id T × IsArrivalOf edits a T
 
 -- what the edits made of the shard: on each of its keys is what is present there, and on other keys nothing
 pub record AreApplied (id : ShardId) (edits : List Edit) (a : Applied) : Type 0 where

@@ -2,7 +2,9 @@
 pub mod ShardIds
 pub mod Applied
 pub mod Changes
+pub mod Keeping
 pub mod Keyed
+pub mod Past
 pub mod Shards
 pub mod Straight
 pub mod Waiting

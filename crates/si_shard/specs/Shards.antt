@@ -10,6 +10,7 @@ use Rattle.si_shard.specs.declared.shard_ids.ShardId.{ShardId}
 use Rattle.si_shard.specs.declared.applied.Applied.{Applied}
 use Rattle.si_shard.specs.ShardIds.{is_ours}
 use Rattle.si_shard.specs.Applied.{AreApplied}
+use Rattle.si_shard.specs.Keeping.{AreKept}
 
 -- the findings of what is present that are on keys of the shard, in order
 abbrev pub findings_in : ShardId → Present → List Finding
@@ -21,11 +22,12 @@ pub record ShardState : Type 0 where
   pub id : ShardId
   -- the edits that it applied, in the order of their numbers
   pub stored : List Edit
-  -- whether an edit wanted memory
+  -- whether memory was refused to an edit
   pub spoiled : Bool
 
--- what a shard keeps
-pub record IsShard (id : ShardId) (stored : List Edit) (applied : Applied) (spoiled : Bool) : Type 0 where
+-- what a shard knows: edits that are accepted, those of them that it keeps, and unless it is spoiled what these make of its keys
+pub record IsShard (id : ShardId) (stored kept : List Edit) (applied : Applied) (spoiled : Bool) : Type 0 where
   pub within : id.shard < id.shards
   pub accepted : IsAccepted stored
-  pub whole : spoiled ≡ false → AreApplied id stored applied
+  pub keeps : AreKept id stored kept
+  pub whole : spoiled ≡ false → AreApplied id kept applied

@@ -1,5 +1,5 @@
 -- Changes of many edits that wait until they are made. All of it is this project's choice.
-use Rattle.std.specs.Prelude.{◌≡◌, ◌≢◌, ◌<◌, ℕ, true, false, nat_eq, List, [], ◌∷◌, ◌++◌, Some, None, Option, length}
+use Rattle.std.specs.Prelude.{◌≡◌, ◌≢◌, ◌<◌, ℕ, Bool, true, false, nat_eq, List, [], ◌∷◌, ◌++◌, Some, None, Option, length}
 use Rattle.std.specs.HashMap.{HashMap, Updates, get}
 use Rattle.si_model.specs.declared.edits.Edit.{Edit}
 use Rattle.si_model.specs.declared.operations.Op.{Op}
@@ -59,6 +59,15 @@ pub record AddsAccess {S : Type 0} (h : Head) (e : Edit) (n : ℕ) (x : List ℕ
 -- the edit, whose transaction is h with these operations, is nothing on the keys of the shard
 abbrev pub IsNothing : ShardId → List Op → Head → Edit → Type 0
 IsNothing id ops h e = (x : List ℕ) (c : Change) → is_ours id x ≡ true → IsChangeOn ops h e x c → ⊥
+
+-- the edit is something on one of the keys of the shard
+abbrev pub IsSomething : ShardId → List Op → Head → Edit → Type 0
+IsSomething id ops h e = (x : List ℕ) × (c : Change) × (is_ours id x ≡ true) × IsChangeOn ops h e x c
+
+-- it's told whether the edit is anything on the keys of the shard
+pub record IsTold (id : ShardId) (ops : List Op) (h : Head) (e : Edit) (touches : Bool) : Type 0 where
+  pub nothing : touches ≡ false → IsNothing id ops h e
+  pub something : touches ≡ true → IsSomething id ops h e
 
 -- what the edit is on a key of the shard waits there, after what waited, and nothing else changes; n edits are before it
 pub record IsGathered {S : Type 0} (id : ShardId) (ops : List Op) (h : Head) (e : Edit) (n : ℕ) (old new : HashMap (List ℕ) Waits S) : Type 0 where

@@ -1,31 +1,34 @@
-//! What the stored edits of one shard made of its keys.
+//! What the kept edits of one shard made of its keys.
 
-ghost use Rattle.std.specs.Prelude.{◌≡◌, ◌<◌, ◌≤◌, ℕ, Bool, List, [], ◌∷◌, ◌++◌, length, take, OnOk, IfOk};
+ghost use Rattle.std.specs.Prelude.{◌≡◌, ◌<◌, ℕ, List, [], ◌∷◌, ◌++◌, OnOk, IfOk};
 ghost use Rattle.std.specs.HashMap.{get};
 ghost use Rattle.std.specs.Prelude.{nat_eq};
 ghost use Rattle.si_model.specs.Journals.{IsAccepted, present};
 ghost use Rattle.si_shard.specs.Applied.{AreApplied, SetsArrival, head_for, head_in, no_head, ops_for, ops_in};
+ghost use Rattle.si_shard.specs.Keeping.{AreKept, BeginsWith, Concerns, IsTaken, kept_after};
 ghost use Rattle.si_shard.specs.Shards.{findings_in};
 ghost use Rattle.si_shard.specs.Straight.{AreApart};
 ghost use Rattle.si_shard.specs.Waiting.{AreGatheredTo};
 
 use crate::keyed::KeyStates;
+use crate::past::Stored;
 use crate::shard_ids::ShardId;
 use crate::straight::{are_few_apart, make_each};
 use crate::waiting::{Head, Waiting};
+use si_hashing::NumberHash;
 use si_model::{Edit, Finding, Op, OutOfMemory, Stamp, Status, TxnId};
 use std::alloc::Global;
 use std::collections::HashMap;
 use std::hash::RandomState;
 use std::mem;
 
-/// How many accesses may be walked for changes that wait, beside one for each stored edit.
+/// How many operations of kept edits may be walked for changes that wait, beside one for each kept edit.
 const MOST_WAITING: usize = 65_536;
 
 /// So many edits and fewer are applied one after the other, each straight to its keys: gathering them costs more than it saves.
 const MOST_AT_ONCE: usize = 1_024;
 
-/// Where a transaction arrived among the stored edits, and what became of it since.
+/// Where a transaction arrived among the kept edits, and what became of it since.
 #[derive(Clone, Copy)]
 pub struct Arrival {
     pub place: usize,
@@ -40,7 +43,7 @@ pub struct Applied {
     keys: KeyStates,
     // From the id of each present transaction that is on the shard's keys to its arrival, which tells a resolution and a
     // withdrawal the keys, and what the transaction does on them.
-    arrivals: HashMap<u64, Arrival, RandomState>,
+    arrivals: HashMap<u64, Arrival, NumberHash>,
 }
 
 impl Applied {
@@ -52,139 +55,181 @@ impl Applied {
             alloc,
             hash,
             keys: KeyStates::new(alloc, hash),
-            arrivals: HashMap::with_hasher(alloc, hash),
+            arrivals: HashMap::with_hasher(alloc, NumberHash::new(hash)),
         }
     }
 
-    /// Applies the edit, which comes after these.
-    pub fn apply(&mut self, stored: &[Edit], edit: &Edit, id: ShardId) -> Result<(), OutOfMemory>
+    /// Applies the edit, which comes after the kept ones, and answers whether it is anything on the shard's keys.
+    pub fn apply(&mut self, kept: &[Edit], edit: &Edit, id: ShardId) -> Result<bool, OutOfMemory>
         requires shards { 0 < id.shards }
-        requires applied { AreApplied id stored.now self.old }
-        requires accepted { IsAccepted (stored.now ++ edit.now ∷ []) }
-        ensures { OnOk result (AreApplied id (stored.now ++ edit.now ∷ []) self.new) }
+        requires applied { AreApplied id kept.now self.old }
+        requires accepted { Concerns id (present kept.now) edit.now → IsAccepted (kept.now ++ edit.now ∷ []) }
+        ensures { IfOk result (λ touches. IsTaken id kept.now edit.now touches (λ edits. AreApplied id edits self.new)) }
     {
-        let ops = self.ops_of(stored, edit);
+        let ops = self.ops_of(kept, edit);
         if are_few_apart(ops) {
-            return self.apply_straight(stored, ops, edit, id);
+            return self.apply_straight(kept, ops, edit, id);
         }
-        self.apply_gathered(stored, edit, id)
+        self.apply_gathered(kept, edit, id)
     }
 
     /// Applies the edit, of whose transaction these are the operations, key by key.
     fn apply_straight(
         &mut self,
-        stored: &[Edit],
+        kept: &[Edit],
         ops: &[Op],
         edit: &Edit,
         id: ShardId,
-    ) -> Result<(), OutOfMemory>
+    ) -> Result<bool, OutOfMemory>
         requires shards { 0 < id.shards }
-        requires applied { AreApplied id stored.now self.old }
-        requires accepted { IsAccepted (stored.now ++ edit.now ∷ []) }
-        requires ops { ops.now ≡ ops_for (get nat_eq self.old.arrivals) stored.now edit.now }
+        requires applied { AreApplied id kept.now self.old }
+        requires accepted { Concerns id (present kept.now) edit.now → IsAccepted (kept.now ++ edit.now ∷ []) }
+        requires ops { ops.now ≡ ops_for (get nat_eq self.old.arrivals) kept.now edit.now }
         requires apart { AreApart ops.now }
-        ensures { OnOk result (AreApplied id (stored.now ++ edit.now ∷ []) self.new) }
+        ensures { IfOk result (λ touches. IsTaken id kept.now edit.now touches (λ edits. AreApplied id edits self.new)) }
     {
-        let head = self.head_of(stored, edit);
+        let head = self.head_of(kept, edit);
         let touches = make_each(self.alloc, &mut self.keys, ops, head, edit, id)?;
-        set_arrival(&mut self.arrivals, edit, touches, stored.len())?;
-        Ok(())
+        set_arrival(&mut self.arrivals, edit, touches, kept.len())?;
+        Ok(touches)
     }
 
     /// Applies the edit after all that it is on a key was gathered.
     fn apply_gathered(
         &mut self,
-        stored: &[Edit],
+        kept: &[Edit],
         edit: &Edit,
         id: ShardId,
-    ) -> Result<(), OutOfMemory>
+    ) -> Result<bool, OutOfMemory>
         requires shards { 0 < id.shards }
-        requires applied { AreApplied id stored.now self.old }
-        requires accepted { IsAccepted (stored.now ++ edit.now ∷ []) }
-        ensures { OnOk result (AreApplied id (stored.now ++ edit.now ∷ []) self.new) }
+        requires applied { AreApplied id kept.now self.old }
+        requires accepted { Concerns id (present kept.now) edit.now → IsAccepted (kept.now ++ edit.now ∷ []) }
+        ensures { IfOk result (λ touches. IsTaken id kept.now edit.now touches (λ edits. AreApplied id edits self.new)) }
     {
         let mut waiting = Waiting::new(self.alloc, self.hash);
-        self.gather(&mut waiting, stored, edit, id)?;
+        let touches = self.gather(&mut waiting, kept, edit, id)?;
         self.make(waiting)?;
-        Ok(())
+        Ok(touches)
     }
 
-    /// Applies the edits from that place on, which come after those before it.
-    pub fn apply_from(
+    /// Applies the edits, which come after the stored ones, and keeps copies of those that are anything on the shard's keys. Where
+    /// memory was refused a part of them may be kept.
+    pub fn apply_all(
         &mut self,
+        kept: &mut Vec<Edit>,
+        stored: &Stored,
         edits: &[Edit],
-        from: usize,
         id: ShardId,
     ) -> Result<(), OutOfMemory>
         requires shards { 0 < id.shards }
-        requires from { from ≤ length edits.now }
-        requires applied { AreApplied id (take from edits.now) self.old }
-        requires accepted { IsAccepted edits.now }
-        ensures { OnOk result (AreApplied id edits.now self.new) }
+        requires kept { AreKept id stored.now kept.old.items }
+        requires applied { AreApplied id kept.old.items self.old }
+        requires accepted { IsAccepted (stored.now ++ edits.now) }
+        ensures kept { OnOk result (AreKept id (stored.now ++ edits.now) kept.new.items) }
+        ensures applied { OnOk result (AreApplied id kept.new.items self.new) }
+        ensures begins { BeginsWith kept.old.items kept.new.items }
     {
-        if edits.len() - from <= MOST_AT_ONCE {
-            return self.apply_each(edits, from, id);
+        if edits.len() <= MOST_AT_ONCE {
+            return self.apply_each(kept, stored, edits, id);
         }
-        self.apply_together(edits, from, id)
+        self.apply_together(kept, stored, edits, id)
     }
 
     /// Applies them one after the other.
-    fn apply_each(&mut self, edits: &[Edit], from: usize, id: ShardId) -> Result<(), OutOfMemory>
+    fn apply_each(
+        &mut self,
+        kept: &mut Vec<Edit>,
+        _stored: &Stored,
+        edits: &[Edit],
+        id: ShardId,
+    ) -> Result<(), OutOfMemory>
         requires shards { 0 < id.shards }
-        requires from { from ≤ length edits.now }
-        requires applied { AreApplied id (take from edits.now) self.old }
-        requires accepted { IsAccepted edits.now }
-        ensures { OnOk result (AreApplied id edits.now self.new) }
+        requires kept { AreKept id _stored.now kept.old.items }
+        requires applied { AreApplied id kept.old.items self.old }
+        requires accepted { IsAccepted (_stored.now ++ edits.now) }
+        ensures kept { OnOk result (AreKept id (_stored.now ++ edits.now) kept.new.items) }
+        ensures applied { OnOk result (AreApplied id kept.new.items self.new) }
+        ensures begins { BeginsWith kept.old.items kept.new.items }
     {
-        for next in from..edits.len() {
-            self.apply(&edits[..next], &edits[next], id)?;
+        for edit in edits {
+            let touches = self.apply(kept.as_slice(), edit, id)?;
+            keep(kept, edit, touches)?;
         }
         Ok(())
     }
 
     /// Applies them together: what they are on the keys is gathered first, so that what is known of a key is looked for once for many
-    /// of them. What is gathered grows with what is stored, but stays a part of it.
+    /// of them. What is gathered grows with what is kept, but stays a part of it.
     fn apply_together(
         &mut self,
+        kept: &mut Vec<Edit>,
+        _stored: &Stored,
         edits: &[Edit],
-        from: usize,
         id: ShardId,
     ) -> Result<(), OutOfMemory>
         requires shards { 0 < id.shards }
-        requires from { from ≤ length edits.now }
-        requires applied { AreApplied id (take from edits.now) self.old }
-        requires accepted { IsAccepted edits.now }
-        ensures { OnOk result (AreApplied id edits.now self.new) }
+        requires kept { AreKept id _stored.now kept.old.items }
+        requires applied { AreApplied id kept.old.items self.old }
+        requires accepted { IsAccepted (_stored.now ++ edits.now) }
+        ensures kept { OnOk result (AreKept id (_stored.now ++ edits.now) kept.new.items) }
+        ensures applied { OnOk result (AreApplied id kept.new.items self.new) }
+        ensures begins { BeginsWith kept.old.items kept.new.items }
     {
         let mut waiting = Waiting::new(self.alloc, self.hash);
-        for place in from..edits.len() {
-            self.gather(&mut waiting, &edits[..place], &edits[place], id)?;
-            if waiting.count / MOST_WAITING > place / MOST_WAITING {
-                let gathered = mem::replace(&mut waiting, Waiting::new(self.alloc, self.hash));
-                self.make(gathered)?;
-            }
+        for edit in edits {
+            let touches = self.gather(&mut waiting, kept.as_slice(), edit, id)?;
+            keep(kept, edit, touches)?;
+            self.make_many(&mut waiting, kept.len())?;
         }
         self.make(waiting)?;
         Ok(())
     }
 
-    /// Gathers what the edit, which comes after these, is on the keys.
+    /// Applies the kept edits, where nothing was applied before. What they are on the keys is gathered in the same way.
+    pub fn apply_kept(&mut self, kept: &[Edit], id: ShardId) -> Result<(), OutOfMemory>
+        requires shards { 0 < id.shards }
+        requires applied { AreApplied id [] self.old }
+        requires accepted { IsAccepted kept.now }
+        ensures { OnOk result (AreApplied id kept.now self.new) }
+    {
+        let mut waiting = Waiting::new(self.alloc, self.hash);
+        for place in 0..kept.len() {
+            self.gather(&mut waiting, &kept[..place], &kept[place], id)?;
+            self.make_many(&mut waiting, place)?;
+        }
+        self.make(waiting)?;
+        Ok(())
+    }
+
+    /// Gathers what the edit, which comes after the kept ones, is on the keys, and answers whether it is anything there.
     fn gather(
         &mut self,
         waiting: &mut Waiting,
-        stored: &[Edit],
+        kept: &[Edit],
         edit: &Edit,
         id: ShardId,
-    ) -> Result<(), OutOfMemory>
+    ) -> Result<bool, OutOfMemory>
         requires shards { 0 < id.shards }
-        requires gathered { AreGatheredTo id stored.now self.old waiting.old.lists }
-        requires accepted { IsAccepted (stored.now ++ edit.now ∷ []) }
-        ensures { OnOk result (AreGatheredTo id (stored.now ++ edit.now ∷ []) self.new waiting.new.lists) }
+        requires gathered { AreGatheredTo id kept.now self.old waiting.old.lists }
+        ensures { IfOk result (λ touches. IsTaken id kept.now edit.now touches (λ edits. AreGatheredTo id edits self.new waiting.new.lists)) }
     {
-        let ops = self.ops_of(stored, edit);
-        let head = self.head_of(stored, edit);
-        let touches = waiting.gather(ops, head, edit, stored.len(), id)?;
-        set_arrival(&mut self.arrivals, edit, touches, stored.len())?;
+        let ops = self.ops_of(kept, edit);
+        let head = self.head_of(kept, edit);
+        let touches = waiting.gather(ops, head, edit, kept.len(), id)?;
+        set_arrival(&mut self.arrivals, edit, touches, kept.len())?;
+        Ok(touches)
+    }
+
+    /// Makes the changes that were gathered where they are many beside so many kept edits.
+    fn make_many(&mut self, waiting: &mut Waiting, kept: usize) -> Result<(), OutOfMemory>
+        requires { (id : ShardId) × (edits : List Edit) × AreGatheredTo id edits self.old waiting.old.lists }
+        ensures { OnOk result ((id : ShardId) (edits : List Edit) → AreGatheredTo id edits self.old waiting.old.lists → AreGatheredTo id edits self.new waiting.new.lists) }
+    {
+        if waiting.count / MOST_WAITING <= kept / MOST_WAITING {
+            return Ok(());
+        }
+        let gathered = mem::replace(waiting, Waiting::new(self.alloc, self.hash));
+        self.make(gathered)?;
         Ok(())
     }
 
@@ -208,14 +253,14 @@ impl Applied {
     }
 
     /// The operations of the edit's transaction, unless it does nothing on the shard's keys.
-    fn ops_of<'a>(&self, stored: &'a [Edit], edit: &'a Edit) -> &'a [Op]
-        ensures { result.now ≡ ops_for (get nat_eq self.now.arrivals) stored.now edit.now }
+    fn ops_of<'a>(&self, kept: &'a [Edit], edit: &'a Edit) -> &'a [Op]
+        ensures { result.now ≡ ops_for (get nat_eq self.now.arrivals) kept.now edit.now }
     {
         let (Edit::Resolve(id, _) | Edit::Withdraw(id)) = edit else {
             return ops_in(edit);
         };
         match self.arrivals.get(&id.0) {
-            Some(arrival) => match stored.get(arrival.place) {
+            Some(arrival) => match kept.get(arrival.place) {
                 Some(arrived) => ops_in(arrived),
                 None => &[],
             },
@@ -224,14 +269,14 @@ impl Applied {
     }
 
     /// The edit's transaction before the edit, unless it does nothing on the shard's keys.
-    fn head_of(&self, stored: &[Edit], edit: &Edit) -> Head
-        ensures { result ≡ head_for (get nat_eq self.now.arrivals) stored.now edit.now }
+    fn head_of(&self, kept: &[Edit], edit: &Edit) -> Head
+        ensures { result ≡ head_for (get nat_eq self.now.arrivals) kept.now edit.now }
     {
         match edit {
             Edit::Arrive(txn) => head_in(txn.status, edit),
             Edit::SetUp(..) => no_head(),
             Edit::Resolve(id, _) | Edit::Withdraw(id) => match self.arrivals.get(&id.0) {
-                Some(arrival) => match stored.get(arrival.place) {
+                Some(arrival) => match kept.get(arrival.place) {
                     Some(arrived) => head_in(arrival.status, arrived),
                     None => no_head(),
                 },
@@ -276,9 +321,21 @@ fn ops_in(edit: &Edit) -> &[Op]
     }
 }
 
+/// Keeps a copy of the edit, which shares the operations, where it touches the shard's keys.
+fn keep(kept: &mut Vec<Edit>, edit: &Edit, touches: bool) -> Result<(), OutOfMemory>
+    ensures kept { OnOk result (kept.new.items ≡ kept_after touches kept.old.items edit.now) }
+    ensures begins { BeginsWith kept.old.items kept.new.items }
+{
+    if touches {
+        kept.push(edit.try_clone()?)?;
+        return Ok(());
+    }
+    Ok(())
+}
+
 /// Keeps an arrival that touches the shard's keys, with its transaction's status, and forgets that of one that is withdrawn.
 fn set_arrival(
-    arrivals: &mut HashMap<u64, Arrival, RandomState>,
+    arrivals: &mut HashMap<u64, Arrival, NumberHash>,
     edit: &Edit,
     touches: bool,
     place: usize,

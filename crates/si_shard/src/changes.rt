@@ -23,7 +23,7 @@ pub enum Change {
     SetUp(Value),
 }
 
-/// Makes the changes of one key, one after the other. Its findings aren't spoiled, so that it can fail for want of memory alone.
+/// Makes the changes of one key, one after the other. Its findings aren't spoiled, so that it fails only where memory is refused.
 pub fn make_changes(kept: &mut KeyFindings<Cases>, changes: Vec<Change>) -> Result<(), OutOfMemory>
     requires { (Q : OnKey) × (R : OnKey) × Shows cases Q kept.old × LeadsTo changes.items Q R }
     ensures { OnOk result (AreMade changes.items kept.old kept.new) }

@@ -8,6 +8,7 @@ mod applied;
 mod changes;
 mod keyed;
 pub mod laws;
+mod past;
 mod shard_ids;
 pub mod shards;
 mod straight;

@@ -1,10 +1,12 @@
-ghost use Rattle.std.specs.Prelude.{◌≡◌, ◌↔◌, ℕ, ◌+◌, ◌<◌, ◌≤◌, true, false, [], ◌∷◌, ◌++◌, length, take, Err, IfOk, OnOk, OnErr};
+ghost use Rattle.std.specs.Prelude.{◌≡◌, ◌↔◌, ℕ, ◌+◌, ◌<◌, ◌≤◌, true, false, [], ◌∷◌, ◌++◌, length, Err, IfOk, OnOk, OnErr};
 ghost use Rattle.si_model.specs.Journals.{IsAccepted, present};
 ghost use Rattle.si_judge.specs.declared.states.KeyFault.TheVariants as fault;
 ghost use Rattle.si_shard.specs.Applied.{AreApplied};
+ghost use Rattle.si_shard.specs.Keeping.{AreKept};
 ghost use Rattle.si_shard.specs.Shards.{findings_in};
 
 use crate::applied::Applied;
+use crate::past::Stored;
 use crate::shard_ids::ShardId;
 use si_judge::KeyFault;
 use si_model::{Edit, Finding, Number, OutOfMemory};
@@ -15,18 +17,20 @@ use std::marker::Model;
 /// The most shards that keys may be spread over.
 pub const MOST_SHARDS: usize = 16;
 
-/// One shard: every accepted edit in the order of its number, and the findings on the shard's keys.
+/// One shard: of the accepted edits, in the order of their numbers, those that are anything on the shard's keys, and the findings there.
 ///
-/// Contracts see which shard it is, the stored edits and whether it is spoiled.
+/// Contracts see which shard it is, all edits, which are its stored ones, and whether it is spoiled.
 #[derive(Drop)]
 pub struct Shard {
     alloc: Global,
     hash: RandomState,
     id: ShardId,
-    stored: Vec<Edit>,
-    // What the stored edits made of the shard's keys, unless it is spoiled.
+    stored: Stored,
+    // The stored edits that are anything on the shard's keys, from which a rebuild begins.
+    kept: Vec<Edit>,
+    // What these made of the shard's keys, unless it is spoiled.
     applied: Applied,
-    // True from the beginning of an edit until it is whole, and so until a rebuild once an edit wanted memory.
+    // True from the beginning of an edit until it is whole, and so until a rebuild once memory was refused to an edit.
     spoiled: bool,
 }
 
@@ -35,9 +39,9 @@ impl Model for Shard {
 
     ghost Value = { ShardState };
 
-    ghost view = { λ s. record { id = s.id; stored = s.stored.items; spoiled = s.spoiled } };
+    ghost view = { λ s. record { id = s.id; stored = s.stored; spoiled = s.spoiled } };
 
-    ghost invariant = { λ s. IsShard s.id s.stored.items s.applied s.spoiled };
+    ghost invariant = { λ s. IsShard s.id s.stored s.kept.items s.applied s.spoiled };
 }
 
 impl Shard {
@@ -53,7 +57,8 @@ impl Shard {
             alloc,
             hash,
             id: ShardId { shard, shards },
-            stored: Vec::new(alloc),
+            stored: Stored::new(),
+            kept: Vec::new(alloc),
             applied: Applied::new(alloc, hash),
             spoiled: false,
         }
@@ -61,7 +66,7 @@ impl Shard {
 
     /// Stores the edit, which has the number after the last one stored, and mends the findings on the shard's keys.
     ///
-    /// It answers [`KeyFault::Spoiled`] where an earlier edit wanted memory and no rebuild came since; nothing changes then.
+    /// It answers [`KeyFault::Spoiled`] where memory was refused to an earlier edit and no rebuild came since; nothing changes then.
     /// [`KeyFault::OutOfMemory`] leaves the stored edits, and the shard is spoiled from then on.
     pub fn apply(&mut self, _number: Number, edit: Edit) -> Result<(), KeyFault>
         requires next { _number.0 ≡ length self.old.stored + 1 }
@@ -74,9 +79,15 @@ impl Shard {
             return Err(KeyFault::Spoiled);
         }
         self.spoiled = true;
-        self.stored.reserve(1)?;
-        self.applied.apply(self.stored.as_slice(), &edit, self.id)?;
-        self.stored.push(edit).unwrap();
+        let stored = self.stored.with(&edit)?;
+        apply_and_keep(
+            &mut self.applied,
+            &mut self.kept,
+            &self.stored,
+            edit,
+            self.id,
+        )?;
+        self.stored = stored;
         self.spoiled = false;
         Ok(())
     }
@@ -96,18 +107,24 @@ impl Shard {
             return Err(KeyFault::Spoiled);
         }
         self.spoiled = true;
-        let before = self.stored.len();
-        if store_and_apply(&mut self.stored, &mut self.applied, edits, self.id).is_err() {
-            self.stored.truncate(before);
+        let stored = self.stored.with_all(edits)?;
+        let before = self.kept.len();
+        if self
+            .applied
+            .apply_all(&mut self.kept, &self.stored, edits, self.id)
+            .is_err()
+        {
+            self.kept.truncate(before);
             return Err(KeyFault::OutOfMemory);
         }
+        self.stored = stored;
         self.spoiled = false;
         Ok(())
     }
 
     /// The findings on the shard's keys of what is present after the stored edits, in order. It costs what is found.
     ///
-    /// It answers [`KeyFault::Spoiled`] where an edit wanted memory and no rebuild came since.
+    /// It answers [`KeyFault::Spoiled`] where memory was refused to an edit and no rebuild came since.
     pub fn findings(&self) -> Result<Vec<Finding>, KeyFault>
         ensures ok { IfOk result (λ found. found.items ≡ findings_in self.now.id (present self.now.stored)) }
         ensures spoiled { (result ≡ Err fault.Spoiled) ↔ (self.now.spoiled ≡ true) }
@@ -119,14 +136,14 @@ impl Shard {
         Ok(found)
     }
 
-    /// Makes all that is known of the keys anew from the stored edits, and so ends a spoiled state.
+    /// Makes all that is known of the keys anew from the kept edits, and so ends a spoiled state.
     ///
-    /// For want of memory everything stays as it was.
+    /// Where memory is refused everything stays as it was.
     pub fn rebuild(&mut self) -> Result<(), OutOfMemory>
         ensures ok { OnOk result (self.new ≡ record self.old { spoiled = false }) }
         ensures err { OnErr result (self.new ≡ self.old) }
     {
-        self.applied = applied_from(self.alloc, self.hash, self.stored.as_slice(), self.id)?;
+        self.applied = applied_from(self.alloc, self.hash, self.kept.as_slice(), self.id)?;
         self.spoiled = false;
         Ok(())
     }
@@ -135,10 +152,10 @@ impl Shard {
     pub fn position(&self) -> u64
         ensures { result ≡ length self.now.stored }
     {
-        self.stored.len() as u64
+        self.stored.count()
     }
 
-    /// Whether an edit wanted memory, and no rebuild came since.
+    /// Whether memory was refused to an edit, and no rebuild came since.
     pub fn is_spoiled(&self) -> bool
         ensures { result ≡ self.now.spoiled }
     {
@@ -146,34 +163,26 @@ impl Shard {
     }
 }
 
-/// Stores the edits and applies them. For want of memory a part of them may be stored.
-fn store_and_apply(
-    stored: &mut Vec<Edit>,
+/// Applies the edit, which comes after the stored ones, and keeps it where it is anything on the shard's keys.
+fn apply_and_keep(
     applied: &mut Applied,
-    edits: &[Edit],
+    kept: &mut Vec<Edit>,
+    _stored: &Stored,
+    edit: Edit,
     id: ShardId,
 ) -> Result<(), OutOfMemory>
     requires shards { 0 < id.shards }
-    requires applied { AreApplied id stored.old.items applied.old }
-    requires accepted { IsAccepted (stored.old.items ++ edits.now) }
-    ensures stored { OnOk result (stored.new.items ≡ stored.old.items ++ edits.now) }
-    ensures applied { OnOk result (AreApplied id (stored.old.items ++ edits.now) applied.new) }
-    ensures begins { take (length stored.old.items) stored.new.items ≡ stored.old.items }
+    requires kept { AreKept id _stored.now kept.old.items }
+    requires applied { AreApplied id kept.old.items applied.old }
+    requires accepted { IsAccepted (_stored.now ++ edit ∷ []) }
+    ensures kept { OnOk result (AreKept id (_stored.now ++ edit ∷ []) kept.new.items) }
+    ensures applied { OnOk result (AreApplied id kept.new.items applied.new) }
+    ensures refused { OnErr result (kept.new.items ≡ kept.old.items) }
 {
-    let from = stored.len();
-    store(stored, edits)?;
-    applied.apply_from(stored.as_slice(), from, id)?;
-    Ok(())
-}
-
-/// Stores copies of the edits, which share the operations.
-fn store(stored: &mut Vec<Edit>, edits: &[Edit]) -> Result<(), OutOfMemory>
-    ensures stored { OnOk result (stored.new.items ≡ stored.old.items ++ edits.now) }
-    ensures begins { take (length stored.old.items) stored.new.items ≡ stored.old.items }
-{
-    stored.reserve(edits.len())?;
-    for edit in edits {
-        stored.push(edit.try_clone()?)?;
+    kept.reserve(1)?;
+    if applied.apply(kept.as_slice(), &edit, id)? {
+        kept.push(edit).unwrap();
+        return Ok(());
     }
     Ok(())
 }
@@ -182,14 +191,14 @@ fn store(stored: &mut Vec<Edit>, edits: &[Edit]) -> Result<(), OutOfMemory>
 fn applied_from(
     alloc: Global,
     hash: RandomState,
-    edits: &[Edit],
+    kept: &[Edit],
     id: ShardId,
 ) -> Result<Applied, OutOfMemory>
     requires shards { 0 < id.shards }
-    requires accepted { IsAccepted edits.now }
-    ensures { IfOk result (AreApplied id edits.now) }
+    requires accepted { IsAccepted kept.now }
+    ensures { IfOk result (AreApplied id kept.now) }
 {
     let mut applied = Applied::new(alloc, hash);
-    applied.apply_from(edits, 0, id)?;
+    applied.apply_kept(kept, id)?;
     Ok(applied)
 }

@@ -1,12 +1,12 @@
 //! Edits that go straight to the keys of their transactions.
 
-ghost use Rattle.std.specs.Prelude.{◌≡◌, ◌<◌, ◌≢◌, ℕ, List, false, IsTrue, IfOk, OnOk};
+ghost use Rattle.std.specs.Prelude.{◌≡◌, ◌<◌, ◌≢◌, ℕ, List, IsTrue, IfOk, OnOk};
 ghost use Rattle.std.specs.List.{All};
 ghost use Rattle.si_model.specs.declared.edits.Edit.TheVariants as variant;
 ghost use Rattle.si_model.specs.declared.numbers.Value.{Value as Written};
 ghost use Rattle.si_model.specs.Operations.{key_of};
 ghost use Rattle.si_shard.specs.Straight.{AreApart, CanBeMadeBy, IsMadeBy};
-ghost use Rattle.si_shard.specs.Waiting.{IsNothing};
+ghost use Rattle.si_shard.specs.Waiting.{IsTold};
 
 use crate::changes::Change;
 use crate::keyed::KeyStates;
@@ -61,7 +61,7 @@ pub fn make_each(
     requires apart { AreApart ops.now }
     requires can { CanBeMadeBy id ops.now head edit.now keys.old }
     ensures made { OnOk result (IsMadeBy id ops.now head edit.now keys.old keys.new) }
-    ensures touches { IfOk result (λ touches. touches ≡ false → IsNothing id ops.now head edit.now) }
+    ensures touches { IfOk result (IsTold id ops.now head edit.now) }
 {
     if let Edit::SetUp(key, value) = edit {
         return make_set_up(keys, key, *value, id);
@@ -78,7 +78,7 @@ fn make_set_up(
     requires shards { 0 < id.shards }
     requires can { (ops : List Op) (head : Head) → CanBeMadeBy id ops head (variant.SetUp key.now value) keys.old }
     ensures made { OnOk result ((ops : List Op) (head : Head) → IsMadeBy id ops head (variant.SetUp key.now value) keys.old keys.new) }
-    ensures touches { IfOk result (λ touches. touches ≡ false → (ops : List Op) (head : Head) → IsNothing id ops head (variant.SetUp key.now value)) }
+    ensures touches { IfOk result (λ touches. (ops : List Op) (head : Head) → IsTold id ops head (variant.SetUp key.now value) touches) }
 {
     let ours = id.has(key);
     if ours {
@@ -100,7 +100,7 @@ fn make_accessed(
     requires other { (x : List ℕ) (v : Written) → edit.now ≡ variant.SetUp x v → ⊥ }
     requires can { CanBeMadeBy id ops.now head edit.now keys.old }
     ensures made { OnOk result (IsMadeBy id ops.now head edit.now keys.old keys.new) }
-    ensures touches { IfOk result (λ touches. touches ≡ false → IsNothing id ops.now head edit.now) }
+    ensures touches { IfOk result (IsTold id ops.now head edit.now) }
 {
     let mut touches = false;
     for (index, op) in ops.iter().enumerate() {

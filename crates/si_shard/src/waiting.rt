@@ -1,6 +1,6 @@
 //! Changes of many edits that wait until they are made, each list under its key.
 
-ghost use Rattle.std.specs.Prelude.{◌≡◌, ◌<◌, ℕ, List, false, true, [], ◌∷◌, ◌++◌, None, IfOk, OnOk};
+ghost use Rattle.std.specs.Prelude.{◌≡◌, ◌<◌, ℕ, List, true, [], ◌∷◌, ◌++◌, None, IfOk, OnOk};
 ghost use Rattle.std.specs.HashMap.{get};
 ghost use Rattle.si_model.specs.declared.edits.Edit.{Edit};
 ghost use Rattle.si_model.specs.declared.edits.Edit.TheVariants as variant;
@@ -11,7 +11,7 @@ ghost use Rattle.si_shard.specs.declared.changes.Change.{Change};
 ghost use Rattle.si_shard.specs.declared.waiting.Head.{Head};
 ghost use Rattle.si_shard.specs.Applied.{IsChangeOn, change_by, part_by};
 ghost use Rattle.si_shard.specs.ShardIds.{is_ours};
-ghost use Rattle.si_shard.specs.Waiting.{AddsAccess, AddsTo, AddsToLast, AreBefore, IsGathered, IsNothing};
+ghost use Rattle.si_shard.specs.Waiting.{AddsAccess, AddsTo, AddsToLast, AreBefore, IsGathered, IsTold};
 
 use crate::changes::Change;
 use crate::shard_ids::ShardId;
@@ -33,7 +33,7 @@ pub struct Head {
 #[derive(Drop)]
 pub struct Waits {
     pub changes: Vec<Change>,
-    /// How many edits are before that of the last change.
+    /// How many kept edits are before that of the last change.
     pub last: usize,
 }
 
@@ -45,7 +45,7 @@ pub type Lists = IndexMap<Key, Waits, RandomState>;
 pub struct Waiting {
     alloc: Global,
     pub lists: Lists,
-    /// How many accesses were walked for them.
+    /// How many operations were walked for them, of edits that are anything on the shard's keys.
     pub count: usize,
 }
 
@@ -60,7 +60,7 @@ impl Waiting {
         }
     }
 
-    /// Gathers what the edit, before which so many are, is on the keys of the shard, where its transaction is this one with
+    /// Gathers what the edit, before which so many are kept, is on the keys of the shard, where its transaction is this one with
     /// these operations. Answers whether it is anything there. It walks the operations once.
     pub fn gather(
         &mut self,
@@ -73,13 +73,16 @@ impl Waiting {
         requires shards { 0 < id.shards }
         requires before { AreBefore place self.old.lists }
         ensures gathered { OnOk result (IsGathered id ops.now head edit.now place self.old.lists self.new.lists) }
-        ensures touches { IfOk result (λ touches. touches ≡ false → IsNothing id ops.now head edit.now) }
+        ensures touches { IfOk result (IsTold id ops.now head edit.now) }
     {
         if let Edit::SetUp(key, _) = edit {
             return gather_set_up(self.alloc, &mut self.lists, key, head, edit, place, id);
         }
-        self.count = self.count.saturating_add(ops.len());
-        gather_ops(self.alloc, &mut self.lists, ops, head, edit, place, id)
+        let touches = gather_ops(self.alloc, &mut self.lists, ops, head, edit, place, id)?;
+        if touches {
+            self.count = self.count.saturating_add(ops.len());
+        }
+        Ok(touches)
     }
 }
 
@@ -95,7 +98,7 @@ fn gather_set_up(
     requires shards { 0 < id.shards }
     requires before { AreBefore place lists.old }
     ensures gathered { OnOk result ((v : Value) (ops : List Op) → edit.now ≡ variant.SetUp key.now v → IsGathered id ops head edit.now place lists.old lists.new) }
-    ensures touches { IfOk result (λ touches. touches ≡ false → (v : Value) (ops : List Op) → edit.now ≡ variant.SetUp key.now v → IsNothing id ops head edit.now) }
+    ensures touches { IfOk result (λ touches. (v : Value) (ops : List Op) → edit.now ≡ variant.SetUp key.now v → IsTold id ops head edit.now touches) }
 {
     let ours = id.has(key);
     if ours {
@@ -117,7 +120,7 @@ fn gather_ops(
     requires before { AreBefore place lists.old }
     requires other { (x : List ℕ) (v : Value) → edit.now ≡ variant.SetUp x v → ⊥ }
     ensures gathered { OnOk result (IsGathered id ops.now head edit.now place lists.old lists.new) }
-    ensures touches { IfOk result (λ touches. touches ≡ false → IsNothing id ops.now head edit.now) }
+    ensures touches { IfOk result (IsTold id ops.now head edit.now) }
 {
     let mut touches = false;
     for (index, op) in ops.iter().enumerate() {

@@ -16,7 +16,7 @@ use Rattle.si_text.specs.Lines.{◌>>=◌, or_fault, value_of, list_of, number_a
 use Rattle.si_text.specs.declared.faults.Field.TheVariants as fields
 use Rattle.si_text.specs.declared.faults.LineFault.{LineFault}
 use Rattle.si_text.specs.declared.faults.LineFault.TheVariants.{BadField, BadStatus, TooManyOps, BadOp}
-use Rattle.si_text.proofs.StepLemmas.{step, choice, some_same, number_back, no_number, text_back, no_text, array_back, no_array, key_back, no_key}
+use Rattle.si_text.proofs.StepwiseLines.{step, choice, some_same, number_back, no_number, text_back, no_text, array_back, no_array, key_back, no_key}
 use Rattle.si_text.proofs.OpConditions.{OpsRight, ops_right}
 use Rattle.si_text.proofs.Ruled.{NoneBelow, lacks_none, has_status, few_ops, has_ops, has_none, NoLackBelow, no_lack_yet, no_lack_past, no_lack, lacking}
 

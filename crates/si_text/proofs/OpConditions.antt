@@ -13,7 +13,7 @@ use Rattle.si_text.specs.Conditions.{triple, op_value, IsOp, IsNoOp, IsFirstNoOp
 use Rattle.si_text.specs.Lines.{◌>>=◌, or_fault, list_of, triple_in, key_in, read_in, written_in, op_named, op_at, ops_from}
 use Rattle.si_text.specs.declared.faults.LineFault.{LineFault}
 use Rattle.si_text.specs.declared.faults.LineFault.TheVariants.{BadOp}
-use Rattle.si_text.proofs.StepLemmas.{step, last, choice, some_same, none_some, text_back, key_back, no_key}
+use Rattle.si_text.proofs.StepwiseLines.{step, last, choice, some_same, none_some, text_back, key_back, no_key}
 
 abbrev three : Data → Data → Data → Data
 three a b c = array (item a (item b (item c no_items)))

@@ -11,7 +11,7 @@ use Rattle.si_text.specs.declared.faults.Field.TheVariants.{Id, Start, Status, C
 use Rattle.si_text.specs.declared.faults.LineFault.{LineFault}
 use Rattle.si_text.specs.declared.faults.LineFault.TheVariants.{TooLong, NotJson, NotObject, BadKind, BadField, BadStatus, TooManyOps, BadOp, OutOfMemory}
 use Rattle.si_text.specs.declared.readings.TheConstants.{MOST_LINE_BYTES}
-use Rattle.si_text.proofs.StepLemmas.{some_same, none_some}
+use Rattle.si_text.proofs.StepwiseLines.{some_same, none_some}
 
 -- what is said of a line is said of its value
 pub said : (line : List ℕ) (d : Data) (P : Data → Type 0) → value_of line ≡ Some d → IsSaid line P → P d

@@ -15,9 +15,9 @@ use Rattle.si_text.specs.Lines.{edit_of}
 use Rattle.si_text.specs.Telling.{op_values, TellsStatus}
 use Rattle.si_text.specs.UsualArrivals.{TakesNumber, TakesStatus, TakesTxn}
 use Rattle.si_text.specs.declared.readings.TheConstants.{MOST_LINE_BYTES}
-use Rattle.si_text.proofs.TellingLemmas.{read_back}
-use Rattle.si_text.proofs.UsualLemmas.{items_begin, all_fit}
-use Rattle.si_text.proofs.ValueLemmas.{value_of_utf8}
+use Rattle.si_text.proofs.WrittenLines.{read_back}
+use Rattle.si_text.proofs.UsualTokens.{items_begin, all_fit}
+use Rattle.si_text.proofs.LineValues.{value_of_utf8}
 use Rattle.si_text.proofs.ValueTokens.{Begins, string_begins, number_begins, array_begins, object_begins, MembersBegin, no_member_begins, member_begins, whole_read}
 
 -- ---- the members, as they are found one after another

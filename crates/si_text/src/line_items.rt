@@ -46,7 +46,7 @@ fn is_all_space(bytes: &[u8]) -> bool
 }
 
 /// How many bytes stand before the first line feed; all where there is none.
-#[tactic(auto, using(crate::proofs::FeedLemmas::position_or_all, crate::proofs::InputLemmas::last_items))]
+#[tactic(auto, using(crate::proofs::LineFeeds::position_or_all, crate::proofs::InputItems::last_items))]
 pub(crate) fn length_to_line_feed(bytes: &[u8]) -> usize
     ensures { result ≡ prefix_len (λ byte. not (is_line_feed byte)) bytes.now }
 {

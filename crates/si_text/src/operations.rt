@@ -10,7 +10,7 @@ use si_model::{Key, Op, Ops};
 use std::alloc::Global;
 
 /// The operations that the items of an array are, which are too many or else each one in its turn.
-#[tactic(auto, unfolding(crate::specs::Lines::ops_in), using(crate::proofs::OpLemmas::length_map_view))]
+#[tactic(auto, unfolding(crate::specs::Lines::ops_in), using(crate::proofs::ArrayItems::length_map_view))]
 pub(crate) fn ops_of(alloc: Global, keys: &mut KnownKeys, items: &[Value]) -> Result<Ops, LineFault>
     ensures { Gives result (ops_in (map view items.now)) }
 {
@@ -95,7 +95,7 @@ fn returned(value: &Value) -> Option<Option<si_model::Value>>
 }
 
 /// Whether a value is an array of exactly three items.
-#[tactic(auto, using(crate::proofs::OpLemmas::length_list_of_items))]
+#[tactic(auto, using(crate::proofs::ArrayItems::length_list_of_items))]
 fn is_triple(value: &Value) -> bool
     ensures { result ≡ is_some (triple_in (view value.now)) }
 {

@@ -82,7 +82,7 @@ fn object_edit(alloc: Global, keys: &mut KnownKeys, value: &Value) -> Result<Edi
 }
 
 /// A transaction that arrives. All its members are looked at before its status word.
-#[tactic(auto, unfolding(crate::specs::Lines::arrival_of), using(crate::proofs::OpLemmas::list_of_items_view))]
+#[tactic(auto, unfolding(crate::specs::Lines::arrival_of), using(crate::proofs::ArrayItems::list_of_items_view))]
 fn arrival_of(alloc: Global, keys: &mut KnownKeys, value: &Value) -> Result<Edit, LineFault>
     ensures { Gives result (arrival_of (view value.now)) }
 {

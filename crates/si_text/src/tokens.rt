@@ -48,7 +48,7 @@ pub(crate) fn take_number(reader: &mut Reader<'_>, name: &str) -> Option<u64>
 }
 
 /// The number that a text is, where it has neither sign nor fraction nor exponent and fits 64 bits.
-#[tactic(auto, using(crate::proofs::NumberLemmas::number_scanned))]
+#[tactic(auto, using(crate::proofs::ScannedNumbers::number_scanned))]
 pub(crate) fn plain_number(text: &str) -> Option<u64>
     ensures { IfSome result (λ number. number_of text.now ≡ Some (unsigned number)) }
 {

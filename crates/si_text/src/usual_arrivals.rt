@@ -101,7 +101,7 @@ fn take_ops(alloc: Global, keys: &mut SharedKeys, reader: &mut Reader<'_>) -> Op
 }
 
 /// The operations up to the end of their array, with no room left behind them.
-#[tactic(auto, using(crate::proofs::UsualLemmas::all_taken))]
+#[tactic(auto, using(crate::proofs::UsualTokens::all_taken))]
 fn take_items(alloc: Global, keys: &mut SharedKeys, reader: &mut Reader<'_>) -> Option<Vec<Op>>
     ensures items { IfSome result (λ ops. TakesItems ops.items reader.old reader.new) }
     ensures few { IfSome result (λ ops. length ops.items ≤ MOST_OPS) }

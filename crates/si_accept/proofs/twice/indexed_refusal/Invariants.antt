@@ -1,6 +1,6 @@
 use Rattle.std.proofs.Common.{◌≡◌, drop, take}
 use Rattle.si_model.specs.Edits.{first_at, twice_at}
-use Rattle.si_accept.proofs.TwiceLemmas.{IsSeen}
+use Rattle.si_accept.proofs.OwnWrites.{IsSeen}
 use Rattle.si_accept.proofs.twice.indexed_refusal.Given as goal
 
 abbrev pub invariant-loop-place : goal.invariant-loop-place

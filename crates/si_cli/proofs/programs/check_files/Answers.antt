@@ -3,7 +3,7 @@ use Rattle.std.proofs.lemmas.List.{length-map}
 use Rattle.si_run.specs.Runs.{terms_by}
 use Rattle.si_run.specs.Takings.{device}
 use Rattle.si_cli.specs.declared.programs.NotOpened.TheVariants as opened
-use Rattle.si_cli.specs.Openings.{AreKept, IsNotOpened}
+use Rattle.si_cli.specs.Openings.{HoldFiles, IsNotOpened}
 use Rattle.si_cli.proofs.Opened.{all_images, as_many, kept_check}
 use Rattle.si_cli.proofs.programs.check_files.Goals as goal
 
@@ -13,7 +13,7 @@ check-requires-clause-some g c κs within =
     let names = map (λ name. name.now) c.args.names.now in
     let files = map (g.F.NamedFiles.bytes c.args.files.now) names in
     let slice = c.as_mut_slice.result.now in
-    let kept : AreKept files (map left slice) = subst (λ l. AreKept files (map left l)) (sym c.as_mut_slice.ensures.value) c.in-Ok.ensures.kept in
+    let kept : HoldFiles files (map left slice) = subst (λ l. HoldFiles files (map left l)) (sym c.as_mut_slice.ensures.value) c.in-Ok.ensures.kept in
     let many : length slice ≡ length c.args.names.now =
     sym (length-map slice left) ∙ as_many files (map left slice) kept ∙ length-map names (g.F.NamedFiles.bytes c.args.files.now) ∙ length-map c.args.names.now (λ name. name.now) in
     let least = c.requires.some.0 in
@@ -38,7 +38,7 @@ returns-in-Ok g c =
     let files = map (g.F.NamedFiles.bytes c.args.files.now) names in
     let slice = c.as_mut_slice.result.now in
     let news = c.check.new.sources in
-    let kept : AreKept files (map left slice) = subst (λ l. AreKept files (map left l)) (sym c.as_mut_slice.ensures.value) c.in-Ok.ensures.kept in
+    let kept : HoldFiles files (map left slice) = subst (λ l. HoldFiles files (map left l)) (sym c.as_mut_slice.ensures.value) c.in-Ok.ensures.kept in
     let same : length news ≡ length slice = search rules in
     let many : length (map failed news) ≡ length names =
     length-map news failed ∙ same ∙ sym (length-map slice left) ∙ as_many files (map left slice) kept ∙ length-map names (g.F.NamedFiles.bytes c.args.files.now) in

@@ -1,7 +1,7 @@
 use Rattle.std.proofs.Common.{◌∙◌, ◌+◌, IfSome, inr, length, refl, subst, sym}
 use Rattle.std.specs.List.{Contains}
 use Rattle.std.specs.BTreeMap.{get}
-use Rattle.si_judge.specs.Indexes.{AreTouchedReads, reads_in, version_of}
+use Rattle.si_judge.specs.Indexes.{AreTouchedReads, reads_in, version_by}
 use Rattle.si_judge.specs.Mending.{AreReadsJudged, IsVersionJudged, RisesBy, read_cmp, stamp_cmp}
 use Rattle.si_judge.proofs.Coming.{version_stands}
 use Rattle.si_judge.proofs.Counts.{rises, rises_on}
@@ -15,7 +15,7 @@ judge_version-requires g c =
     let ix = c.put_in.new.self in
     let fits = c.requires.2 in
     let is = c.in_ok-put_in.ensures c.requires.0 fits.0 c.requires.1 fits.1 fits.2 in
-    subst (λ o. IfSome o (Contains ix.timeline)) (sym c.version_of.ensures) (version_stands ix c.args.part.now is ((fits.1.parts c.args.part.now).1 (inr refl)))
+    subst (λ o. IfSome o (Contains ix.timeline)) (sym c.version_by.ensures) (version_stands ix c.args.part.now is ((fits.1.parts c.args.part.now).1 (inr refl)))
 
 pub returns-clause-judged : goal.returns-clause-judged
 returns-clause-judged g c = λ R is.
@@ -38,8 +38,8 @@ returns-clause-judged g c = λ R is.
       others_judged = subst (λ l. AreReadsJudged J R ix l (get read_cmp m0.reads) (get read_cmp m1.reads)) c.as_slice-4.ensures.value (c.in_ok-judge_reads.ensures.reads R is);
       own_judged = subst (λ m. AreReadsJudged J R ix (reads_in T) (get read_cmp m1.reads) (get read_cmp m)) (sym c.in_ok-judge_version.ensures.reads)
           (subst (λ l. AreReadsJudged J R ix l (get read_cmp m1.reads) (get read_cmp m2.reads)) own (c.in_ok-judge_reads-2.ensures.reads R is));
-      version = subst (λ m. IsVersionJudged J R ix (version_of T) (get stamp_cmp m) (get stamp_cmp m3.overlaps)) overlaps
-          (subst (λ v. IsVersionJudged J R ix v (get stamp_cmp m2.overlaps) (get stamp_cmp m3.overlaps)) c.version_of.ensures (c.in_ok-judge_version.ensures.overlaps R is));
+      version = subst (λ m. IsVersionJudged J R ix (version_by T) (get stamp_cmp m) (get stamp_cmp m3.overlaps)) overlaps
+          (subst (λ v. IsVersionJudged J R ix v (get stamp_cmp m2.overlaps) (get stamp_cmp m3.overlaps)) c.version_by.ensures (c.in_ok-judge_version.ensures.overlaps R is));
       counted = rises_on (length c.in_ok-others.others.items + length (reads_in T)) 2 (count m0.judge) (count m2.judge) (count m3.judge)
           (rises_on (length c.in_ok-others.others.items) (length (reads_in T)) (count m0.judge) (count m1.judge) (count m2.judge) first second) c.in_ok-judge_version.ensures.counted;
     }

@@ -1,14 +1,13 @@
 use Rattle.std.proofs.Common.{arith, ◌≡◌, ◌∙◌, ◌+◌, true, suc, slice_index_or, [], ◌∷◌, drop, ap, sym, subst}
 use Rattle.std.proofs.Math.ListN.{drop_of_length-le}
 use Rattle.std.proofs.Math.Seq.{drop-cons}
-use Rattle.si_model.specs.declared.operations.Op.{Op}
 use Rattle.si_model.specs.declared.parts.OnKey.{OnKey}
 use Rattle.si_model.specs.Operations.{access_of, key_of}
 use Rattle.si_shard.specs.Applied.{change_by}
 use Rattle.si_shard.specs.Changes.{LeadsTo}
 use Rattle.si_shard.specs.Keyed.{IsChangedAt, IsOn}
 use Rattle.si_shard.specs.ShardIds.{is_ours}
-use Rattle.si_shard.proofs.EachKey.{AreMade, can_access, can_make_here, made_all, made_on, made_past, none_made, nothing_made}
+use Rattle.si_shard.proofs.EachKey.{AreMade, can_access, can_make_here, made_all, made_on, made_past, none_made, told_made}
 use Rattle.si_shard.proofs.straight.make_accessed.Goals as goal
 use Rattle.si_shard.proofs.straight.make_accessed.Goals.{then-has+in_ok-change+in_ok-change_one, else-has}
 
@@ -71,4 +70,4 @@ pub returns-clause-touches : goal.returns-clause-touches
 returns-clause-touches c =
     let done = subst (λ l. AreMade c.args.id c.args.ops.now c.args.head c.args.edit.now c.loop-index.index l c.loop-index.touches c.args.keys.now c.loop-index.keys)
     (drop_of_length-le c.args.ops.now c.loop-index-test.false) c.loop-index.invariant in
-    nothing_made c.args.id c.args.ops.now c.args.head c.loop-index.index c.loop-index.touches c.args.keys.now c.loop-index.keys c.args.edit.now c.requires.other done
+    told_made c.args.id c.args.ops.now c.args.head c.loop-index.index c.loop-index.touches c.args.keys.now c.loop-index.keys c.args.edit.now c.requires.other done

@@ -4,7 +4,7 @@ use Rattle.si_model.specs.Operations.{key_of}
 use Rattle.si_shard.specs.ShardIds.{is_ours}
 use Rattle.si_shard.specs.Waiting.{AddsAccess}
 use Rattle.std.proofs.Math.ListN.{drop_of_length-le}
-use Rattle.si_shard.proofs.Gathering.{AreWalked, gathered_all, none_walked, nothing_there, walked_on, walked_past}
+use Rattle.si_shard.proofs.Gathering.{AreWalked, gathered_all, none_walked, told_there, walked_on, walked_past}
 use Rattle.si_shard.proofs.waiting.gather_ops.Goals as goal
 use Rattle.si_shard.proofs.waiting.gather_ops.Goals.{then-has+in_ok-add_access, else-has}
 
@@ -46,4 +46,4 @@ pub returns-clause-touches : goal.returns-clause-touches
 returns-clause-touches c =
     let done = subst (λ l. AreWalked c.args.id c.args.ops.now c.args.head c.args.edit.now c.args.place c.loop-index.index l c.loop-index.touches c.args.lists.now c.loop-index.lists)
     (drop_of_length-le c.args.ops.now c.loop-index-test.false) c.loop-index.invariant in
-    nothing_there c.args.id c.args.ops.now c.args.head c.args.place c.loop-index.index c.loop-index.touches c.args.lists.now c.loop-index.lists c.args.edit.now c.requires.other done
+    told_there c.args.id c.args.ops.now c.args.head c.args.place c.loop-index.index c.loop-index.touches c.args.lists.now c.loop-index.lists c.args.edit.now c.requires.other done

@@ -1,4 +1,4 @@
-use Rattle.si_text.proofs.ToldLemmas.{read_told}
+use Rattle.si_text.proofs.ToldEdits.{read_told}
 use Rattle.si_text.proofs.laws.read_edits_are_told.Goals as goal
 
 pub returns : goal.returns

@@ -1,6 +1,6 @@
 use Rattle.std.proofs.Common.{◌≡◌, ◌+◌, ◌-◌, ◌++◌, length, take, arith}
 use Rattle.si_text.specs.declared.readings.TheConstants.{MOST_LINE_BYTES}
-use Rattle.si_text.proofs.InputLemmas.{kept_after, kept_more}
+use Rattle.si_text.proofs.InputItems.{kept_after, kept_more}
 use Rattle.si_text.proofs.line_buffers.keep.Goals as goal
 
 pub returns-clause-ok : goal.returns-clause-ok

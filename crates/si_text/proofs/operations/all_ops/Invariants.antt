@@ -1,4 +1,4 @@
-use Rattle.si_text.proofs.OpLemmas.{AreRead}
+use Rattle.si_text.proofs.ArrayItems.{AreRead}
 use Rattle.si_text.proofs.operations.all_ops.Given as goal
 
 abbrev pub invariant-loop-index : goal.invariant-loop-index

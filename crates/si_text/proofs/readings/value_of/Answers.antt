@@ -1,5 +1,5 @@
 use Rattle.std.proofs.Common.{◌≡◌, true, refl}
-use Rattle.si_text.proofs.ValueLemmas.{value_of_utf8, value_of_none}
+use Rattle.si_text.proofs.LineValues.{value_of_utf8, value_of_none}
 use Rattle.si_text.proofs.readings.value_of.Goals as goal
 
 pub returns-in-Ok-clause-ok : goal.returns-in-Ok-clause-ok

@@ -1,5 +1,5 @@
 use Rattle.std.proofs.Common.{length}
-use Rattle.si_text.proofs.UsualLemmas.{AreTaken}
+use Rattle.si_text.proofs.UsualTokens.{AreTaken}
 use Rattle.si_text.proofs.usual_arrivals.take_items.Given as goal
 
 abbrev pub invariant-items : goal.invariant-items

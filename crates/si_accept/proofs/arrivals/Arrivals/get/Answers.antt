@@ -1,7 +1,7 @@
 use Rattle.std.proofs.Common.{◌∙◌, sym, Some, arith}
 use Rattle.std.proofs.lemmas.Grind.{common_steps}
-use Rattle.si_accept.proofs.SlotLemmas.{slot_below, slot_is}
-use Rattle.si_accept.proofs.PlaceLemmas.{got, lacks}
+use Rattle.si_accept.proofs.FilledSlots.{slot_below, slot_is}
+use Rattle.si_accept.proofs.SlotPlaces.{got, lacks}
 use Rattle.si_accept.proofs.arrivals.Arrivals.get.Goals as goal
 
 pub index-requires : goal.index-requires

@@ -2,8 +2,8 @@ use Rattle.std.proofs.Common.{◌∙◌, ◌++◌, ◌∷◌, [], ap, sym, subst
 use Rattle.std.specs.Option.{option_to_list}
 use Rattle.si_model.specs.Edits.{with_id}
 use Rattle.si_accept.specs.Arrivals.{in_slots, ArePlaces}
-use Rattle.si_accept.proofs.SlotLemmas.{slot_at, first_slots_more}
-use Rattle.si_accept.proofs.PlaceLemmas.{not_before}
+use Rattle.si_accept.proofs.FilledSlots.{slot_at, first_slots_more}
+use Rattle.si_accept.proofs.SlotPlaces.{not_before}
 use Rattle.si_accept.proofs.arrivals.Arrivals.packed.Goals as goal
 use Rattle.si_accept.proofs.arrivals.Arrivals.packed.Goals.{in-Some+in_ok-try_clone+in_ok-push, in_default}
 

@@ -3,8 +3,8 @@ use Rattle.std.specs.Map.{lookup}
 use Rattle.std.specs.Result.{is_ok}
 use Rattle.si_model.specs.Edits.{with_id}
 use Rattle.si_accept.specs.Arrivals.{in_slots}
-use Rattle.si_accept.proofs.SlotLemmas.{few_in_slots, in_slots_pushed}
-use Rattle.si_accept.proofs.PlaceLemmas.{places_pushed}
+use Rattle.si_accept.proofs.FilledSlots.{few_in_slots, in_slots_pushed}
+use Rattle.si_accept.proofs.SlotPlaces.{places_pushed}
 use Rattle.si_accept.proofs.arrivals.Arrivals.push.Goals as goal
 
 pub overflow_add-self : goal.overflow_add-self

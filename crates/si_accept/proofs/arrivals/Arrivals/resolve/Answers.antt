@@ -4,8 +4,8 @@ use Rattle.std.proofs.lemmas.Grind.{common_steps}
 use Rattle.si_model.specs.declared.transactions.Txn.{Txn}
 use Rattle.si_model.specs.Edits.{status_after}
 use Rattle.si_accept.specs.Arrivals.{in_slots, resolved_slot, IsInSlot}
-use Rattle.si_accept.proofs.SlotLemmas.{slot_below, slot_is, one_changed, none_changed, as_map, same_many}
-use Rattle.si_accept.proofs.PlaceLemmas.{alone, absent, places_replaced}
+use Rattle.si_accept.proofs.FilledSlots.{slot_below, slot_is, one_changed, none_changed, as_map, same_many}
+use Rattle.si_accept.proofs.SlotPlaces.{alone, absent, places_replaced}
 use Rattle.si_accept.proofs.arrivals.Arrivals.resolve.Goals as goal
 
 pub index_mut-requires : goal.index_mut-requires

@@ -1,5 +1,5 @@
 use Rattle.std.proofs.Common.{arith}
-use Rattle.si_accept.proofs.SlotLemmas.{few_in_slots}
+use Rattle.si_accept.proofs.FilledSlots.{few_in_slots}
 use Rattle.si_accept.proofs.arrivals.Arrivals.slots.Goals as goal
 
 pub returns : goal.returns

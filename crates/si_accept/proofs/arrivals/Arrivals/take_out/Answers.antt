@@ -2,8 +2,8 @@ use Rattle.std.proofs.Common.{◌∙◌, ap, sym, arith, Some, None}
 use Rattle.std.proofs.Math.ListN.{set}
 use Rattle.std.proofs.lemmas.Grind.{common_steps}
 use Rattle.si_accept.specs.Arrivals.{in_slots}
-use Rattle.si_accept.proofs.SlotLemmas.{slot_below, one_changed, none_changed, as_filter, one_less}
-use Rattle.si_accept.proofs.PlaceLemmas.{alone, absent, places_emptied}
+use Rattle.si_accept.proofs.FilledSlots.{slot_below, one_changed, none_changed, as_filter, one_less}
+use Rattle.si_accept.proofs.SlotPlaces.{alone, absent, places_emptied}
 use Rattle.si_accept.proofs.arrivals.Arrivals.take_out.Goals as goal
 
 pub index_mut-requires : goal.index_mut-requires

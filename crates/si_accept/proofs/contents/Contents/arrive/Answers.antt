@@ -1,7 +1,7 @@
 use Rattle.std.proofs.Common.{◌∙◌, ◌++◌, ◌∷◌, [], ap}
 use Rattle.si_model.specs.Parts.{Present}
 use Rattle.si_model.specs.Edits.{arrival_refusal, taken_at}
-use Rattle.si_accept.proofs.ArrivalLemmas.{lacks_arrival, id_of_arrival}
+use Rattle.si_accept.proofs.NewArrivals.{lacks_arrival, id_of_arrival}
 use Rattle.si_accept.proofs.IndexChanges.{indexed_arrived, indexed_undone}
 use Rattle.si_accept.proofs.contents.Contents.arrive.Goals as goal
 

@@ -1,4 +1,4 @@
-use Rattle.si_accept.proofs.IndexLemmas.{nothing_indexed}
+use Rattle.si_accept.proofs.IndexFinds.{nothing_indexed}
 use Rattle.si_accept.proofs.contents.Contents.new.Goals as goal
 
 pub invariant_of-result : goal.invariant_of-result

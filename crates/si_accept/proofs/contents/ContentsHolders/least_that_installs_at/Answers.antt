@@ -1,6 +1,6 @@
 use Rattle.si_model.specs.Edits.{installs_at}
 use Rattle.si_accept.specs.Stamps.{has}
-use Rattle.si_accept.proofs.IndexLemmas.{least_is_one, least_from, installs_exact}
+use Rattle.si_accept.proofs.IndexFinds.{least_is_one, least_from, installs_exact}
 use Rattle.si_accept.proofs.contents.ContentsHolders.least_that_installs_at.Goals as goal
 
 pub returns : goal.returns

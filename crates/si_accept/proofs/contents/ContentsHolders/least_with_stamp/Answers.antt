@@ -1,6 +1,6 @@
 use Rattle.si_model.specs.Edits.{has_stamp}
 use Rattle.si_accept.specs.Indexes.{has_any}
-use Rattle.si_accept.proofs.IndexLemmas.{least_is_one, least_from, stamps_exact}
+use Rattle.si_accept.proofs.IndexFinds.{least_is_one, least_from, stamps_exact}
 use Rattle.si_accept.proofs.contents.ContentsHolders.least_with_stamp.Goals as goal
 
 pub returns : goal.returns

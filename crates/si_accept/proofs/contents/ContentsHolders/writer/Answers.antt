@@ -1,6 +1,6 @@
 use Rattle.std.proofs.Common.{◌∙◌}
 use Rattle.si_model.specs.declared.operations.Op.TheVariants as op
-use Rattle.si_accept.proofs.IndexLemmas.{writer_is}
+use Rattle.si_accept.proofs.IndexFinds.{writer_is}
 use Rattle.si_accept.proofs.contents.ContentsHolders.writer.Goals as goal
 
 pub returns : goal.returns

@@ -2,7 +2,7 @@ use Rattle.std.proofs.Common.{◌∙◌, ap}
 use Rattle.indexmap.proofs.CallerLemmas.{insert_entry-new}
 use Rattle.si_model.specs.Operations.{same_key}
 use Rattle.si_model.specs.Parts.{set_up_value}
-use Rattle.si_accept.proofs.SetUpLemmas.{set_up_found}
+use Rattle.si_accept.proofs.SetUpFinds.{set_up_found}
 use Rattle.si_accept.proofs.set_ups.SetUps.add.Goals as goal
 
 pub returns-clause-ok : goal.returns-clause-ok

@@ -1,4 +1,4 @@
-use Rattle.si_accept.proofs.SetUpLemmas.{none_of_none}
+use Rattle.si_accept.proofs.SetUpFinds.{none_of_none}
 use Rattle.si_accept.proofs.set_ups.SetUps.value.Goals as goal
 
 pub returns-then-is_empty : goal.returns-then-is_empty

@@ -1,6 +1,6 @@
 use Rattle.std.proofs.Common.{Some, subst, sym}
 use Rattle.si_accept.proofs.KeyPlaces.{IsGrown, grown}
-use Rattle.si_accept.proofs.WriterLemmas.{IsSetAt, writer_set, numbered_set}
+use Rattle.si_accept.proofs.WriterChanges.{IsSetAt, writer_set, numbered_set}
 use Rattle.si_accept.proofs.writers.Writers.add.Goals as goal
 
 change : (c : goal.In_ok-insert) → IsSetAt c.in_ok-number.number c.in-Write.value (Some c.args.id) (record { keys = c.self.inside.keys; ids = c.self.inside.ids.entries }) (record { keys = c.add.new.self; ids = c.insert.new.self.entries })

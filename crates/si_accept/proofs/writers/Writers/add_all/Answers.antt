@@ -1,7 +1,7 @@
 use Rattle.std.proofs.Common.{take, drop, Some, sym, subst}
 use Rattle.std.proofs.lemmas.List.{take-append-drop}
 use Rattle.si_accept.specs.Writers.{AreFree}
-use Rattle.si_accept.proofs.WriterLemmas.{undone, free_of_some}
+use Rattle.si_accept.proofs.WriterChanges.{undone, free_of_some}
 use Rattle.si_accept.proofs.writers.Writers.add_all.Goals as goal
 
 pub returns-in-Err-clause-err : goal.returns-in-Err-clause-err

@@ -1,6 +1,6 @@
 use Rattle.std.proofs.Common.{None, sym}
 use Rattle.si_accept.proofs.KeyPlaces.{unchanged}
-use Rattle.si_accept.proofs.WriterLemmas.{IsSetAt, writer_set, numbered_set}
+use Rattle.si_accept.proofs.WriterChanges.{IsSetAt, writer_set, numbered_set}
 use Rattle.si_accept.proofs.writers.Writers.remove.Goals as goal
 
 change : (c : goal.After-remove-former) → IsSetAt c.in-Some.number c.in-Write.value None (record { keys = c.self.inside.keys; ids = c.self.inside.ids.entries }) (record { keys = c.self.inside.keys; ids = c.remove-former.new.self.entries })

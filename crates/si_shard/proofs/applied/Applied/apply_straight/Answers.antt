@@ -2,27 +2,27 @@ use Rattle.std.proofs.Common.{nat_eq, subst, sym}
 use Rattle.std.specs.HashMap.{get}
 use Rattle.si_shard.specs.Applied.{head_for, ops_for}
 use Rattle.si_shard.specs.Straight.{CanBeMadeBy, IsMadeBy}
-use Rattle.si_shard.specs.Waiting.{IsNothing}
-use Rattle.si_shard.proofs.AppliedEach.{applied_next, can_be_made}
+use Rattle.si_shard.specs.Waiting.{IsTold}
+use Rattle.si_shard.proofs.AppliedEach.{applied_taken, can_be_made}
 use Rattle.si_shard.proofs.applied.Applied.apply_straight.Goals as goal
 
 pub make_each-requires-clause-can : goal.make_each-requires-clause-can
 make_each-requires-clause-can c =
-    let edits = c.args.stored.now in
+    let kept = c.args.kept.now in
     let e = c.args.edit.now in
     subst (λ h. CanBeMadeBy c.args.id c.args.ops.now h e c.args.self.now.keys) (sym c.head_of-head.ensures)
-    (subst (λ l. CanBeMadeBy c.args.id l (head_for (get nat_eq c.args.self.now.arrivals) edits e) e c.args.self.now.keys) (sym c.requires.ops)
-    (can_be_made c.args.id edits e c.args.self.now c.requires.applied c.requires.accepted))
+    (subst (λ l. CanBeMadeBy c.args.id l (head_for (get nat_eq c.args.self.now.arrivals) kept e) e c.args.self.now.keys) (sym c.requires.ops)
+    (can_be_made c.args.id kept e c.args.self.now c.requires.applied c.requires.accepted))
 
 pub returns : goal.returns
 returns c =
-    let edits = c.args.stored.now in
+    let kept = c.args.kept.now in
     let e = c.args.edit.now in
     let old = c.args.self.now in
-    let ops = ops_for (get nat_eq old.arrivals) edits e in
+    let ops = ops_for (get nat_eq old.arrivals) kept e in
     let keys = c.make_each.new.keys in
-    applied_next c.args.id edits e old c.requires.applied c.requires.accepted
-    (record { alloc = old.alloc; hash = old.hash; keys = keys; arrivals = c.set_arrival.new.arrivals }) c.in_ok-touches.touches
-    (λ q. subst (λ h. IsNothing c.args.id ops h e) c.head_of-head.ensures (subst (λ l. IsNothing c.args.id l c.head_of-head.result e) c.requires.ops (c.in_ok-touches.ensures.touches q)))
+    let touches = c.in_ok-touches.touches in
+    applied_taken c.args.id kept e old c.requires.applied (record { alloc = old.alloc; hash = old.hash; keys = keys; arrivals = c.set_arrival.new.arrivals }) touches
+    (subst (λ h. IsTold c.args.id ops h e touches) c.head_of-head.ensures (subst (λ l. IsTold c.args.id l c.head_of-head.result e touches) c.requires.ops c.in_ok-touches.ensures.touches))
     (subst (λ h. IsMadeBy c.args.id ops h e old.keys keys) c.head_of-head.ensures
     (subst (λ l. IsMadeBy c.args.id l c.head_of-head.result e old.keys keys) c.requires.ops c.in_ok-touches.ensures.made)) c.in_ok-set_arrival.ensures

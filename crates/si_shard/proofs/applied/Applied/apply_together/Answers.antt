@@ -1,30 +1,41 @@
-use Rattle.std.proofs.Common.{◌∙◌, ◌+◌, take, sym, subst}
-use Rattle.si_shard.proofs.Beginnings.{all_taken, begins_accepted, one_more_taken}
+use Rattle.std.proofs.Common.{subst}
+use Rattle.si_shard.specs.Keeping.{IsTaken}
 use Rattle.si_shard.specs.Waiting.{AreGatheredTo}
+use Rattle.si_shard.proofs.Coming.{all_come, next_come, none_come}
 use Rattle.si_shard.proofs.Leading.{nothing_waits}
 use Rattle.si_shard.proofs.applied.Applied.apply_together.Goals as goal
-use Rattle.si_shard.proofs.applied.Applied.apply_together.Goals.{then-waiting-place+in_ok-make, else-waiting-place}
 
-pub loop-place-init : goal.loop-place-init
-loop-place-init c = nothing_waits c.args.id (take c.args.from c.args.edits.now) c.args.self.now c.new-waiting.result.lists c.new-waiting.ensures c.requires.applied
+pub loop-edit-init : goal.loop-edit-init
+loop-edit-init c =
+    none_come c.args.id c.args._stored.now c.args.kept.now.items (λ edits. AreGatheredTo c.args.id edits c.args.self.now c.new-waiting.result.lists) c.requires.kept
+    (nothing_waits c.args.id c.args.kept.now.items c.args.self.now c.new-waiting.result.lists c.new-waiting.ensures c.requires.applied)
 
-pub gather-requires-clause-accepted : goal.gather-requires-clause-accepted
-gather-requires-clause-accepted c = begins_accepted c.args.edits.now c.loop-place.place c.index-edits-place.result c.loop-place-test.true c.index-edits-place.is c.requires.accepted
+pub make_many-requires : goal.make_many-requires
+make_many-requires c =
+    let e = c.edit-item.result in
+    let come = next_come c.args.id c.args._stored.now c.args.edits.now c.args.kept.now.items c.loop-edit.kept.items c.requires.accepted c.loop-edit.edit-index e c.loop-edit-test.true c.edit-item.is
+    (λ edits. AreGatheredTo c.args.id edits c.loop-edit.self c.loop-edit.waiting.lists) c.loop-edit.invariant
+    c.keep.new.kept.items c.in_ok-touches.touches (λ edits. AreGatheredTo c.args.id edits c.gather.new.self c.gather.new.waiting.lists)
+    (subst (λ l. IsTaken c.args.id l e c.in_ok-touches.touches (λ edits. AreGatheredTo c.args.id edits c.gather.new.self c.gather.new.waiting.lists)) c.as_slice.ensures.value c.in_ok-touches.ensures)
+    c.in_ok-keep.ensures.kept c.in_ok-keep.ensures.begins in
+    (c.args.id, c.keep.new.kept.items, come.made)
 
-pub loop-place-preserved : goal.loop-place-preserved
-loop-place-preserved c =
-    let next = take (c.loop-place.place + 1) c.args.edits.now in
-    let gathered : AreGatheredTo c.args.id next c.gather.new.self c.gather.new.waiting.lists =
-    subst (λ l. AreGatheredTo c.args.id l c.gather.new.self c.gather.new.waiting.lists)
-    (one_more_taken c.args.edits.now c.loop-place.place c.index-edits-place.result c.loop-place-test.true c.index-edits-place.is) c.in_ok-gather.ensures in
-    elim c.if-waiting-place.branch [
-      | then-waiting-place+in_ok-make w ↦ (let made = w.in_ok-make.ensures c.args.id next (subst (λ v. AreGatheredTo c.args.id next c.gather.new.self v.lists) (sym w.replace-gathered.ensures.value) gathered) in
-          subst (λ v. AreGatheredTo c.args.id next c.if-waiting-place.self v.lists) (sym (w.waiting-is ∙ w.replace-gathered.ensures.after))
-          (subst (λ a. AreGatheredTo c.args.id next a w.new.result.lists) (sym w.self-is) (nothing_waits c.args.id next w.make.new.self w.new.result.lists w.new.ensures made)))
-      | else-waiting-place w ↦ subst (λ v. AreGatheredTo c.args.id next c.if-waiting-place.self v.lists) (sym w.waiting-is)
-          (subst (λ a. AreGatheredTo c.args.id next a c.gather.new.waiting.lists) (sym w.self-is) gathered)
-    ]
+pub loop-edit-preserved : goal.loop-edit-preserved
+loop-edit-preserved c =
+    let e = c.edit-item.result in
+    let come = next_come c.args.id c.args._stored.now c.args.edits.now c.args.kept.now.items c.loop-edit.kept.items c.requires.accepted c.loop-edit.edit-index e c.loop-edit-test.true c.edit-item.is
+    (λ edits. AreGatheredTo c.args.id edits c.loop-edit.self c.loop-edit.waiting.lists) c.loop-edit.invariant
+    c.keep.new.kept.items c.in_ok-touches.touches (λ edits. AreGatheredTo c.args.id edits c.gather.new.self c.gather.new.waiting.lists)
+    (subst (λ l. IsTaken c.args.id l e c.in_ok-touches.touches (λ edits. AreGatheredTo c.args.id edits c.gather.new.self c.gather.new.waiting.lists)) c.as_slice.ensures.value c.in_ok-touches.ensures)
+    c.in_ok-keep.ensures.kept c.in_ok-keep.ensures.begins in
+    record { kept = come.kept; made = c.in_ok-make_many.ensures c.args.id c.keep.new.kept.items come.made; begins = come.begins }
 
-pub returns : goal.returns
-returns c = c.in_ok-make-2.ensures c.args.id c.args.edits.now
-    (subst (λ l. AreGatheredTo c.args.id l c.loop-place.self c.loop-place.waiting.lists) (all_taken c.args.edits.now c.loop-place.place c.loop-place-test.false) c.loop-place.invariant)
+pub make-requires : goal.make-requires
+make-requires c = (c.args.id, c.loop-edit.kept.items, c.loop-edit.invariant.made)
+
+pub returns-clause-kept : goal.returns-clause-kept
+returns-clause-kept c = all_come c.args.id c.args._stored.now c.args.edits.now c.args.kept.now.items c.loop-edit.kept.items
+    (λ edits. AreGatheredTo c.args.id edits c.loop-edit.self c.loop-edit.waiting.lists) c.loop-edit.edit-index c.loop-edit-test.false c.loop-edit.invariant
+
+pub returns-clause-applied : goal.returns-clause-applied
+returns-clause-applied c = c.in_ok-make.ensures c.args.id c.loop-edit.kept.items c.loop-edit.invariant.made

@@ -1,4 +1,4 @@
-use Rattle.si_text.proofs.InputLemmas.{ended_as}
+use Rattle.si_text.proofs.InputItems.{ended_as}
 use Rattle.si_text.proofs.line_buffers.LineBuffer.end_line.Goals as goal
 
 pub returns-clause-items : goal.returns-clause-items

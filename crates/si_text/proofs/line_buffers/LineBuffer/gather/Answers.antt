@@ -1,7 +1,7 @@
 use Rattle.std.proofs.Common.{◌+◌, lit<}
 use Rattle.si_text.specs.declared.readings.TheConstants.{MOST_LINE_BYTES}
-use Rattle.si_text.proofs.FeedLemmas.{behind}
-use Rattle.si_text.proofs.InputLemmas.{gathered_as, held_shrinks, kept_without}
+use Rattle.si_text.proofs.LineFeeds.{behind}
+use Rattle.si_text.proofs.InputItems.{gathered_as, held_shrinks, kept_without}
 use Rattle.si_text.proofs.line_buffers.LineBuffer.gather.Goals as goal
 
 pub invariant_of-self-2-clause-unended : goal.invariant_of-self-2-clause-unended

@@ -1,4 +1,4 @@
-use Rattle.si_text.proofs.InputLemmas.{last_as}
+use Rattle.si_text.proofs.InputItems.{last_as}
 use Rattle.si_text.proofs.line_buffers.LineBuffer.last_item.Goals as goal
 
 pub returns-clause-items : goal.returns-clause-items

@@ -1,6 +1,6 @@
 use Rattle.std.proofs.Common.{◌+◌, ◌≤◌, length, arith}
 use Rattle.std.proofs.lemmas.List.{drop_all}
-use Rattle.si_text.proofs.DeviceLemmas.{given_piece}
+use Rattle.si_text.proofs.MemoryReads.{given_piece}
 use Rattle.si_text.proofs.memory.MemorySourceByteSource.read.Goals as goal
 
 pub returns-clause-bytes : goal.returns-clause-bytes

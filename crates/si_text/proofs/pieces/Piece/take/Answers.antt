@@ -1,6 +1,6 @@
 use Rattle.std.proofs.Common.{◌-◌, ◌≤◌, length, drop, ap, ◌∙◌, arith}
 use Rattle.std.proofs.lemmas.List.{length-take, length-drop}
-use Rattle.si_text.proofs.PieceLemmas.{part_past}
+use Rattle.si_text.proofs.Between.{part_past}
 use Rattle.si_text.proofs.pieces.Piece.take.Goals as goal
 
 pub returns : goal.returns
