@@ -4,7 +4,6 @@ pub mod Applied
 pub mod Changes
 pub mod Keeping
 pub mod Keyed
-pub mod Past
 pub mod Shards
 pub mod Straight
 pub mod Waiting

@@ -1,89 +1,60 @@
 //! The list of the stored edits, of which contracts alone know more than the number.
 
-ghost use Rattle.std.specs.Prelude.{◌≡◌, [], ◌∷◌, ◌++◌, length, IfOk};
-ghost use Rattle.si_shard.specs.Past.{edits_of};
+ghost use Rattle.std.specs.Prelude.{◌≡◌, [], ◌∷◌, ◌++◌, length, OnOk, OnErr};
 
 use si_model::{Edit, OutOfMemory};
-use std::alloc::AllocError;
+use std::alloc::Global;
 use std::marker::Model;
 use std::snapshot::Snapshot;
 
-/// Edits, one after the other. A snapshot has no bytes, so none of them is here at run time.
-#[derive(Drop)]
-pub enum Past {
-    /// None.
-    Nothing,
-    /// The same edits.
-    Again(Snapshot<Past>),
-    /// Those, and the edit after them.
-    After(Snapshot<Past>, Snapshot<Edit>),
-}
-
-/// How many edits are stored, and to contracts which they are.
+/// How many edits are stored, and to contracts which they are. A snapshot has no bytes, so none of them is here at run time.
 #[derive(Drop)]
 pub struct Stored {
-    past: Past,
-    count: u64,
+    edits: Vec<Snapshot<Edit>>,
 }
 
 impl Model for Stored {
-    ghost use Rattle.std.specs.Prelude.{◌≡◌, List, length};
+    ghost use Rattle.std.specs.Prelude.{List, map};
     ghost use Rattle.si_model.specs.declared.edits.Edit.{Edit};
-    ghost use Rattle.si_shard.specs.Past.{edits_of};
 
     ghost Value = { List Edit };
 
-    ghost view = { λ s. edits_of s.past };
-
-    ghost invariant = { λ s. s.count ≡ length (edits_of s.past) };
+    ghost view = { λ s. map (λ e. e.value) s.edits.items };
 }
 
 impl Stored {
-    pub fn new() -> Self
+    pub fn new(alloc: Global) -> Self
         ensures { result ≡ [] }
     {
         Stored {
-            past: Past::Nothing,
-            count: 0,
+            edits: Vec::new(alloc),
         }
     }
 
     pub fn count(&self) -> u64
         ensures { result ≡ length self.now }
     {
-        self.count
+        self.edits.len() as u64
     }
 
-    /// These and the edit after them. It fails only where so many can't be counted.
-    pub fn with(&self, edit: &Edit) -> Result<Self, OutOfMemory>
-        ensures { IfOk result (λ all. all ≡ self.now ++ edit.now ∷ []) }
+    /// The edit comes after these. Where memory was refused nothing changes.
+    pub fn push(&mut self, edit: Snapshot<Edit>) -> Result<(), OutOfMemory>
+        ensures ok { OnOk result (self.new ≡ self.old ++ edit.value ∷ []) }
+        ensures err { OnErr result (self.new ≡ self.old) }
     {
-        let Some(count) = self.count.checked_add(1) else {
-            return Err(AllocError);
-        };
-        Ok(Stored {
-            past: Past::After(Snapshot::of(&self.past), Snapshot::of(edit)),
-            count,
-        })
+        self.edits.push(edit)?;
+        Ok(())
     }
 
-    /// These and the edits after them. It fails only where so many can't be counted.
-    pub fn with_all(&self, edits: &[Edit]) -> Result<Self, OutOfMemory>
-        ensures { IfOk result (λ all. all ≡ self.now ++ edits.now) }
+    /// The edits come after these. Where memory was refused nothing changes.
+    pub fn push_all(&mut self, edits: &[Edit]) -> Result<(), OutOfMemory>
+        ensures ok { OnOk result (self.new ≡ self.old ++ edits.now) }
+        ensures err { OnErr result (self.new ≡ self.old) }
     {
-        let mut all = self.again();
+        self.edits.reserve(edits.len())?;
         for edit in edits {
-            all = all.with(edit)?;
+            self.edits.push(Snapshot::of(edit)).unwrap();
         }
-        Ok(all)
-    }
-
-    fn again(&self) -> Self
-        ensures { result ≡ self.now }
-    {
-        Stored {
-            past: Past::Again(Snapshot::of(&self.past)),
-            count: self.count,
-        }
+        Ok(())
     }
 }

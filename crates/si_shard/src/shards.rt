@@ -2,7 +2,7 @@ ghost use Rattle.std.specs.Prelude.{◌≡◌, ◌↔◌, ℕ, ◌+◌, ◌<◌,
 ghost use Rattle.si_model.specs.Journals.{IsAccepted, present};
 ghost use Rattle.si_judge.specs.declared.states.KeyFault.TheVariants as fault;
 ghost use Rattle.si_shard.specs.Applied.{AreApplied};
-ghost use Rattle.si_shard.specs.Keeping.{AreKept};
+ghost use Rattle.si_shard.specs.Keeping.{AreKept, BeginsWith};
 ghost use Rattle.si_shard.specs.Shards.{findings_in};
 
 use crate::applied::Applied;
@@ -13,6 +13,7 @@ use si_model::{Edit, Finding, Number, OutOfMemory};
 use std::alloc::Global;
 use std::hash::RandomState;
 use std::marker::Model;
+use std::snapshot::Snapshot;
 
 /// The most shards that keys may be spread over.
 pub const MOST_SHARDS: usize = 16;
@@ -57,7 +58,7 @@ impl Shard {
             alloc,
             hash,
             id: ShardId { shard, shards },
-            stored: Stored::new(),
+            stored: Stored::new(alloc),
             kept: Vec::new(alloc),
             applied: Applied::new(alloc, hash),
             spoiled: false,
@@ -79,15 +80,19 @@ impl Shard {
             return Err(KeyFault::Spoiled);
         }
         self.spoiled = true;
-        let stored = self.stored.with(&edit)?;
-        apply_and_keep(
+        let kept = self.kept.len();
+        if take_in(
             &mut self.applied,
             &mut self.kept,
-            &self.stored,
+            &mut self.stored,
             edit,
             self.id,
-        )?;
-        self.stored = stored;
+        )
+        .is_err()
+        {
+            self.kept.truncate(kept);
+            return Err(KeyFault::OutOfMemory);
+        }
         self.spoiled = false;
         Ok(())
     }
@@ -107,17 +112,19 @@ impl Shard {
             return Err(KeyFault::Spoiled);
         }
         self.spoiled = true;
-        let stored = self.stored.with_all(edits)?;
         let before = self.kept.len();
-        if self
-            .applied
-            .apply_all(&mut self.kept, &self.stored, edits, self.id)
-            .is_err()
+        if take_in_all(
+            &mut self.applied,
+            &mut self.kept,
+            &mut self.stored,
+            edits,
+            self.id,
+        )
+        .is_err()
         {
             self.kept.truncate(before);
             return Err(KeyFault::OutOfMemory);
         }
-        self.stored = stored;
         self.spoiled = false;
         Ok(())
     }
@@ -163,6 +170,30 @@ impl Shard {
     }
 }
 
+/// Applies the edit, stores it, and keeps it where it is anything on the shard's keys. Where memory was refused it may be kept.
+fn take_in(
+    applied: &mut Applied,
+    kept: &mut Vec<Edit>,
+    stored: &mut Stored,
+    edit: Edit,
+    id: ShardId,
+) -> Result<(), OutOfMemory>
+    requires shards { 0 < id.shards }
+    requires kept { AreKept id stored.old kept.old.items }
+    requires applied { AreApplied id kept.old.items applied.old }
+    requires accepted { IsAccepted (stored.old ++ edit ∷ []) }
+    ensures stored { OnOk result (stored.new ≡ stored.old ++ edit ∷ []) }
+    ensures kept { OnOk result (AreKept id stored.new kept.new.items) }
+    ensures applied { OnOk result (AreApplied id kept.new.items applied.new) }
+    ensures refused { OnErr result (stored.new ≡ stored.old) }
+    ensures begins { BeginsWith kept.old.items kept.new.items }
+{
+    let last = Snapshot::of(&edit);
+    apply_and_keep(applied, kept, stored, edit, id)?;
+    stored.push(last)?;
+    Ok(())
+}
+
 /// Applies the edit, which comes after the stored ones, and keeps it where it is anything on the shard's keys.
 fn apply_and_keep(
     applied: &mut Applied,
@@ -177,13 +208,36 @@ fn apply_and_keep(
     requires accepted { IsAccepted (_stored.now ++ edit ∷ []) }
     ensures kept { OnOk result (AreKept id (_stored.now ++ edit ∷ []) kept.new.items) }
     ensures applied { OnOk result (AreApplied id kept.new.items applied.new) }
-    ensures refused { OnErr result (kept.new.items ≡ kept.old.items) }
+    ensures begins { BeginsWith kept.old.items kept.new.items }
 {
-    kept.reserve(1)?;
     if applied.apply(kept.as_slice(), &edit, id)? {
-        kept.push(edit).unwrap();
+        kept.push(edit)?;
         return Ok(());
     }
+    Ok(())
+}
+
+/// Applies the edits, stores them, and keeps those that are anything on the shard's keys. Where memory was refused a part of them may
+/// be kept.
+fn take_in_all(
+    applied: &mut Applied,
+    kept: &mut Vec<Edit>,
+    stored: &mut Stored,
+    edits: &[Edit],
+    id: ShardId,
+) -> Result<(), OutOfMemory>
+    requires shards { 0 < id.shards }
+    requires kept { AreKept id stored.old kept.old.items }
+    requires applied { AreApplied id kept.old.items applied.old }
+    requires accepted { IsAccepted (stored.old ++ edits.now) }
+    ensures stored { OnOk result (stored.new ≡ stored.old ++ edits.now) }
+    ensures kept { OnOk result (AreKept id stored.new kept.new.items) }
+    ensures applied { OnOk result (AreApplied id kept.new.items applied.new) }
+    ensures refused { OnErr result (stored.new ≡ stored.old) }
+    ensures begins { BeginsWith kept.old.items kept.new.items }
+{
+    applied.apply_all(kept, stored, edits, id)?;
+    stored.push_all(edits)?;
     Ok(())
 }
 
