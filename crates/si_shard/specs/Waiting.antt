@@ -32,6 +32,15 @@ waiting_at lists x = changes_in (get same_key lists x)
 abbrev pub AreBefore : {S : Type 0} → ℕ → HashMap (List ℕ) Waits S → Type 0
 AreBefore n lists = (x : List ℕ) (list : Waits) → get same_key lists x ≡ Some list → list.last < n
 
+-- ---- one change
+
+-- the change waits for the key x after what waits there, as one of the edit before which n are, and nothing else changes
+pub record AddsChange {S : Type 0} (c : Change) (n : ℕ) (x : List ℕ) (old new : HashMap (List ℕ) Waits S) : Type 0 where
+  pub list : Waits
+  pub changes : list.changes.items ≡ waiting_at old x ++ c ∷ []
+  pub last : list.last ≡ n
+  pub updates : Updates same_key old new x (Some list)
+
 -- ---- one access
 
 -- the last change, where it is what the edit is on a key with these accesses, has one more
