@@ -19,6 +19,7 @@ use Rattle.si_shard.specs.declared.shard_ids.ShardId.{ShardId}
 use Rattle.si_shard.specs.declared.waiting.Head.{Head}
 use Rattle.si_shard.specs.declared.waiting.Waits.{Waits}
 use Rattle.si_shard.specs.Applied.{IsAccessChange, change_by}
+use Rattle.si_shard.specs.Changes.{with_access}
 use Rattle.si_shard.specs.ShardIds.{is_ours}
 use Rattle.si_shard.specs.Waiting.{AddsAccess, AddsChange, AddsToSome, AreBefore, IsGathered, IsTold, changes_in, waiting_at}
 
@@ -48,6 +49,13 @@ pub record AreWalked {S : Type 0} (id : ShardId) (ops : List Op) (h : Head) (e :
 pub none_walked : {S : Type 0} (id : ShardId) (ops : List Op) (h : Head) (e : Edit) (n : ℕ) (lists : HashMap (List ℕ) Waits S) → AreWalked id ops h e n 0 ops false lists lists
 none_walked id ops h e n lists = record { ours = λ x o. ([], refl, refl); others = λ x o. refl; quiet = λ q x o. refl; loud = λ q. cc }
 
+-- what the edit is on a key, with one more access
+with_access_by : (h : Head) (e : Edit) (ys : List Placed) (p : Placed) → with_access p (change_by h e ys) ≡ change_by h e (ys ++ p ∷ [])
+with_access_by h (edit.Arrive T) ys p = refl
+with_access_by h (edit.Resolve u o) ys p = refl
+with_access_by h (edit.Withdraw u) ys p = refl
+with_access_by h (edit.SetUp x v) ys p = refl
+
 -- one more access after those that were walked
 walked_once : (h : Head) (e : Edit) (n : ℕ) (ys : List Placed) (p : Placed) (old mid : Option Waits) (new : Waits) → ((list : Waits) → old ≡ Some list → list.last < n) → new.last ≡ n
     → AddsToSome h e n p mid new.changes.items → IsWalkedTo h e n ys old mid → IsWalkedTo h e n (ys ++ p ∷ []) old (Some new)
@@ -63,7 +71,7 @@ walked_once h e n [] p old mid new before last adds walked = (new, refl, last, b
         let differs : m.last ≢ n = λ f. (let g : o.last ≡ n = ap (λ (l : Waits). l.last) (sym same) ∙ f in absurd (omega arith)) in
         a.1 differs ∙ ap (λ (l : Waits). l.changes.items ++ change_by h e (p ∷ []) ∷ []) same
 walked_once h e n (y ∷ ys) p old mid new before last adds (list, is, at, items) =
-    (new, refl, last, (subst (λ o. AddsToSome h e n p o new.changes.items) is adds).0 at (changes_in old) (y ∷ ys) items)
+    (new, refl, last, (subst (λ o. AddsToSome h e n p o new.changes.items) is adds).0 at (changes_in old) (change_by h e (y ∷ ys)) items ∙ ap (λ c. changes_in old ++ c ∷ []) (with_access_by h e (y ∷ ys) p))
 
 module _ {S : Type 0} (id : ShardId) (ops : List Op) (h : Head) (e : Edit) (n i : ℕ) (p : Op) (left : List Op) (old mid : HashMap (List ℕ) Waits S) where
   next : (x : List ℕ) (b : Bool) → same_key (key_of p) x ≡ b → from_on x i (p ∷ left) ≡ cons_option (cond b (Some (record { place = i; access = access_of p })) None) (from_on x (i + 1) left)

@@ -1,16 +1,12 @@
 //! Changes of many edits that wait until they are made, each list under its key.
 
-ghost use Rattle.std.specs.Prelude.{◌≡◌, ◌<◌, ℕ, List, [], ◌∷◌, ◌++◌, None, IfOk, OnOk};
+ghost use Rattle.std.specs.Prelude.{◌≡◌, ◌<◌, ℕ, List, [], ◌∷◌, ◌++◌, None, IfOk, OnErr, OnOk};
 ghost use Rattle.std.specs.HashMap.{get};
-ghost use Rattle.si_model.specs.declared.edits.Edit.{Edit};
 ghost use Rattle.si_model.specs.declared.edits.Edit.TheVariants as variant;
-ghost use Rattle.si_model.specs.declared.parts.Placed.{Placed};
 ghost use Rattle.si_model.specs.declared.numbers.Value.{Value as Written};
 ghost use Rattle.si_model.specs.Operations.{same_key};
-ghost use Rattle.si_shard.specs.declared.changes.Change.{Change};
 ghost use Rattle.si_shard.specs.declared.waiting.Head.{Head};
-ghost use Rattle.si_shard.specs.Applied.{IsChangeOn, change_by, part_by};
-ghost use Rattle.si_shard.specs.ShardIds.{is_ours};
+ghost use Rattle.si_shard.specs.Applied.{change_by, part_by};
 ghost use Rattle.si_shard.specs.Waiting.{AddsAccess, AddsChange, AddsTo, AddsToLast, AreBefore, IsGathered, IsTold};
 
 use crate::changes::Change;
@@ -223,30 +219,13 @@ fn add_to(
 
 /// One more access in the last change.
 fn add_to_last(changes: &mut Vec<Change>, placed: Placed) -> Result<(), OutOfMemory>
-    ensures { OnOk result ((h : Head) (e : Edit) → AddsToLast h e placed changes.old.items changes.new.items) }
+    ensures ok { OnOk result (AddsToLast placed changes.old.items changes.new.items) }
+    ensures err { OnErr result (changes.new.items ≡ changes.old.items) }
 {
-    match changes.pop() {
-        Some(Change::Arrive(part)) => changes.push(Change::Arrive(with_access(part, placed)?))?,
-        Some(Change::Resolve(part, outcome)) => {
-            let part = with_access(part, placed)?;
-            changes.push(Change::Resolve(part, outcome))?;
-        }
-        Some(Change::Withdraw(part)) => {
-            let part = with_access(part, placed)?;
-            changes.push(Change::Withdraw(part))?;
-        }
-        Some(set_up) => changes.push(set_up)?,
-        None => {}
+    match changes.last_mut() {
+        Some(change) => change.add_access(placed),
+        None => Ok(()),
     }
-    Ok(())
-}
-
-fn with_access(part: Part, placed: Placed) -> Result<Part, OutOfMemory>
-    ensures { IfOk result (λ more. more ≡ record part { accesses = part.accesses ++ placed ∷ [] }) }
-{
-    let mut part = part;
-    part.accesses.push(placed)?;
-    Ok(part)
 }
 
 /// What the edit is on a key where its transaction has this access.
