@@ -19,8 +19,9 @@ use Rattle.si_shard.specs.declared.shard_ids.ShardId.{ShardId}
 use Rattle.si_shard.specs.declared.waiting.Head.{Head}
 use Rattle.si_shard.specs.declared.waiting.Waits.{Waits}
 use Rattle.si_shard.specs.Applied.{IsAccessChange, change_by}
+use Rattle.si_shard.specs.Changes.{with_access}
 use Rattle.si_shard.specs.ShardIds.{is_ours}
-use Rattle.si_shard.specs.Waiting.{AddsAccess, AddsToSome, AreBefore, IsGathered, IsTold, changes_in}
+use Rattle.si_shard.specs.Waiting.{AddsAccess, AddsChange, AddsToSome, AreBefore, IsGathered, IsTold, changes_in, waiting_at}
 
 -- ---- the operations that are left
 
@@ -48,6 +49,13 @@ pub record AreWalked {S : Type 0} (id : ShardId) (ops : List Op) (h : Head) (e :
 pub none_walked : {S : Type 0} (id : ShardId) (ops : List Op) (h : Head) (e : Edit) (n : ℕ) (lists : HashMap (List ℕ) Waits S) → AreWalked id ops h e n 0 ops false lists lists
 none_walked id ops h e n lists = record { ours = λ x o. ([], refl, refl); others = λ x o. refl; quiet = λ q x o. refl; loud = λ q. cc }
 
+-- what the edit is on a key, with one more access
+with_access_by : (h : Head) (e : Edit) (ys : List Placed) (p : Placed) → with_access p (change_by h e ys) ≡ change_by h e (ys ++ p ∷ [])
+with_access_by h (edit.Arrive T) ys p = refl
+with_access_by h (edit.Resolve u o) ys p = refl
+with_access_by h (edit.Withdraw u) ys p = refl
+with_access_by h (edit.SetUp x v) ys p = refl
+
 -- one more access after those that were walked
 walked_once : (h : Head) (e : Edit) (n : ℕ) (ys : List Placed) (p : Placed) (old mid : Option Waits) (new : Waits) → ((list : Waits) → old ≡ Some list → list.last < n) → new.last ≡ n
     → AddsToSome h e n p mid new.changes.items → IsWalkedTo h e n ys old mid → IsWalkedTo h e n (ys ++ p ∷ []) old (Some new)
@@ -63,7 +71,7 @@ walked_once h e n [] p old mid new before last adds walked = (new, refl, last, b
         let differs : m.last ≢ n = λ f. (let g : o.last ≡ n = ap (λ (l : Waits). l.last) (sym same) ∙ f in absurd (omega arith)) in
         a.1 differs ∙ ap (λ (l : Waits). l.changes.items ++ change_by h e (p ∷ []) ∷ []) same
 walked_once h e n (y ∷ ys) p old mid new before last adds (list, is, at, items) =
-    (new, refl, last, (subst (λ o. AddsToSome h e n p o new.changes.items) is adds).0 at (changes_in old) (y ∷ ys) items)
+    (new, refl, last, (subst (λ o. AddsToSome h e n p o new.changes.items) is adds).0 at (changes_in old) (change_by h e (y ∷ ys)) items ∙ ap (λ c. changes_in old ++ c ∷ []) (with_access_by h e (y ∷ ys) p))
 
 module _ {S : Type 0} (id : ShardId) (ops : List Op) (h : Head) (e : Edit) (n i : ℕ) (p : Op) (left : List Op) (old mid : HashMap (List ℕ) Waits S) where
   next : (x : List ℕ) (b : Bool) → same_key (key_of p) x ≡ b → from_on x i (p ∷ left) ≡ cons_option (cond b (Some (record { place = i; access = access_of p })) None) (from_on x (i + 1) left)
@@ -171,29 +179,18 @@ module _ {S : Type 0} (id : ShardId) (ops : List Op) (h : Head) (n i : ℕ) (tou
 
 -- ---- a set-up
 
-module _ {S : Type 0} (id : ShardId) (ops : List Op) (h : Head) (y : List ℕ) (v : Value) (n : ℕ) (old : HashMap (List ℕ) Waits S) where
-  pub set_up_gathered : (p : Placed) (new : HashMap (List ℕ) Waits S) → is_ours id y ≡ true → AreBefore n old → AddsAccess h (edit.SetUp y v) n y p old new → IsGathered id ops h (edit.SetUp y v) n old new
-  set_up_gathered p new ours before adds = record {
+module _ {S : Type 0} (id : ShardId) (ops : List Op) (h : Head) (y : List ℕ) (v : Value) (n : ℕ) (old new : HashMap (List ℕ) Waits S) where
+  pub set_up_gathered : is_ours id y ≡ true → AddsChange (change.SetUp v) n y old new → IsGathered id ops h (edit.SetUp y v) n old new
+  set_up_gathered ours adds = record {
     changed = λ x c o k. (
       adds.list,
       adds.updates.0 x ∙ ap (λ b. cond b (Some adds.list) (get same_key old x)) (same_key_from y x (sym k.0)),
       adds.last,
-      items (get same_key old y) (before y) adds.changes ∙ ap (λ z. changes_in (get same_key old z) ++ change.SetUp v ∷ []) (sym k.0) ∙ ap (λ d. changes_in (get same_key old x) ++ d ∷ []) (sym k.1),
+      adds.changes ∙ ap (λ z. waiting_at old z ++ change.SetUp v ∷ []) (sym k.0) ∙ ap (λ d. waiting_at old x ++ d ∷ []) (sym k.1),
     );
     others = λ x none. adds.updates.0 x ∙ by x none (same_key y x) refl;
   }
     where
-      items : (o : Option Waits) → ((list : Waits) → o ≡ Some list → list.last < n) → AddsToSome h (edit.SetUp y v) n p o adds.list.changes.items → adds.list.changes.items ≡ changes_in o ++ change.SetUp v ∷ []
-      items None b a = a
-      items (Some l) b a = a.1 (λ f. (let earlier = b l refl in absurd (omega arith)))
-
       by : (x : List ℕ) → (is_ours id x ≡ true → (c : Change) → (x ≡ y) × (c ≡ change.SetUp v) → ⊥) → (b : Bool) → same_key y x ≡ b → cond (same_key y x) (Some adds.list) (get same_key old x) ≡ get same_key old x
       by x none true s = (let is = same_key_is y x s in absurd (none (ap (is_ours id) (sym is) ∙ ours) (change.SetUp v) (sym is, refl)))
       by x none false s = ap (λ b. cond b (Some adds.list) (get same_key old x)) s
-
--- it's told whether the key is of the shard
-pub set_up_told : (id : ShardId) (ops : List Op) (h : Head) (y : List ℕ) (v : Value) (touches : Bool) → touches ≡ is_ours id y → IsTold id ops h (edit.SetUp y v) touches
-set_up_told id ops h y v touches is = record {
-  nothing = λ q x c o k. (let no : false ≡ true = sym q ∙ is ∙ ap (is_ours id) (sym k.0) ∙ o in cc);
-  something = λ q. (y, change.SetUp v, sym is ∙ q, (refl, refl));
-}

@@ -1,6 +1,7 @@
 pub mod OnKeys
 pub mod Together
 pub mod Gathering
+pub mod LastChange
 pub mod ArrivalPlaces
 pub mod KeyChanges
 pub mod Concerning

@@ -1,13 +1,21 @@
 -- What an edit is on one key. All of it is this project's choice.
-use Rattle.std.specs.Prelude.{◌≡◌, List, [], ◌∷◌, None, ⊤}
+use Rattle.std.specs.Prelude.{◌≡◌, List, [], ◌∷◌, ◌++◌, None, ⊤}
 use Rattle.std.specs.List.{Contains}
 use Rattle.si_model.specs.declared.parts.OnKey.{OnKey}
+use Rattle.si_model.specs.declared.parts.Placed.{Placed}
 use Rattle.si_model.specs.Findings.{cases}
 use Rattle.si_model.specs.KeyEdits.{arrived_on, resolved_on, set_up_on, withdrawn_on}
 use Rattle.si_model.specs.History.{IsOfHistory}
 use Rattle.si_judge.specs.Kept.{IsInDoubt, Kept, Shows}
 use Rattle.si_shard.specs.declared.changes.Change.{Change}
 use Rattle.si_shard.specs.declared.changes.Change.TheVariants as change
+
+-- the change, whose transaction accesses the key once more; none makes a set-up
+abbrev pub with_access : Placed → Change → Change
+with_access p (change.Arrive T) = change.Arrive (record T { accesses = T.accesses ++ p ∷ [] })
+with_access p (change.Resolve T o) = change.Resolve (record T { accesses = T.accesses ++ p ∷ [] }) o
+with_access p (change.Withdraw T) = change.Withdraw (record T { accesses = T.accesses ++ p ∷ [] })
+with_access p (change.SetUp v) = change.SetUp v
 
 -- what is on the key after the change
 abbrev pub changed_on : Change → OnKey → OnKey

@@ -15,7 +15,7 @@ use Rattle.si_shard.specs.declared.shard_ids.ShardId.{ShardId}
 use Rattle.si_shard.specs.declared.waiting.Head.{Head}
 use Rattle.si_shard.specs.declared.waiting.Waits.{Waits}
 use Rattle.si_shard.specs.Applied.{AreArrivals, IsChangeOn, change_by}
-use Rattle.si_shard.specs.Changes.{LeadsTo}
+use Rattle.si_shard.specs.Changes.{LeadsTo, with_access}
 use Rattle.si_shard.specs.Keyed.{IsOn}
 use Rattle.si_shard.specs.ShardIds.{is_ours}
 
@@ -32,15 +32,24 @@ waiting_at lists x = changes_in (get same_key lists x)
 abbrev pub AreBefore : {S : Type 0} → ℕ → HashMap (List ℕ) Waits S → Type 0
 AreBefore n lists = (x : List ℕ) (list : Waits) → get same_key lists x ≡ Some list → list.last < n
 
+-- ---- one change
+
+-- the change waits for the key x after what waits there, as one of the edit before which n are, and nothing else changes
+pub record AddsChange {S : Type 0} (c : Change) (n : ℕ) (x : List ℕ) (old new : HashMap (List ℕ) Waits S) : Type 0 where
+  pub list : Waits
+  pub changes : list.changes.items ≡ waiting_at old x ++ c ∷ []
+  pub last : list.last ≡ n
+  pub updates : Updates same_key old new x (Some list)
+
 -- ---- one access
 
--- the last change, where it is what the edit is on a key with these accesses, has one more
-abbrev pub AddsToLast : Head → Edit → Placed → List Change → List Change → Type 0
-AddsToLast h e p old new = (cs : List Change) (ys : List Placed) → old ≡ cs ++ change_by h e ys ∷ [] → new ≡ cs ++ change_by h e (ys ++ p ∷ []) ∷ []
+-- the last change, if there is one, has one more access
+abbrev pub AddsToLast : Placed → List Change → List Change → Type 0
+AddsToLast p old new = (cs : List Change) (c : Change) → old ≡ cs ++ c ∷ [] → new ≡ cs ++ with_access p c ∷ []
 
 -- the last change has one more access where it is of the edit, before which n are; else there is a new one with this access
 abbrev pub AddsTo : Head → Edit → ℕ → Placed → Waits → List Change → Type 0
-AddsTo h e n p old new = (old.last ≡ n → AddsToLast h e p old.changes.items new) × (old.last ≢ n → new ≡ old.changes.items ++ change_by h e (p ∷ []) ∷ [])
+AddsTo h e n p old new = (old.last ≡ n → AddsToLast p old.changes.items new) × (old.last ≢ n → new ≡ old.changes.items ++ change_by h e (p ∷ []) ∷ [])
 
 -- the same where there may be no list
 abbrev pub AddsToSome : Head → Edit → ℕ → Placed → Option Waits → List Change → Type 0

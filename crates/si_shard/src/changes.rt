@@ -1,13 +1,13 @@
 //! What an edit is on one key.
 
-ghost use Rattle.std.specs.Prelude.{OnOk};
+ghost use Rattle.std.specs.Prelude.{◌≡◌, OnErr, OnOk};
 ghost use Rattle.si_model.specs.declared.parts.OnKey.{OnKey};
 ghost use Rattle.si_model.specs.Findings.{cases};
 ghost use Rattle.si_judge.specs.Kept.{Shows};
-ghost use Rattle.si_shard.specs.Changes.{AreMade, CanChange, IsChanged, LeadsTo};
+ghost use Rattle.si_shard.specs.Changes.{AreMade, CanChange, IsChanged, LeadsTo, with_access};
 
 use si_judge::{Cases, KeyFault, KeyFindings};
-use si_model::{OutOfMemory, Outcome, Part, Value};
+use si_model::{OutOfMemory, Outcome, Part, Placed, Value};
 use std::alloc::AllocError;
 
 /// What an edit is on one key that it touches. A resolution and a withdrawal have the part as it is before them.
@@ -21,6 +21,23 @@ pub enum Change {
     Withdraw(Part),
     /// The key was set up with the value.
     SetUp(Value),
+}
+
+impl Change {
+    /// The transaction accesses the key once more. A set-up stays as it is, since no transaction makes it.
+    ///
+    /// If memory is refused, nothing changes.
+    pub fn add_access(&mut self, placed: Placed) -> Result<(), OutOfMemory>
+        ensures ok { OnOk result (self.new ≡ with_access placed self.old) }
+        ensures err { OnErr result (self.new ≡ self.old) }
+    {
+        match self {
+            Change::Arrive(part) => part.accesses.push(placed),
+            Change::Resolve(part, _) => part.accesses.push(placed),
+            Change::Withdraw(part) => part.accesses.push(placed),
+            Change::SetUp(_) => Ok(()),
+        }
+    }
 }
 
 /// Makes the changes of one key, one after the other. Its findings aren't spoiled, so that it fails only where memory is refused.

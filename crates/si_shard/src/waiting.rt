@@ -1,23 +1,19 @@
 //! Changes of many edits that wait until they are made, each list under its key.
 
-ghost use Rattle.std.specs.Prelude.{◌≡◌, ◌<◌, ℕ, List, true, [], ◌∷◌, ◌++◌, None, IfOk, OnOk};
+ghost use Rattle.std.specs.Prelude.{◌≡◌, ◌<◌, ℕ, List, [], ◌∷◌, ◌++◌, None, IfOk, OnErr, OnOk};
 ghost use Rattle.std.specs.HashMap.{get};
-ghost use Rattle.si_model.specs.declared.edits.Edit.{Edit};
 ghost use Rattle.si_model.specs.declared.edits.Edit.TheVariants as variant;
-ghost use Rattle.si_model.specs.declared.parts.Placed.{Placed};
-ghost use Rattle.si_model.specs.declared.numbers.Value.{Value};
+ghost use Rattle.si_model.specs.declared.numbers.Value.{Value as Written};
 ghost use Rattle.si_model.specs.Operations.{same_key};
-ghost use Rattle.si_shard.specs.declared.changes.Change.{Change};
 ghost use Rattle.si_shard.specs.declared.waiting.Head.{Head};
-ghost use Rattle.si_shard.specs.Applied.{IsChangeOn, change_by, part_by};
-ghost use Rattle.si_shard.specs.ShardIds.{is_ours};
-ghost use Rattle.si_shard.specs.Waiting.{AddsAccess, AddsTo, AddsToLast, AreBefore, IsGathered, IsTold};
+ghost use Rattle.si_shard.specs.Applied.{change_by, part_by};
+ghost use Rattle.si_shard.specs.Waiting.{AddsAccess, AddsChange, AddsTo, AddsToLast, AreBefore, IsGathered, IsTold};
 
 use crate::changes::Change;
 use crate::shard_ids::ShardId;
 use indexmap::IndexMap;
 use si_model::parts::Accesses;
-use si_model::{Edit, Key, Op, OutOfMemory, Part, Placed, Stamp, Status, TxnId};
+use si_model::{Edit, Key, Op, OutOfMemory, Part, Placed, Stamp, Status, TxnId, Value};
 use std::alloc::Global;
 use std::hash::RandomState;
 
@@ -35,6 +31,18 @@ pub struct Waits {
     pub changes: Vec<Change>,
     /// How many kept edits are before that of the last change.
     pub last: usize,
+}
+
+impl Waits {
+    /// One more change, of the edit before which so many are kept.
+    fn push(&mut self, change: Change, place: usize) -> Result<(), OutOfMemory>
+        ensures changes { OnOk result (self.new.changes.items ≡ self.old.changes.items ++ change ∷ []) }
+        ensures last { OnOk result (self.new.last ≡ place) }
+    {
+        self.changes.push(change)?;
+        self.last = place;
+        Ok(())
+    }
 }
 
 /// The changes of each key.
@@ -75,8 +83,8 @@ impl Waiting {
         ensures gathered { OnOk result (IsGathered id ops.now head edit.now place self.old.lists self.new.lists) }
         ensures touches { IfOk result (IsTold id ops.now head edit.now) }
     {
-        if let Edit::SetUp(key, _) = edit {
-            return gather_set_up(self.alloc, &mut self.lists, key, head, edit, place, id);
+        if let Edit::SetUp(key, value) = edit {
+            return gather_set_up(self.alloc, &mut self.lists, key, *value, place, id);
         }
         let touches = gather_ops(self.alloc, &mut self.lists, ops, head, edit, place, id)?;
         if touches {
@@ -90,19 +98,17 @@ fn gather_set_up(
     alloc: Global,
     lists: &mut Lists,
     key: &Key,
-    head: Head,
-    edit: &Edit,
+    value: Value,
     place: usize,
     id: ShardId,
 ) -> Result<bool, OutOfMemory>
     requires shards { 0 < id.shards }
-    requires before { AreBefore place lists.old }
-    ensures gathered { OnOk result ((v : Value) (ops : List Op) → edit.now ≡ variant.SetUp key.now v → IsGathered id ops head edit.now place lists.old lists.new) }
-    ensures touches { IfOk result (λ touches. (v : Value) (ops : List Op) → edit.now ≡ variant.SetUp key.now v → IsTold id ops head edit.now touches) }
+    ensures gathered { OnOk result ((ops : List Op) (head : Head) → IsGathered id ops head (variant.SetUp key.now value) place lists.old lists.new) }
+    ensures touches { IfOk result (λ touches. (ops : List Op) (head : Head) → IsTold id ops head (variant.SetUp key.now value) touches) }
 {
     let ours = id.has(key);
     if ours {
-        add_access(alloc, lists, key, Placed::default(), head, edit, place)?;
+        add_change(alloc, lists, key, Change::SetUp(value), place)?;
     }
     Ok(ours)
 }
@@ -118,7 +124,7 @@ fn gather_ops(
 ) -> Result<bool, OutOfMemory>
     requires shards { 0 < id.shards }
     requires before { AreBefore place lists.old }
-    requires other { (x : List ℕ) (v : Value) → edit.now ≡ variant.SetUp x v → ⊥ }
+    requires other { (x : List ℕ) (v : Written) → edit.now ≡ variant.SetUp x v → ⊥ }
     ensures gathered { OnOk result (IsGathered id ops.now head edit.now place lists.old lists.new) }
     ensures touches { IfOk result (IsTold id ops.now head edit.now) }
 {
@@ -136,7 +142,24 @@ fn gather_ops(
     Ok(touches)
 }
 
-/// One more access of the key by the edit.
+/// One more change of the key, of the edit before which so many are kept.
+fn add_change(
+    alloc: Global,
+    lists: &mut Lists,
+    key: &Key,
+    change: Change,
+    place: usize,
+) -> Result<(), OutOfMemory>
+    ensures { OnOk result (AddsChange change place key.now lists.old lists.new) }
+{
+    if let Some(list) = lists.get_mut(key) {
+        list.push(change, place)?;
+        return Ok(());
+    }
+    add_first(alloc, lists, key, change, place)
+}
+
+/// One more access of the key by the edit. The key is looked up once.
 fn add_access(
     alloc: Global,
     lists: &mut Lists,
@@ -152,11 +175,26 @@ fn add_access(
         add_to(alloc, list, placed, head, edit, place)?;
         return Ok(());
     }
+    let change = change_of(alloc, head, edit, placed)?;
+    add_first(alloc, lists, key, change, place)
+}
+
+/// The first change of a key for which none waits.
+fn add_first(
+    alloc: Global,
+    lists: &mut Lists,
+    key: &Key,
+    change: Change,
+    place: usize,
+) -> Result<(), OutOfMemory>
+    requires { get same_key lists.old key.now ≡ None }
+    ensures { OnOk result (AddsChange change place key.now lists.old lists.new) }
+{
     let mut list = Waits {
         changes: Vec::with_capacity(alloc, 1)?,
         last: place,
     };
-    list.changes.push(change_of(alloc, head, edit, placed)?)?;
+    list.changes.push(change)?;
     lists.insert(key.try_clone()?, list)?;
     Ok(())
 }
@@ -176,37 +214,18 @@ fn add_to(
     if list.last == place {
         return add_to_last(&mut list.changes, placed);
     }
-    list.changes.push(change_of(alloc, head, edit, placed)?)?;
-    list.last = place;
-    Ok(())
+    list.push(change_of(alloc, head, edit, placed)?, place)
 }
 
 /// One more access in the last change.
 fn add_to_last(changes: &mut Vec<Change>, placed: Placed) -> Result<(), OutOfMemory>
-    ensures { OnOk result ((h : Head) (e : Edit) → AddsToLast h e placed changes.old.items changes.new.items) }
+    ensures ok { OnOk result (AddsToLast placed changes.old.items changes.new.items) }
+    ensures err { OnErr result (changes.new.items ≡ changes.old.items) }
 {
-    match changes.pop() {
-        Some(Change::Arrive(part)) => changes.push(Change::Arrive(with_access(part, placed)?))?,
-        Some(Change::Resolve(part, outcome)) => {
-            let part = with_access(part, placed)?;
-            changes.push(Change::Resolve(part, outcome))?;
-        }
-        Some(Change::Withdraw(part)) => {
-            let part = with_access(part, placed)?;
-            changes.push(Change::Withdraw(part))?;
-        }
-        Some(set_up) => changes.push(set_up)?,
-        None => {}
+    match changes.last_mut() {
+        Some(change) => change.add_access(placed),
+        None => Ok(()),
     }
-    Ok(())
-}
-
-fn with_access(part: Part, placed: Placed) -> Result<Part, OutOfMemory>
-    ensures { IfOk result (λ more. more ≡ record part { accesses = part.accesses ++ placed ∷ [] }) }
-{
-    let mut part = part;
-    part.accesses.push(placed)?;
-    Ok(part)
 }
 
 /// What the edit is on a key where its transaction has this access.

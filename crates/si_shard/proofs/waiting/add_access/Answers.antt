@@ -1,7 +1,8 @@
-use Rattle.std.proofs.Common.{rules, ◌≡◌, Some, None, subst}
+use Rattle.std.proofs.Common.{rules, ◌≡◌, ◌∙◌, ◌++◌, ◌∷◌, [], Some, None, ap, subst, sym}
 use Rattle.std.specs.HashMap.{get}
+use Rattle.std.proofs.lemmas.Result.{on_ok_weaker}
 use Rattle.si_model.specs.Operations.{same_key}
-use Rattle.si_shard.specs.Waiting.{AddsToSome}
+use Rattle.si_shard.specs.Waiting.{AddsChange, AddsToSome, changes_in}
 use Rattle.si_shard.proofs.waiting.add_access.Goals as goal
 
 pub returns-in-Some : goal.returns-in-Some
@@ -16,10 +17,13 @@ returns-in-Some c =
 
 pub returns : goal.returns
 returns c =
-    let none : None ≡ get same_key c.args.lists.now c.args.key.now = search rules in
+    let none : get same_key c.args.lists.now c.args.key.now ≡ None = search rules in
+    on_ok_weaker c.add_first.result (λ first.
+    let adds = subst (λ l. AddsChange c.in_ok-change.change c.args.place c.args.key.now l c.add_first.new.lists) c.get_mut.follows.holds-at-none first in
+    let one = subst (λ o. adds.list.changes.items ≡ changes_in o ++ c.in_ok-change.change ∷ []) none adds.changes ∙ ap (λ d. d ∷ []) c.in_ok-change.ensures in
     record {
-      list = record { changes = c.push.new.self; last = c.args.place };
-      changes = subst (λ o. AddsToSome c.args.head c.args.edit.now c.args.place c.args.placed o c.push.new.self.items) none (search rules);
-      last = search rules;
-      updates = search rules;
-    }
+      list = adds.list;
+      changes = subst (λ o. AddsToSome c.args.head c.args.edit.now c.args.place c.args.placed o adds.list.changes.items) (sym none) one;
+      last = adds.last;
+      updates = adds.updates;
+    }) c.add_first.ensures
