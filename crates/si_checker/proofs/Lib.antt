@@ -1,3 +1,4 @@
+pub mod Crossing
 pub mod Machines
 pub mod Storing
 pub mod Fresh

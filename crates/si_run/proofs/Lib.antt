@@ -1,3 +1,4 @@
+pub mod Crossing
 pub mod Runnings
 pub mod Beginnings
 pub mod Told

@@ -5,6 +5,7 @@ pub mod LastChange
 pub mod ArrivalPlaces
 pub mod KeyChanges
 pub mod Concerning
+pub mod Crossing
 pub mod PresentOn
 pub mod Keeps
 pub mod Leading
