@@ -84,10 +84,7 @@ impl<J: Judge + Drop> KeyFindings<J> {
         ensures wanting { OnErr result (self.new.spoiled ≡ true) }
         ensures key { self.new.key ≡ self.old.key }
     {
-        if self.spoiled {
-            return Err(KeyFault::Spoiled);
-        }
-        self.spoiled = true;
+        begin(&mut self.spoiled)?;
         add(self.alloc, &mut self.indexes, &mut self.judgements, part)?;
         self.spoiled = false;
         Ok(())
@@ -108,10 +105,7 @@ impl<J: Judge + Drop> KeyFindings<J> {
         ensures wanting { OnErr result (self.new.spoiled ≡ true) }
         ensures key { self.new.key ≡ self.old.key }
     {
-        if self.spoiled {
-            return Err(KeyFault::Spoiled);
-        }
-        self.spoiled = true;
+        begin(&mut self.spoiled)?;
         self.indexes.take_out(self.alloc, part)?;
         part.status = outcome.status();
         add(self.alloc, &mut self.indexes, &mut self.judgements, part)?;
@@ -132,10 +126,7 @@ impl<J: Judge + Drop> KeyFindings<J> {
         ensures wanting { OnErr result (self.new.spoiled ≡ true) }
         ensures key { self.new.key ≡ self.old.key }
     {
-        if self.spoiled {
-            return Err(KeyFault::Spoiled);
-        }
-        self.spoiled = true;
+        begin(&mut self.spoiled)?;
         let taken = self.indexes.take_out(self.alloc, part)?;
         drop_out(
             self.alloc,
@@ -161,10 +152,7 @@ impl<J: Judge + Drop> KeyFindings<J> {
         ensures wanting { OnErr result (self.new.spoiled ≡ true) }
         ensures key { self.new.key ≡ self.old.key }
     {
-        if self.spoiled {
-            return Err(KeyFault::Spoiled);
-        }
-        self.spoiled = true;
+        begin(&mut self.spoiled)?;
         self.indexes.initial = Some(value);
         let mut reads = Vec::new(self.alloc);
         self.indexes.add_readers(&mut reads, None, None)?;
@@ -230,6 +218,19 @@ impl<J: Judge + Drop> KeyFindings<J> {
         let overlaps = self.judgements.overlaps.len();
         reads + overlaps > 0
     }
+}
+
+/// Begins an edit. The findings are spoiled until it is whole; where an earlier one has spoiled them it isn't begun.
+fn begin(spoiled: &mut bool) -> Result<(), KeyFault>
+    ensures ok { OnOk result (spoiled.old ≡ false) }
+    ensures spoiled { (result ≡ Err fault.Spoiled) ↔ (spoiled.old ≡ true) }
+    ensures begun { spoiled.new ≡ true }
+{
+    if *spoiled {
+        return Err(KeyFault::Spoiled);
+    }
+    *spoiled = true;
+    Ok(())
 }
 
 /// Adds what was found, as findings on the key.

@@ -52,12 +52,19 @@ fn assert_left(rt: &impl Abort, arrivals: &Arrivals) {
     }
 }
 
+/// One leaves, whose slot stays empty, and is told with the others.
+fn one_leaves(rt: &impl Abort, arrivals: &mut Arrivals) {
+    arrivals.withdraw(TxnId(1));
+    assert_eq!(rt; (arrivals.len(), arrivals.slots()), (999, 1000));
+}
+
 /// No clause says that the slots of withdrawn transactions are closed up: only the room that they take shows it.
 #[test]
 fn empty_slots_are_closed_up(rt: HostRuntime) {
     let hash = RandomState::new(&rt).expect(&rt, "random bytes");
     let mut arrivals = Arrivals::new(rt.alloc(), hash);
     all_arrive(&rt, &mut arrivals);
+    one_leaves(&rt, &mut arrivals);
     most_leave(&rt, &mut arrivals);
     assert_left(&rt, &arrivals);
 }

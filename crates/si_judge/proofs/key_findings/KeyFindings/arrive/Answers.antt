@@ -11,7 +11,7 @@ use Rattle.si_judge.proofs.key_findings.KeyFindings.arrive.Goals as goal
 
 pub add-requires : goal.add-requires
 add-requires g c =
-    let asked = subst (λ s. s.spoiled ≡ false → (M : OnKey) × Shows g.J.Judge.rules M s × IsOfHistory (arrived_on c.args.part.now M)) (sym c.self.view_is) c.requires c.if-self.false in
+    let asked = subst (λ s. s.spoiled ≡ false → (M : OnKey) × Shows g.J.Judge.rules M s × IsOfHistory (arrived_on c.args.part.now M)) (sym c.self.view_is) c.requires c.in_ok-begin.ensures.ok in
     (asked.0, asked.1.indexes, arrival_fits c.args.part.now asked.0 asked.2)
 
 pub returns-clause-ok : goal.returns-clause-ok

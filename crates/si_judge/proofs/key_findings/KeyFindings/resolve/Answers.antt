@@ -15,14 +15,14 @@ use Rattle.si_judge.proofs.key_findings.KeyFindings.resolve.Goals as goal
 pub take_out-requires : goal.take_out-requires
 take_out-requires g c =
     let T = c.args.part.now in
-    let asked = subst (λ s. s.spoiled ≡ false → (M : OnKey) × Shows g.J.Judge.rules M s × IsInDoubt T M × IsOfHistory (resolved_on T.id c.args.outcome M)) (sym c.self.view_is) c.requires c.if-self.false in
+    let asked = subst (λ s. s.spoiled ≡ false → (M : OnKey) × Shows g.J.Judge.rules M s × IsInDoubt T M × IsOfHistory (resolved_on T.id c.args.outcome M)) (sym c.self.view_is) c.requires c.in_ok-begin.ensures.ok in
     (asked.0, asked.1.indexes, asked.2.part)
 
 pub add-requires : goal.add-requires
 add-requires g c =
     let T = c.args.part.now in
     let o = c.args.outcome in
-    let asked = subst (λ s. s.spoiled ≡ false → (M : OnKey) × Shows g.J.Judge.rules M s × IsInDoubt T M × IsOfHistory (resolved_on T.id o M)) (sym c.self.view_is) c.requires c.if-self.false in
+    let asked = subst (λ s. s.spoiled ≡ false → (M : OnKey) × Shows g.J.Judge.rules M s × IsInDoubt T M × IsOfHistory (resolved_on T.id o M)) (sym c.self.view_is) c.requires c.in_ok-begin.ensures.ok in
     let M = asked.0 in
     let history = asked.1.indexes.history in
     let rest = withdrawn_on T.id M in

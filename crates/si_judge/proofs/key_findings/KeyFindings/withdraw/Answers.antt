@@ -13,7 +13,7 @@ use Rattle.si_judge.proofs.key_findings.KeyFindings.withdraw.Goals as goal
 
 pub take_out-requires : goal.take_out-requires
 take_out-requires g c =
-    let asked = subst (λ s. s.spoiled ≡ false → (M : OnKey) × Shows g.J.Judge.rules M s × Contains M.parts c.args.part.now) (sym c.self.view_is) c.requires c.if-self.false in
+    let asked = subst (λ s. s.spoiled ≡ false → (M : OnKey) × Shows g.J.Judge.rules M s × Contains M.parts c.args.part.now) (sym c.self.view_is) c.requires c.in_ok-begin.ensures.ok in
     (asked.0, asked.1.indexes, asked.2)
 
 pub returns-clause-ok : goal.returns-clause-ok
