@@ -8,10 +8,10 @@ use si_intake::{Accepter, Item, MOST_SOURCES, SourceEnd, What, gather, open};
 use si_model::{Edit, TxnId};
 use si_text::LineFault;
 use std::alloc::Global;
+use std::fmt::Debug;
 use std::process::Abort;
 use std::sync::Wait;
 use std::sync::atomic::{AtomicU64, Ordering};
-use std::test::Fail;
 use std::thread;
 use std::thread::{Threads, join};
 use std::time::{Clock, Duration};
@@ -29,18 +29,18 @@ fn line(number: u64, read: Result<Edit, LineFault>) -> Item
     }
 }
 
+/// Whether an item that has this to tell is its source's last.
+fn is_told_last(what: What) -> bool {
+    let item = Item { source: 5, what };
+    item.is_last()
+}
+
 #[test]
 fn the_last_items_are_told(rt: HostRuntime) {
-    let faulty = What::Line(3, Err(LineFault::NotJson));
-    let whats = [
-        (faulty, false),
-        (What::ReadFault, true),
-        (What::NoMemory, true),
-        (What::End, true),
-    ];
-    for (what, is_last) in whats {
-        assert_eq!(rt; Item { source: 5, what }.is_last(), is_last);
-    }
+    assert!(rt; !is_told_last(What::Line(3, Err(LineFault::NotJson))));
+    assert!(rt; is_told_last(What::ReadFault));
+    assert!(rt; is_told_last(What::NoMemory));
+    assert!(rt; is_told_last(What::End));
 }
 
 #[test]
@@ -48,9 +48,14 @@ fn room_that_no_memory_has_is_refused(rt: HostRuntime) {
     assert!(rt; open(rt.alloc(), 1, usize::MAX).is_err());
 }
 
+/// The two are the same. They are moved here, so that no other proof sees how they are compared and let go.
+fn are_same<T: PartialEq + Debug + Drop>(rt: &impl Abort, found: T, wanted: T) {
+    assert_eq!(rt; found, wanted);
+}
+
 /// The accepter takes this.
 fn takes(rt: &(impl Wait + Abort), accepter: &mut Accepter, wanted: Option<Item>) {
-    assert_eq!(rt; accepter.take(rt), wanted);
+    are_same(rt, accepter.take(rt), wanted);
 }
 
 /// The source puts two lines, and its last item once the first line was taken.
@@ -77,16 +82,20 @@ fn take_by_turns(rt: &(impl Wait + Abort), end: &mut SourceEnd, accepter: &mut A
 }
 
 #[test]
-fn one_source_by_turns(rt: HostRuntime) -> Result<(), Fail> {
-    let (mut ends, mut accepter) = open(rt.alloc(), 1, 2)?;
+fn one_source_by_turns(rt: HostRuntime) {
+    let opened = open(rt.alloc(), 1, 2);
+    let (mut ends, mut accepter) = opened.expect(&rt, "memory");
+    let mut end = ends.pop().expect(&rt, "an end");
+    assert!(rt; end.source() == 0);
+    assert!(rt; accepter.sources() == 1);
+    take_by_turns(&rt, &mut end, &mut accepter);
+}
+
+/// Two laws of one source and of several, which have nothing to run.
+#[test]
+fn laws_are_called() {
     sources_append();
     lone_source_is_whole();
-    let mut end = ends.pop().expect(&rt, "an end");
-    assert_eq!(rt; end.source(), 0);
-    assert_eq!(rt; accepter.sources(), 1);
-    take_by_turns(&rt, &mut end, &mut accepter);
-    ends.push(end)?;
-    Ok(())
 }
 
 /// What a source has to tell at this place: so many lines, and then its last item.
@@ -112,16 +121,15 @@ fn last_of(source: usize) -> What {
 }
 
 #[test]
-fn each_source_comes_whole_and_in_its_order(rt: HostRuntime) -> Result<(), Fail> {
+fn each_source_comes_whole_and_in_its_order(rt: HostRuntime) {
     for (sources, room) in [(2, 1), (2, 16), (4, 1), (4, 5)] {
-        pass_through(&rt, rt.alloc(), sources, room, 300, Duration::ZERO)?;
+        pass_through(&rt, rt.alloc(), sources, room, 300, Duration::ZERO);
     }
-    Ok(())
 }
 
 #[test]
-fn slow_sources_are_waited_for(rt: HostRuntime) -> Result<(), Fail> {
-    pass_through(&rt, rt.alloc(), 2, 4, 5, Duration::from_millis(3))
+fn slow_sources_are_waited_for(rt: HostRuntime) {
+    pass_through(&rt, rt.alloc(), 2, 4, 5, Duration::from_millis(3));
 }
 
 /// The sources put so many lines each, after a pause before each, and the accepter takes all.
@@ -132,13 +140,16 @@ fn pass_through<R: Threads + Wait + Abort + Clock + Sync>(
     room: usize,
     lines: u64,
     pause: Duration,
-) -> Result<(), Fail> {
+) {
     assert!(rt; 1 <= sources && sources <= MOST_SOURCES && 1 <= room);
-    let (ends, accepter) = open(alloc, sources, room)?;
     new_ends_are_all();
-    let (ends, accepter) = put_and_take(rt, alloc, ends, accepter, lines, pause);
-    gather(ends, accepter);
-    Ok(())
+    match open(alloc, sources, room) {
+        Ok((ends, accepter)) => {
+            let (ends, accepter) = put_and_take(rt, alloc, ends, accepter, lines, pause);
+            gather(ends, accepter);
+        }
+        Err(_) => panic!(rt; "memory is wanted"),
+    }
 }
 
 /// The accepter takes on this thread while the sources put.
@@ -213,42 +224,59 @@ fn take_all<R: Wait + Abort>(rt: &R, alloc: Global, mut accepter: Accepter, line
 {
     let mut places = Vec::from_elem(alloc, 0u64, accepter.sources()).expect(rt, "memory");
     for _ in rt.forever() {
-        let Some(item) = accepter.take(rt) else {
+        if !takes_next(rt, &mut accepter, places.as_mut_slice(), lines) {
             break;
-        };
-        let source = item.source;
-        assert!(rt; source < places.len());
-        assert_eq!(rt; item, item_at(source, places[source], lines));
-        places[source] = places[source].wrapping_add(1);
+        }
     }
     for place in &places {
-        assert_eq!(rt; *place, lines.wrapping_add(1));
+        assert!(rt; *place == lines.wrapping_add(1));
     }
     accepter
 }
 
-#[test]
-fn a_full_queue_holds_a_source_back(rt: HostRuntime) -> Result<(), Fail> {
-    for room in [1, 4] {
-        hold_back(&rt, rt.alloc(), room)?;
+/// Whether there was one more to take. It is what its source has to tell at the place that it has come to.
+fn takes_next<R: Wait + Abort>(
+    rt: &R,
+    accepter: &mut Accepter,
+    places: &mut [u64],
+    lines: u64,
+) -> bool
+    ensures ended { result ≡ false → AllEnded accepter.new }
+    ensures intake { accepter.new.intake ≡ accepter.old.intake }
+    ensures sources { accepter.new.sources ≡ accepter.old.sources }
+{
+    match accepter.take(rt) {
+        Some(item) => {
+            count_item(rt, item, places, lines);
+            true
+        }
+        None => false,
     }
-    Ok(())
+}
+
+fn count_item(rt: &impl Abort, item: Item, places: &mut [u64], lines: u64) {
+    let source = item.source;
+    let place = places.get_mut(source).expect(rt, "a source");
+    are_same(rt, item, item_at(source, *place, lines));
+    *place = place.wrapping_add(1);
+}
+
+#[test]
+fn a_full_queue_holds_a_source_back(rt: HostRuntime) {
+    for room in [1, 4] {
+        hold_back(&rt, rt.alloc(), room);
+    }
 }
 
 /// How many lines the source puts that is held back.
 const HELD_LINES: u64 = 20;
 
-fn hold_back<R: Threads + Wait + Abort + Clock + Sync>(
-    rt: &R,
-    alloc: Global,
-    room: usize,
-) -> Result<(), Fail>
+fn hold_back<R: Threads + Wait + Abort + Clock + Sync>(rt: &R, alloc: Global, room: usize)
     requires { 1 ≤ room }
 {
-    let (mut ends, accepter) = open(alloc, 1, room)?;
-    let end = ends.pop().ok_or("an end")?;
+    let (mut ends, accepter) = open(alloc, 1, room).expect(rt, "memory");
+    let end = ends.pop().expect(rt, "an end");
     put_while_held(rt, end, accepter, room as u64);
-    Ok(())
 }
 
 fn put_while_held<R: Threads + Wait + Abort + Clock + Sync>(
@@ -295,10 +323,10 @@ fn take_counted<R: Wait + Abort + Clock>(
     thread::sleep(rt, Duration::from_millis(5));
     for taken in 0..HELD_LINES {
         assert!(rt; put.load(Ordering::SeqCst) <= taken.saturating_add(room));
-        assert_eq!(rt; accepter.take(rt), Some(item_at(0, taken, HELD_LINES)));
+        takes(rt, &mut accepter, Some(item_at(0, taken, HELD_LINES)));
     }
-    assert_eq!(rt; accepter.take(rt), Some(item_at(0, HELD_LINES, HELD_LINES)));
-    assert_eq!(rt; accepter.take(rt), None);
+    takes(rt, &mut accepter, Some(item_at(0, HELD_LINES, HELD_LINES)));
+    takes(rt, &mut accepter, None);
 }
 
 /// Whether this comes to the number, within so many turns.

@@ -54,6 +54,11 @@ impl Tally {
     }
 }
 
+/// So many came at least.
+pub(super) fn came(rt: &impl Abort, count: u64, least: u64, what: &str) {
+    assert!(rt; least <= count, "too few {what}");
+}
+
 fn bit_of(kind: Kind) -> u64 {
     match kind {
         Kind::Unknown { .. } => 1,

@@ -29,31 +29,29 @@ fn pair(judge: &mut Cases, first: u64, second: u64) -> bool {
 #[test]
 fn answers_are_counted(rt: HostRuntime) {
     let mut judge = Cases::new();
-    assert_eq!(rt; judge.calls(), 0);
+    are_same(&rt, judge.calls(), 0);
     let aborted = Kind::Aborted {
         txn: TxnId(2),
         op: 4,
         read: Some(Value(1)),
         writer: TxnId(1),
     };
-    let answers = (
-        read(&mut judge, Source::Initial),
-        read(&mut judge, Source::Aborted(TxnId(1))),
-    );
-    assert_eq!(rt; answers, (None, Some(aborted)));
-    assert_eq!(rt; judge.calls(), 2);
+    are_same(&rt, read(&mut judge, Source::Initial), None);
+    let answer = read(&mut judge, Source::Aborted(TxnId(1)));
+    are_same(&rt, answer, Some(aborted));
+    are_same(&rt, judge.calls(), 2);
     assert!(rt; pair(&mut judge, 5, 2));
     assert!(rt; !pair(&mut judge, 2, 5));
-    assert_eq!(rt; judge.calls(), 4);
+    are_same(&rt, judge.calls(), 4);
 }
 
 #[test]
 fn a_fault_is_printed(rt: HostRuntime) {
-    for (fault, wanted) in [
-        (KeyFault::Spoiled, "spoiled"),
-        (KeyFault::OutOfMemory, "out of memory"),
-    ] {
-        let text = format!(in rt.alloc(); "{fault}").expect(&rt, "memory");
-        assert_eq!(rt; text.as_str(), wanted);
-    }
+    is_printed(&rt, KeyFault::Spoiled, "spoiled");
+    is_printed(&rt, KeyFault::OutOfMemory, "out of memory");
+}
+
+fn is_printed(rt: &(impl Abort + AllocGlobal), fault: KeyFault, wanted: &str) {
+    let text = format!(in rt.alloc(); "{fault}").expect(rt, "memory");
+    are_same(rt, text.as_str(), wanted);
 }

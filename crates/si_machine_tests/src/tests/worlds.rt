@@ -14,11 +14,18 @@ use std::hash::RandomState;
 use std::random::RandomSource;
 
 /// A new machine of so many shards, whose journal takes so many edits.
-fn new_world(rt: &(impl Abort + AllocGlobal + RandomSource), shards: usize, limit: usize) -> World {
+///
+/// A machine is a fat value, and a proof that owns one looks at it anew in each call. In a box it is a pointer to its owner.
+fn new_world(
+    rt: &(impl Abort + AllocGlobal + RandomSource),
+    shards: usize,
+    limit: usize,
+) -> Box<World> {
     assert!(rt; 1 <= shards && shards <= MOST_SHARDS);
     assert!(rt; 1 <= limit && limit <= MOST_EDITS);
     let hash = RandomState::new(rt).expect(rt, "random bytes");
-    World::new(rt.alloc(), hash, shards, limit).expect(rt, "memory")
+    let world = World::new(rt.alloc(), hash, shards, limit);
+    Box::new(rt.alloc(), world.expect(rt, "memory")).expect(rt, "memory")
 }
 
 /// Calls `step` and says nothing of what it does: tests look at that, and their proofs needn't.
@@ -75,13 +82,17 @@ fn compare_findings(rt: &(impl Abort + AllocGlobal), world: &World) -> Vec<Findi
 /// So many findings are had.
 fn finds(rt: &impl Abort, world: &World, count: usize) {
     let found = found_in(world).expect(rt, "findings");
-    assert_eq!(rt; found.len(), count);
+    are_same(rt, found.len(), count);
 }
 
-/// The findings are of these kinds, in order.
-fn assert_kinds(rt: &impl Abort, findings: &[Finding], kinds: &[Kind]) {
-    assert_eq!(rt; findings.len(), kinds.len());
-    for (finding, kind) in findings.iter().zip(kinds) {
-        assert!(rt; finding.kind == *kind);
+/// Whether the findings are of these kinds, in order.
+fn are_of_kinds(findings: &[Finding], kinds: &[Kind]) -> bool {
+    let mut count = 0usize;
+    for finding in findings {
+        if kinds.get(count) != Some(&finding.kind) {
+            return false;
+        }
+        count = count.saturating_add(1);
     }
+    count == kinds.len()
 }

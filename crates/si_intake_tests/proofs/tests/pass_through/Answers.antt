@@ -4,9 +4,9 @@ use Rattle.si_intake_tests.proofs.Fresh.{IsUnended, fresh}
 use Rattle.si_intake_tests.proofs.tests.pass_through.Goals as goal
 
 pub put_and_take-ends-requires-clause-unended : goal.put_and_take-ends-requires-clause-unended
-put_and_take-ends-requires-clause-unended g c κs within = subst (All IsUnended) (sym c.in_ok-ends.ensures.ends) (fresh c.in_ok-ends.accepter c.args.sources)
+put_and_take-ends-requires-clause-unended g c κs within = subst (All IsUnended) (sym c.in-Ok.ensures.ends) (fresh c.in-Ok.accepter c.args.sources)
 
 pub put_and_take-ends-requires-clause-all : goal.put_and_take-ends-requires-clause-all
 put_and_take-ends-requires-clause-all g c κs within =
-    let made = c.in_ok-ends.ensures.ends ∙ ap (λ a. new_ends c.in_ok-ends.accepter.intake a.sources) (sym c.in_ok-ends.ensures.accepter) in
-    subst (AreAllEndsOf c.in_ok-ends.accepter) (sym made) (c.new_ends_are_all.ensures c.in_ok-ends.accepter)
+    let made = c.in-Ok.ensures.ends ∙ ap (λ a. new_ends c.in-Ok.accepter.intake a.sources) (sym c.in-Ok.ensures.accepter) in
+    subst (AreAllEndsOf c.in-Ok.accepter) (sym made) (c.new_ends_are_all.ensures c.in-Ok.accepter)

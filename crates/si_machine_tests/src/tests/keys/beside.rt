@@ -122,13 +122,13 @@ impl Beside {
         let found = self.found(rt);
         let plain = self.plainly_found(rt);
         assert!(rt; are_those_on(&found, &plain, &self.key));
-        assert_eq!(rt; self.state.has_findings(), !found.is_empty());
+        are_same(rt, self.state.has_findings(), !found.is_empty());
     }
 
     /// The state is empty where nothing is on the key, and it is not spoiled.
     fn assert_same_fill(&self, rt: &impl Abort, on: &OnKey) {
         let empty = on.parts.as_slice().is_empty() && on.initial == None;
-        assert_eq!(rt; self.state.is_empty(), empty);
+        are_same(rt, self.state.is_empty(), empty);
         assert!(rt; !self.state.is_spoiled());
     }
 }

@@ -1,8 +1,9 @@
 //! Edits drawn by chance, whose findings are compared with those of the plain program after each.
 
 use super::*;
-use chance::{Few, Tally, some_edit};
+use chance::{Few, Tally, came, some_edit};
 use scripts::new_beside;
+use si_model::Edit;
 use si_scripts::Dice;
 
 /// One key in eight is another one.
@@ -19,11 +20,14 @@ const FEW: Few<'static> = Few {
 fn give_some(rt: &(impl Abort + AllocGlobal), dice: &mut Dice, tally: &mut Tally) {
     let mut beside = new_beside(rt, "x");
     for _ in 0..500 {
-        let edit = some_edit(rt, dice, FEW);
-        if beside.compare(rt, &edit).is_none() {
-            tally.count_edit(&edit);
-            tally.count_findings(&beside.found(rt));
-        }
+        give_one(rt, &mut *beside, &some_edit(rt, dice, FEW), tally);
+    }
+}
+
+fn give_one(rt: &impl Abort, beside: &mut Beside, edit: &Edit, tally: &mut Tally) {
+    if beside.compare(rt, edit).is_none() {
+        tally.count_edit(edit);
+        tally.count_findings(&beside.found(rt));
     }
 }
 
@@ -34,13 +38,9 @@ fn findings_are_those_of_the_plain_program(rt: HostRuntime) {
     for _ in 0..20 {
         give_some(&rt, &mut dice, &mut tally);
     }
-    assert!(rt;
-        tally.arrivals >= 1000 && tally.resolutions >= 200,
-        "too few edits"
-    );
-    assert!(rt;
-        tally.withdrawals >= 500 && tally.set_ups >= 20,
-        "too few edits"
-    );
-    assert_eq!(rt; tally.kinds, 255, "too few kinds of findings");
+    came(&rt, tally.arrivals, 1000, "arrivals");
+    came(&rt, tally.resolutions, 200, "resolutions");
+    came(&rt, tally.withdrawals, 500, "withdrawals");
+    came(&rt, tally.set_ups, 20, "set-ups");
+    assert!(rt; tally.kinds == 255, "too few kinds of findings");
 }

@@ -7,7 +7,7 @@
 
 use super::*;
 use si_judge::{Cases, KeyFault, KeyState};
-use si_model::{Accesses, Outcome, Part, Stamp, Status, TxnId, Value};
+use si_model::{Accesses, Key, Outcome, Part, Stamp, Status, TxnId, Value};
 use si_scripts::key;
 use std::alloc::Global;
 use std::test::Fail;
@@ -49,23 +49,54 @@ fn fault_of(state: &KeyState<Cases>) -> Option<KeyFault> {
 }
 
 /// Every call answers that the state is spoiled.
-fn assert_spoiled(rt: &impl Abort, alloc: Global, mut state: KeyState<Cases>) {
+fn assert_spoiled(rt: &impl Abort, alloc: Global, state: &mut KeyState<Cases>) {
     let spoiled = Some(KeyFault::Spoiled);
-    assert_eq!(rt; arrive(rt, &mut state, idle(alloc)), spoiled);
-    assert_eq!(rt; resolve(rt, &mut state, TxnId(1)), spoiled);
-    assert_eq!(rt; withdraw(rt, &mut state, TxnId(1)), spoiled);
-    assert_eq!(rt; set_up(rt, &mut state, Value(5)), spoiled);
-    assert_eq!(rt; fault_of(&state), spoiled);
+    are_same(rt, arrive(rt, state, idle(alloc)), spoiled);
+    are_same(rt, resolve(rt, state, TxnId(1)), spoiled);
+    are_same(rt, withdraw(rt, state, TxnId(1)), spoiled);
+    are_same(rt, set_up(rt, state, Value(5)), spoiled);
+    are_same(rt, fault_of(state), spoiled);
     assert!(rt; state.is_spoiled());
+}
+
+fn x(rt: &(impl Abort + AllocGlobal)) -> Key {
+    key(rt, "x").expect(rt, "a key")
 }
 
 /// The state of `x`, on which nothing is. Where memory is refused it is made again.
 fn new_beside(rt: &(impl Abort + AllocGlobal)) -> Beside {
-    let x = key(rt, "x").expect(rt, "a key");
-    match Beside::new(rt.alloc(), x) {
+    match Beside::new(rt.alloc(), x(rt)) {
         Ok(beside) => beside,
-        Err(_) => scripts::new_beside(rt, "x"),
+        Err(_) => Beside::new(rt.alloc(), x(rt)).expect(rt, "memory"),
     }
+}
+
+fn give_all(
+    rt: &(impl Abort + AllocGlobal),
+    beside: &mut Beside,
+    accepted: &str,
+) -> Result<(), KeyFault> {
+    for line in accepted.trim().lines() {
+        are_same(rt, beside.give(rt, &edit(rt, line.trim()))?, None);
+    }
+    Ok(())
+}
+
+/// Gives one more. It succeeds, or spoils the state, which is answered.
+fn is_spoiled_by(
+    rt: &(impl Abort + AllocGlobal + Print),
+    beside: &mut Beside,
+    line: &str,
+) -> Result<bool, KeyFault> {
+    let answer = beside.give(rt, &edit(rt, line));
+    let spoiled = beside.state.is_spoiled();
+    if spoiled {
+        println!(rt; "refused").expect(rt, "output");
+        are_same(rt, answer, Err(KeyFault::OutOfMemory));
+    } else {
+        are_same(rt, answer?, None);
+    }
+    Ok(spoiled)
 }
 
 /// A key that has these edits is given one more. It succeeds, or spoils the state for good.
@@ -75,17 +106,31 @@ fn gives_or_spoils(
     line: &str,
 ) -> Result<(), KeyFault> {
     let mut beside = new_beside(rt);
-    for line in accepted.trim().lines() {
-        assert_eq!(rt; beside.give(rt, &edit(rt, line.trim()))?, None);
+    let spoiled = is_spoiled_in_the_end(rt, &mut beside, accepted, line);
+    let mut state = beside.into_state();
+    stays_spoiled(rt, &mut state, spoiled)
+}
+
+/// The same as [`is_spoiled_by`], of a key that is given these edits before.
+fn is_spoiled_in_the_end(
+    rt: &(impl Abort + AllocGlobal + Print),
+    beside: &mut Beside,
+    accepted: &str,
+    line: &str,
+) -> Result<bool, KeyFault> {
+    give_all(rt, beside, accepted)?;
+    is_spoiled_by(rt, beside, line)
+}
+
+/// Where the state is spoiled, it is so for good.
+fn stays_spoiled(
+    rt: &(impl Abort + AllocGlobal),
+    state: &mut KeyState<Cases>,
+    spoiled: Result<bool, KeyFault>,
+) -> Result<(), KeyFault> {
+    if spoiled? {
+        assert_spoiled(rt, rt.alloc(), state);
     }
-    let answer = beside.give(rt, &edit(rt, line));
-    if !beside.state.is_spoiled() {
-        assert_eq!(rt; answer?, None);
-        return Ok(());
-    }
-    println!(rt; "refused").expect(rt, "output");
-    assert_eq!(rt; answer, Err(KeyFault::OutOfMemory));
-    assert_spoiled(rt, rt.alloc(), beside.into_state());
     Ok(())
 }
 

@@ -29,27 +29,30 @@ fn give(rt: &(impl Abort + AllocGlobal), beside: &mut Beside, line: &str) {
     let (most, wanted) = rest.split_once('|').expect(rt, "findings");
     let judged = beside.state.judged();
     let answer = answer(rt, beside, words.trim());
-    assert_eq!(rt; answer.trim(), wanted.trim(), "at {line}");
-    let most = most.trim();
+    are_same_at(rt, answer.trim(), wanted.trim(), line);
+    let cost = beside.state.judged().saturating_sub(judged);
+    is_at_most(rt, cost, most.trim(), line);
+}
+
+/// The count is at most the number, where one stands there.
+fn is_at_most(rt: &impl Abort, count: u64, most: &str, line: &str) {
     if !most.is_empty() {
         let most = most.parse::<u64>().ok().expect(rt, "a number");
-        assert!(rt;
-            beside.state.judged() <= judged.saturating_add(most),
-            "at {line}"
-        );
+        assert!(rt; count <= most, "at {line}");
     }
 }
 
-/// The state of the key of that name, on which nothing is.
-pub(super) fn new_beside(rt: &(impl Abort + AllocGlobal), name: &str) -> Beside {
+/// The state of the key of that name, on which nothing is. In a box it is a pointer to its owner, of which less has to be proved.
+pub(super) fn new_beside(rt: &(impl Abort + AllocGlobal), name: &str) -> Box<Beside> {
     let key = key(rt, name).expect(rt, "a key");
-    Beside::new(rt.alloc(), key).expect(rt, "memory")
+    let beside = Beside::new(rt.alloc(), key).expect(rt, "memory");
+    Box::new(rt.alloc(), beside).expect(rt, "memory")
 }
 
 /// Gives the edits of a script to the state of a key on which nothing is.
 pub(super) fn answers(rt: &(impl Abort + AllocGlobal), name: &str, script: &str) {
     let mut beside = new_beside(rt, name);
     for line in script.trim().lines() {
-        give(rt, &mut beside, line.trim());
+        give(rt, &mut *beside, line.trim());
     }
 }

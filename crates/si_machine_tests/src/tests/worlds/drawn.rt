@@ -2,7 +2,7 @@
 //! where the machine is settled its findings are those of the plain program.
 
 use super::*;
-use chance::{Few, some_edit};
+use chance::{Few, came, some_edit};
 use si_model::plain::Walked;
 use si_model::{Edit, Number, Refusal, refusal_on};
 use si_scripts::Dice;
@@ -61,73 +61,36 @@ impl Tally {
     }
 }
 
-/// A machine, how many edits it should have accepted, and how many of them each shard should have applied.
+/// How many edits a machine should have accepted, and how many of them each shard should have applied. It stands beside the machine,
+/// so that what looks at numbers alone has no machine to prove anything of.
 #[derive(Drop)]
-struct Driven {
-    world: World,
+struct Foretold {
     accepted: u64,
     positions: Vec<u64>,
 }
 
-impl Driven {
-    fn new(rt: &(impl Abort + AllocGlobal + RandomSource), shards: usize) -> Driven {
+impl Foretold {
+    fn new(rt: &(impl Abort + AllocGlobal), shards: usize) -> Foretold {
         let positions = Vec::from_elem(rt.alloc(), 0u64, shards);
-        Driven {
-            world: new_world(rt, shards, LIMIT),
+        Foretold {
             accepted: 0,
             positions: positions.expect(rt, "memory"),
         }
     }
 
-    fn some_step(&mut self, rt: &(impl Abort + AllocGlobal), dice: &mut Dice, tally: &mut Tally) {
-        // A shard, or sometimes the number after the last.
-        let shard = dice.below((self.positions.len() as u64).saturating_add(1)) as usize;
-        match dice.below(16) {
-            0..=6 => self.accept(rt, some_edit(rt, dice, FEW), tally),
-            7..=10 => self.apply(rt, shard, tally),
-            11..=12 => self.apply_many(rt, shard, dice.below(6).saturating_add(1)),
-            13 => {
-                rebuilt(rt, &mut self.world, shard);
-            }
-            _ => self.settle(rt),
-        }
-        self.compare(rt, tally);
-    }
-
-    /// Why the edit is refused, by a walk over what is present.
-    fn refusal(&self, rt: &impl Abort, edit: &Edit) -> Option<Refusal> {
-        if self.accepted == LIMIT as u64 {
-            return Some(Refusal::Full);
-        }
-        let txns = present_in(rt, &self.world);
-        let initial = set_up_in(rt, &self.world);
-        let walked = Walked {
-            txns: &txns,
-            initial: &initial,
-        };
-        refusal_on(&walked, edit)
-    }
-
-    /// What should be answered to the edit.
-    fn answer_to(&mut self, rt: &impl Abort, edit: &Edit, tally: &mut Tally) -> Reply {
-        match self.refusal(rt, edit) {
+    /// What should be answered to an edit that is refused for this reason, or for none.
+    fn accept(&mut self, refusal: Option<Refusal>) -> Reply {
+        match refusal {
             Some(refusal) => Reply::Refused(refusal),
             None => {
-                tally.accepted.count_edit(edit);
                 self.accepted = self.accepted.saturating_add(1);
                 Reply::Accepted(Number(self.accepted))
             }
         }
     }
 
-    fn accept(&mut self, rt: &impl Abort, edit: Edit, tally: &mut Tally) {
-        let wanted = self.answer_to(rt, &edit, tally);
-        assert_eq!(rt; stepped(&mut self.world, Step::Accept(edit)), wanted);
-        tally.count_reply(wanted);
-    }
-
     /// What so many applications by the shard should answer, and how far it is then.
-    fn foretell(&mut self, shard: usize, most: u64) -> Reply {
+    fn apply(&mut self, shard: usize, most: u64) -> Reply {
         match self.positions.get_mut(shard) {
             Some(position) if *position < self.accepted => {
                 *position = position.saturating_add(most).min(self.accepted);
@@ -137,46 +100,99 @@ impl Driven {
         }
     }
 
-    fn apply(&mut self, rt: &impl Abort, shard: usize, tally: &mut Tally) {
-        let wanted = self.foretell(shard, 1);
-        assert_eq!(rt; stepped(&mut self.world, Step::Apply(shard)), wanted);
-        tally.count_reply(wanted);
-    }
-
-    fn apply_many(&mut self, rt: &impl Abort, shard: usize, most: u64) {
-        let wanted = self.foretell(shard, most);
-        assert_eq!(rt; many_applied(rt, &mut self.world, shard, most), wanted);
-    }
-
-    fn settle(&mut self, rt: &impl Abort) {
+    fn settle(&mut self) -> Reply {
         for position in self.positions.iter_mut() {
             *position = self.accepted;
         }
-        let wanted = Reply::Settled(self.accepted);
-        assert_eq!(rt; stepped(&mut self.world, Step::Settle), wanted);
+        Reply::Settled(self.accepted)
     }
+}
 
-    /// Each shard is as far as it should be. Returns the least of their positions.
-    fn least(&self, rt: &impl Abort) -> u64 {
-        let mut least = self.accepted;
-        let mut shard = 0usize;
-        for position in &self.positions {
-            assert_eq!(rt; self.world.position(shard), Some(*position));
-            least = least.min(*position);
-            shard = shard.saturating_add(1);
-        }
-        assert_eq!(rt; self.world.position(shard), None);
-        least
+/// Why the edit is refused, by a walk over what is present.
+fn reason(rt: &impl Abort, world: &World, accepted: u64, edit: &Edit) -> Option<Refusal> {
+    if accepted == LIMIT as u64 {
+        return Some(Refusal::Full);
     }
+    let txns = present_in(rt, world);
+    let initial = set_up_in(rt, world);
+    let walked = Walked {
+        txns: &txns,
+        initial: &initial,
+    };
+    refusal_on(&walked, edit)
+}
 
-    /// Each shard is as far as it should be. The findings are those of the plain program, or the least position is told.
-    fn compare(&self, rt: &(impl Abort + AllocGlobal), tally: &mut Tally) {
-        let least = self.least(rt);
-        if least < self.accepted {
-            assert_eq!(rt; fault_of(&self.world), Some(WorldFault::Unsettled(least)));
-        } else {
-            tally.count_findings(&compare_findings(rt, &self.world));
+/// The machine answers the step so.
+fn answers(rt: &impl Abort, world: &mut World, step: Step, wanted: Reply, tally: &mut Tally) {
+    are_same(rt, stepped(world, step), wanted);
+    tally.count_reply(wanted);
+}
+
+fn accept(
+    rt: &impl Abort,
+    world: &mut World,
+    foretold: &mut Foretold,
+    edit: Edit,
+    tally: &mut Tally,
+) {
+    let refusal = reason(rt, world, foretold.accepted, &edit);
+    if refusal == None {
+        tally.accepted.count_edit(&edit);
+    }
+    let wanted = foretold.accept(refusal);
+    answers(rt, world, Step::Accept(edit), wanted, tally);
+}
+
+fn some_step(
+    rt: &(impl Abort + AllocGlobal),
+    world: &mut World,
+    foretold: &mut Foretold,
+    dice: &mut Dice,
+    tally: &mut Tally,
+) {
+    // A shard, or sometimes the number after the last.
+    let shard = dice.below((foretold.positions.len() as u64).saturating_add(1)) as usize;
+    match dice.below(16) {
+        0..=6 => accept(rt, world, foretold, some_edit(rt, dice, FEW), tally),
+        7..=10 => answers(
+            rt,
+            world,
+            Step::Apply(shard),
+            foretold.apply(shard, 1),
+            tally,
+        ),
+        11..=12 => {
+            let most = dice.below(6).saturating_add(1);
+            let wanted = foretold.apply(shard, most);
+            are_same(rt, many_applied(rt, world, shard, most), wanted);
         }
+        13 => {
+            rebuilt(rt, world, shard);
+        }
+        _ => answers(rt, world, Step::Settle, foretold.settle(), tally),
+    }
+}
+
+/// Each shard is as far as it should be. Returns the least of their positions.
+fn least(rt: &impl Abort, world: &World, foretold: &Foretold) -> u64 {
+    let mut least = foretold.accepted;
+    let mut shard = 0usize;
+    for position in &foretold.positions {
+        are_same(rt, world.position(shard), Some(*position));
+        least = least.min(*position);
+        shard = shard.saturating_add(1);
+    }
+    are_same(rt, world.position(shard), None);
+    least
+}
+
+/// Each shard is as far as it should be. The findings are those of the plain program, or the least position is told.
+fn compare(rt: &(impl Abort + AllocGlobal), world: &World, foretold: &Foretold, tally: &mut Tally) {
+    let least = least(rt, world, foretold);
+    if least < foretold.accepted {
+        are_same(rt, fault_of(world), Some(WorldFault::Unsettled(least)));
+    } else {
+        tally.count_findings(&compare_findings(rt, world));
     }
 }
 
@@ -186,33 +202,26 @@ fn drive(
     dice: &mut Dice,
     tally: &mut Tally,
 ) {
-    let mut driven = Driven::new(rt, shards);
+    let mut world = new_world(rt, shards, LIMIT);
+    let mut foretold = Foretold::new(rt, shards);
     for _ in 0..STEPS {
-        driven.some_step(rt, dice, tally);
+        some_step(rt, &mut *world, &mut foretold, dice, tally);
+        compare(rt, &*world, &foretold, tally);
     }
 }
 
 /// Enough of everything came.
-fn assert_enough(rt: &impl Abort, tally: Tally) {
-    let accepted = tally.accepted;
-    assert!(rt;
-        accepted.arrivals >= 500 && accepted.resolutions >= 50,
-        "too few edits"
-    );
-    assert!(rt;
-        accepted.withdrawals >= 200 && accepted.set_ups >= 50,
-        "too few edits"
-    );
-    assert!(rt;
-        tally.refused >= 1000 && tally.full >= 100,
-        "too few refusals"
-    );
-    assert!(rt;
-        tally.applied >= 500 && tally.idle >= 500,
-        "too few applications"
-    );
-    assert!(rt; tally.settled >= 3000, "too few findings were compared");
-    assert_eq!(rt; accepted.kinds, 255, "too few kinds of findings");
+fn assert_enough(rt: &impl Abort, tally: &Tally) {
+    came(rt, tally.accepted.arrivals, 500, "arrivals");
+    came(rt, tally.accepted.resolutions, 50, "resolutions");
+    came(rt, tally.accepted.withdrawals, 200, "withdrawals");
+    came(rt, tally.accepted.set_ups, 50, "set-ups");
+    came(rt, tally.refused, 1000, "refusals");
+    came(rt, tally.full, 100, "refusals by a full journal");
+    came(rt, tally.applied, 500, "applications");
+    came(rt, tally.idle, 500, "idle applications");
+    came(rt, tally.settled, 3000, "comparisons of findings");
+    assert!(rt; tally.accepted.kinds == 255, "too few kinds of findings");
 }
 
 #[test]
@@ -224,5 +233,5 @@ fn settled_findings_are_those_of_the_plain_program(rt: HostRuntime) {
             drive(&rt, shards, &mut dice, &mut tally);
         }
     }
-    assert_enough(&rt, tally);
+    assert_enough(&rt, &tally);
 }

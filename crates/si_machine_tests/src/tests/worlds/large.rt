@@ -7,12 +7,12 @@ use si_model::{Number, TxnId, Value};
 fn accept(rt: &(impl Abort + AllocGlobal), world: &mut World, words: &str, number: u64) {
     let edit = edit_of(rt, words).expect(rt, "an edit");
     let reply = stepped(world, Step::Accept(edit));
-    assert_eq!(rt; reply, Reply::Accepted(Number(number)));
+    are_same(rt, reply, Reply::Accepted(Number(number)));
 }
 
 /// Settles, and so many edits are applied.
 fn settle(rt: &impl Abort, world: &mut World, number: u64) {
-    assert_eq!(rt; stepped(world, Step::Settle), Reply::Settled(number));
+    are_same(rt, stepped(world, Step::Settle), Reply::Settled(number));
 }
 
 fn set_up_many(rt: &(impl Abort + AllocGlobal), world: &mut World) {
@@ -25,7 +25,7 @@ fn set_up_many(rt: &(impl Abort + AllocGlobal), world: &mut World) {
 /// So many keys are set up.
 fn sets_up(rt: &impl Abort, world: &World, count: usize) {
     let values = set_up_in(rt, world);
-    assert_eq!(rt; values.len(), count);
+    are_same(rt, values.len(), count);
 }
 
 /// The one finding is the read of a value that nobody wrote.
@@ -36,7 +36,7 @@ fn finds_unknown(rt: &impl Abort, world: &World) {
         op: 2,
         read: Some(Value(7)),
     };
-    assert_kinds(rt, &found, &[unknown]);
+    assert!(rt; are_of_kinds(&found, &[unknown]));
 }
 
 fn many_keys(rt: &(impl Abort + AllocGlobal), world: &mut World) {
@@ -65,13 +65,13 @@ fn accept_many(rt: &(impl Abort + AllocGlobal), world: &mut World) {
 /// The first shard applies at most 4,000 edits, up to that number.
 fn apply_many(rt: &impl Abort, world: &mut World, number: u64) {
     let reply = many_applied(rt, world, 0, 4_000);
-    assert_eq!(rt; reply, Reply::Applied(number));
+    are_same(rt, reply, Reply::Applied(number));
 }
 
 fn many_edits(rt: &(impl Abort + AllocGlobal), world: &mut World) {
     accept_many(rt, world);
     apply_many(rt, world, 4_000);
-    assert_eq!(rt; fault_of(world), Some(WorldFault::Unsettled(4_000)));
+    are_same(rt, fault_of(world), Some(WorldFault::Unsettled(4_000)));
     apply_many(rt, world, 5_000);
     finds(rt, world, 0);
     assert!(rt; rebuilt(rt, world, 0));
@@ -196,14 +196,16 @@ enum Row {
 }
 
 /// Plays the row on a new machine of so many shards, whose journal takes so many edits.
-///
-/// A machine is a fat value, and a proof that owns one looks at it anew in each call, so this is the one place that does.
 fn play(rt: &(impl Abort + AllocGlobal + RandomSource), shards: usize, limit: usize, row: Row) {
     let mut world = new_world(rt, shards, limit);
+    play_on(rt, &mut *world, row);
+}
+
+fn play_on(rt: &(impl Abort + AllocGlobal), world: &mut World, row: Row) {
     match row {
-        Row::ManyKeys => many_keys(rt, &mut world),
-        Row::ManyEdits => many_edits(rt, &mut world),
-        Row::ManyReads => many_reads(rt, &mut world),
-        Row::Versions(coming, going) => come_and_go(rt, &mut world, coming, going),
+        Row::ManyKeys => many_keys(rt, world),
+        Row::ManyEdits => many_edits(rt, world),
+        Row::ManyReads => many_reads(rt, world),
+        Row::Versions(coming, going) => come_and_go(rt, world, coming, going),
     }
 }

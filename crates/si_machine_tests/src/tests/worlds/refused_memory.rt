@@ -65,7 +65,7 @@ impl Pressed {
             told(rt, "an acceptance");
             reply = stepped(&mut self.world, Step::Accept(edit(rt, words)));
         }
-        assert_eq!(rt; reply, wanted);
+        are_same(rt, reply, wanted);
     }
 
     fn accept_all(&mut self, rt: &(impl Abort + AllocGlobal + Print)) {
@@ -97,18 +97,18 @@ impl Pressed {
     fn mend(&mut self, rt: &(impl Abort + AllocGlobal + Print), shard: usize) {
         told(rt, "an application");
         let position = self.world.position(shard);
-        assert_eq!(rt; fault_of(&self.world), Some(WorldFault::Spoiled(shard)));
+        are_same(rt, fault_of(&self.world), Some(WorldFault::Spoiled(shard)));
         self.answer_while_spoiled(rt, shard);
         self.rebuild(rt, shard);
-        assert_eq!(rt; self.world.position(shard), position);
+        are_same(rt, self.world.position(shard), position);
     }
 
     fn answer_while_spoiled(&mut self, rt: &(impl Abort + AllocGlobal + Print), shard: usize) {
         let spoiled = Reply::Spoiled(shard);
-        assert_eq!(rt; stepped(&mut self.world, Step::Apply(shard)), spoiled);
-        assert_eq!(rt; many_applied(rt, &mut self.world, shard, 9), spoiled);
+        are_same(rt, stepped(&mut self.world, Step::Apply(shard)), spoiled);
+        are_same(rt, many_applied(rt, &mut self.world, shard, 9), spoiled);
         let refused = stepped(&mut self.world, Step::Accept(edit(rt, "withdraw 77")));
-        assert_eq!(rt; refused, Reply::Refused(Refusal::NoSuch));
+        are_same(rt, refused, Reply::Refused(Refusal::NoSuch));
         self.accept(rt, "arrive 20 40 aborted");
     }
 
@@ -121,10 +121,10 @@ impl Pressed {
                 Reply::Applied(_) => {}
                 Reply::NoMemory => {
                     told(rt, "a copy");
-                    assert_eq!(rt; self.world.position(shard), position);
+                    are_same(rt, self.world.position(shard), position);
                 }
                 reply => {
-                    assert_eq!(rt; reply, Reply::Spoiled(shard));
+                    are_same(rt, reply, Reply::Spoiled(shard));
                     self.mend(rt, shard);
                 }
             }
@@ -140,18 +140,26 @@ impl Pressed {
                 self.apply_one_again(rt, shard);
             }
             Reply::Spoiled(spoiled) => {
-                assert_eq!(rt; spoiled, shard);
+                are_same(rt, spoiled, shard);
                 self.mend(rt, shard);
                 self.apply_one_again(rt, shard);
             }
-            Reply::Idle => assert_eq!(rt; self.world.position(shard), Some(self.accepted)),
-            reply => assert_eq!(rt; Some(reply), self.world.position(shard).map(Reply::Applied)),
+            Reply::Idle => are_same(rt, self.world.position(shard), Some(self.accepted)),
+            reply => are_same(
+                rt,
+                Some(reply),
+                self.world.position(shard).map(Reply::Applied),
+            ),
         }
     }
 
     fn apply_one_again(&mut self, rt: &impl Abort, shard: usize) {
         let reply = stepped(&mut self.world, Step::Apply(shard));
-        assert_eq!(rt; Some(reply), self.world.position(shard).map(Reply::Applied));
+        are_same(
+            rt,
+            Some(reply),
+            self.world.position(shard).map(Reply::Applied),
+        );
     }
 
     /// Settles, after a rebuild of the shard that was spoiled.
@@ -168,7 +176,7 @@ impl Pressed {
             }
             _ => {}
         }
-        assert_eq!(rt; reply, Reply::Settled(self.accepted));
+        are_same(rt, reply, Reply::Settled(self.accepted));
     }
 
     /// The findings, which are had after a second call where memory is refused.
@@ -176,7 +184,7 @@ impl Pressed {
         match found_in(&self.world) {
             Ok(found) => found,
             Err(fault) => {
-                assert_eq!(rt; fault, WorldFault::OutOfMemory);
+                are_same(rt, fault, WorldFault::OutOfMemory);
                 told(rt, "a list of findings");
                 found_in(&self.world).expect(rt, "findings")
             }
@@ -221,7 +229,7 @@ fn assert_found(rt: &impl Abort, found: &[Finding]) {
         second: TxnId(9),
     };
     let (first, second) = (stale(2, None, 1), stale(6, Some(Value(5)), 5));
-    assert_kinds(rt, found, &[unknown, overlap, first, second]);
+    assert!(rt; are_of_kinds(found, &[unknown, overlap, first, second]));
 }
 
 /// How the edits come to be accepted and applied, before all is settled.
@@ -238,11 +246,15 @@ enum Way {
 /// A machine is a fat value, and a proof that owns one looks at it anew in each call, so this is the one place that does.
 fn play(rt: &(impl Abort + AllocGlobal + RandomSource + Print), way: Way) {
     let mut pressed = Pressed::new(rt);
+    play_on(rt, &mut pressed, way);
+}
+
+fn play_on(rt: &(impl Abort + AllocGlobal + Print), pressed: &mut Pressed, way: Way) {
     match way {
-        Way::Steps => step_all(rt, &mut pressed),
-        Way::Together => apply_together(rt, &mut pressed),
+        Way::Steps => step_all(rt, pressed),
+        Way::Together => apply_together(rt, pressed),
         Way::Settled => pressed.accept_all(rt),
-        Way::Runs => run_all(rt, &mut pressed),
+        Way::Runs => run_all(rt, pressed),
     }
     pressed.look(rt);
 }
@@ -294,7 +306,7 @@ fn told_by_run(rt: &(impl Abort + AllocGlobal), world: &mut World, words: &str) 
         steps.push(step).expect(rt, "memory");
     }
     let replies = replies(world, steps)?;
-    assert_eq!(rt; replies.len(), 1);
+    assert!(rt; replies.len() == 1);
     Some(replies[0])
 }
 
@@ -306,7 +318,7 @@ fn run_in_the_end(rt: &(impl Abort + AllocGlobal + Print), pressed: &mut Pressed
         told(rt, "a run");
         reply = told_by_run(rt, &mut pressed.world, words);
     }
-    assert_eq!(rt; reply, Some(wanted));
+    are_same(rt, reply, Some(wanted));
 }
 
 fn run_all(rt: &(impl Abort + AllocGlobal + Print), pressed: &mut Pressed) {

@@ -51,7 +51,7 @@ fn text_of(rt: &(impl Abort + AllocGlobal), found: &[Finding]) -> String {
 /// The ids of what is present, in order.
 fn present_text(rt: &(impl Abort + AllocGlobal), world: &World) -> String {
     let txns = present_in(rt, world);
-    assert_eq!(rt; txns.len(), world.len());
+    are_same(rt, txns.len(), world.len());
     let mut text = String::new(rt.alloc());
     for txn in &txns {
         write!(text, "{} ", txn.id.0).expect(rt, "memory");
@@ -95,7 +95,7 @@ fn told(rt: &(impl Abort + AllocGlobal), world: &mut World, line: &str) -> Strin
 fn give(rt: &(impl Abort + AllocGlobal), world: &mut World, line: &str) {
     let (question, wanted) = asked(line).expect(rt, "an answer");
     let told = told(rt, world, question);
-    assert_eq!(rt; told.trim(), wanted, "at {line}");
+    are_same_at(rt, told.trim(), wanted, line);
 }
 
 fn play(rt: &(impl Abort + AllocGlobal), world: &mut World, script: &str) {
@@ -107,7 +107,7 @@ fn play(rt: &(impl Abort + AllocGlobal), world: &mut World, script: &str) {
 /// A new machine of so many shards, whose journal takes ten edits, answers so, line after line.
 fn answers(rt: &(impl Abort + AllocGlobal + RandomSource), shards: usize, script: &str) {
     let mut world = new_world(rt, shards, 10);
-    play(rt, &mut world, script);
+    play(rt, &mut *world, script);
 }
 
 fn steps_of(rt: &(impl Abort + AllocGlobal), script: &str) -> Vec<Step> {
@@ -127,13 +127,13 @@ fn run_all(rt: &impl Abort, world: &mut World, steps: Vec<Step>) -> Vec<Reply> {
 /// The reply stands behind the bar.
 fn is_reply(rt: &(impl Abort + AllocGlobal), reply: Reply, line: &str) {
     let (_, wanted) = asked(line).expect(rt, "an answer");
-    assert_eq!(rt; shown_as(rt, reply).as_str(), wanted, "at {line}");
+    are_same_at(rt, shown_as(rt, reply).as_str(), wanted, line);
 }
 
 /// Gives the steps all at once. The replies are as many, each as it stands behind the bar.
 fn runs(rt: &(impl Abort + AllocGlobal), world: &mut World, script: &str) {
     let replies = run_all(rt, world, steps_of(rt, script));
-    assert_eq!(rt; replies.len(), script.trim().lines().count());
+    are_same(rt, replies.len(), script.trim().lines().count());
     for (reply, line) in replies.iter().zip(script.trim().lines()) {
         is_reply(rt, *reply, line);
     }
@@ -171,11 +171,11 @@ fn a_value_is_free_after_a_withdrawal(rt: HostRuntime) {
         arrive 3 5 6 x?5 | Accepted(Number(4))
         apply 0 | Applied(1)
         settle | Settled(4)";
-    runs(&rt, &mut world, steps);
+    runs(&rt, &mut *world, steps);
     let after = "
         findings |
         present | 2 3";
-    play(&rt, &mut world, after);
+    play(&rt, &mut *world, after);
 }
 
 #[test]
