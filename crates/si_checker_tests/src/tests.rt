@@ -8,7 +8,7 @@ mod openings;
 mod threads;
 mod turns;
 
-use callers::{Caller, Row, assert_report, edit, next, play};
+use callers::{Alone, Caller, Row, are_same, assert_report, edit, next, play};
 use si_checker::gates::Open;
 use si_checker::{AcceptFault, Checker, Gate, Name, Place, Worked};
 use si_model::{Edit, Kind, Number, Refusal, TxnId};

@@ -15,6 +15,7 @@ use si_checker::{
 use si_model::{Edit, Finding, Kind, Number, OutOfMemory};
 use si_scripts::edit_of;
 use std::alloc::AllocGlobal;
+use std::fmt::Debug;
 use std::hash::RandomState;
 use std::marker::Brand;
 use std::process::Abort;
@@ -51,10 +52,7 @@ impl<'a, N: Name> Caller<'a, N> {
 
     /// The edit is accepted, and has this number.
     pub(super) fn submits<R: Wait + Abort>(&mut self, rt: &R, edit: Edit, number: u64) {
-        match self.submit(rt, edit) {
-            Ok(given) => assert_eq!(rt; given.0, number),
-            Err(_) => panic!(rt; "the edit of number {number} is refused"),
-        }
+        are_same(rt, self.submit(rt, edit), Ok(Number(number)));
     }
 
     /// The settled report is of so many edits, transactions and set-up values, and finds these.
@@ -77,8 +75,8 @@ impl<'a, N: Name> Caller<'a, N> {
         kinds: &[Kind],
     ) {
         let report = self.of_shard(rt, shard).expect(rt, "a report");
-        assert_eq!(rt; report.position, position);
-        assert_kinds(rt, &report.findings, kinds);
+        are_same(rt, report.position, position);
+        assert!(rt; are_of_kinds(&report.findings, kinds));
     }
 
     /// Why there is no settled report, if there is none.
@@ -145,31 +143,46 @@ pub(super) fn assert_report(
     kinds: &[Kind],
 ) {
     let shown = (report.number, report.present.len(), report.initial.len());
-    assert_eq!(rt; shown, counts);
-    assert_kinds(rt, &report.findings, kinds);
+    are_same(rt, shown, counts);
+    assert!(rt; are_of_kinds(&report.findings, kinds));
 }
 
-/// The findings are of these kinds, in order.
-pub(super) fn assert_kinds(rt: &impl Abort, findings: &[Finding], kinds: &[Kind]) {
-    assert_eq!(rt; findings.len(), kinds.len());
-    for (finding, kind) in findings.iter().zip(kinds) {
-        assert!(rt; finding.kind == *kind);
+/// Whether the findings are of these kinds, in order.
+fn are_of_kinds(findings: &[Finding], kinds: &[Kind]) -> bool {
+    let mut count = 0usize;
+    for finding in findings {
+        if kinds.get(count) != Some(&finding.kind) {
+            return false;
+        }
+        count = count.saturating_add(1);
     }
+    count == kinds.len()
+}
+
+/// The two are the same. They are moved here, so that no other proof sees how they are compared and let go.
+pub(super) fn are_same<T: PartialEq + Debug + Drop>(rt: &impl Abort, found: T, wanted: T) {
+    assert_eq!(rt; found, wanted);
 }
 
 /// A test on a checker that was opened for it.
 #[derive(Clone, Copy)]
 pub(super) enum Row {
-    Turns,
+    Alone(Alone),
     Elsewhere,
     HeldShard,
     Left,
+    MostOfAll,
+    LongRun,
+}
+
+/// A test by one caller.
+#[derive(Clone, Copy)]
+pub(super) enum Alone {
+    Turns,
     ByReport,
     ByTurns,
     ManyEdits,
     ManyReads,
-    MostOfAll,
-    LongRun,
 }
 
 /// Plays the row on a new checker of so many shards and passes, whose journal takes so many edits.
@@ -209,10 +222,22 @@ fn play_on<N: Name + Send + Sync, R: Threads + Wait + Abort + AllocGlobal + Prin
     requires limit { parts.limit ≡ N.limit }
     requires own { All (λ p. p.table ≡ N.board.table) passes.items }
 {
-    let Ok(checker) = Checker::<N>::new(rt.alloc(), parts) else {
-        return false;
-    };
-    match callers_of(rt, &checker, passes) {
+    match Checker::<N>::new(rt.alloc(), parts) {
+        Ok(checker) => play_over(rt, &checker, passes, row),
+        Err(_) => false,
+    }
+}
+
+/// A checker is a fat value, and a proof that owns one looks at it anew in each call and branch. So this borrows it.
+fn play_over<N: Name + Send + Sync, R: Threads + Wait + Abort + AllocGlobal + Print + Sync>(
+    rt: &R,
+    checker: &Checker<N>,
+    passes: Vec<Pass>,
+    row: Row,
+) -> bool
+    requires own { All (λ p. p.table ≡ N.board.table) passes.items }
+{
+    match callers_of(rt, checker, passes) {
         Some(callers) => {
             play_with(rt, callers, row);
             true
@@ -227,16 +252,28 @@ fn play_with<N: Name + Send + Sync, R: Threads + Wait + Abort + AllocGlobal + Pr
     row: Row,
 ) {
     match row {
-        Row::Turns => turns(rt, callers),
+        Row::Alone(row) => play_alone(rt, callers, row),
         Row::Elsewhere => elsewhere(rt, callers),
         Row::HeldShard => held_shard(rt, callers),
         Row::Left => left(rt, callers),
-        Row::ByReport => by_report(rt, callers),
-        Row::ByTurns => by_turns(rt, callers),
-        Row::ManyEdits => many_edits(rt, callers),
-        Row::ManyReads => many_reads(rt, callers),
         Row::MostOfAll => most_of_all(rt, callers),
         Row::LongRun => long_run(rt, callers),
+    }
+}
+
+/// This owns the caller, and the rows borrow it.
+fn play_alone<N: Name, R: Wait + Abort + AllocGlobal + Print>(
+    rt: &R,
+    mut callers: Vec<Caller<'_, N>>,
+    row: Alone,
+) {
+    let mut caller = next(rt, &mut callers);
+    match row {
+        Alone::Turns => turns(rt, &mut caller),
+        Alone::ByReport => by_report(rt, &mut caller),
+        Alone::ByTurns => by_turns(rt, &mut caller),
+        Alone::ManyEdits => many_edits(rt, &mut caller),
+        Alone::ManyReads => many_reads(rt, &mut caller),
     }
 }
 

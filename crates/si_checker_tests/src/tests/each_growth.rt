@@ -56,7 +56,7 @@ fn submit_in_the_end<N: Name, R: Wait + Abort + AllocGlobal + Print>(
     let mut answer = caller.submit(rt, edit(rt, words));
     if answer == Err(AcceptFault::OutOfMemory) {
         told(rt, "a submission");
-        assert_eq!(rt; caller.issued(), before);
+        are_same(rt, caller.issued(), before);
         answer = caller.submit(rt, edit(rt, words));
     }
     if words.len() < line.len() {
@@ -64,7 +64,7 @@ fn submit_in_the_end<N: Name, R: Wait + Abort + AllocGlobal + Print>(
         return before;
     }
     let after = before.saturating_add(1);
-    assert_eq!(rt; answer, Ok(Number(after)));
+    are_same(rt, answer, Ok(Number(after)));
     after
 }
 
@@ -86,8 +86,8 @@ fn mend<N: Name, R: Wait + Abort + Print>(rt: &R, caller: &mut Caller<'_, N>, fa
         ReportFault::OutOfMemory => told(rt, "a report"),
         ReportFault::Spoiled(shard) => {
             told(rt, "an application");
-            assert_eq!(rt; caller.fault(rt), Some(fault));
-            assert_eq!(rt; caller.work_one(rt, shard, &Open), Worked::Spoiled);
+            are_same(rt, caller.fault(rt), Some(fault));
+            are_same(rt, caller.work_one(rt, shard, &Open), Worked::Spoiled);
             rebuild_in_the_end(rt, caller, shard);
         }
     }
@@ -140,23 +140,22 @@ fn stale_set_up() -> Kind {
 /// A report applies all that was submitted, and every shard is rebuilt afterwards.
 pub(super) fn by_report<N: Name, R: Wait + Abort + AllocGlobal + Print>(
     rt: &R,
-    mut callers: Vec<Caller<'_, N>>,
+    caller: &mut Caller<'_, N>,
 ) {
-    let mut caller = next(rt, &mut callers);
     let mut submitted = 0;
     for line in EDITS.trim().lines() {
-        submitted = submit_in_the_end(rt, &mut caller, line.trim(), submitted);
+        submitted = submit_in_the_end(rt, caller, line.trim(), submitted);
     }
-    look_at_end(rt, &mut caller);
+    look_at_end(rt, caller);
     for shard in 0..SHARDS {
-        rebuild_in_the_end(rt, &caller, shard);
+        rebuild_in_the_end(rt, caller, shard);
     }
-    look_at_end(rt, &mut caller);
+    look_at_end(rt, caller);
 }
 
 #[test]
 fn each_growth_of_a_report_is_refused(rt: HostRuntime) {
-    play(&rt, (SHARDS, 1, 100), Row::ByReport);
+    play(&rt, (SHARDS, 1, 100), Row::Alone(Alone::ByReport));
 }
 
 /// The shard applies what is left for it, turn after turn. Where memory is refused it has applied as much as before, or is
@@ -183,10 +182,10 @@ fn look_at_shards<N: Name, R: Wait + Abort + Print>(rt: &R, caller: &mut Caller<
     let mut found = 0;
     for shard in 0..SHARDS {
         let report = of_shard_in_the_end(rt, caller, shard);
-        assert_eq!(rt; report.position, COUNT);
+        are_same(rt, report.position, COUNT);
         found = report.findings.len().saturating_add(found);
     }
-    assert_eq!(rt; found, 4);
+    are_same(rt, found, 4);
 }
 
 fn of_shard_in_the_end<N: Name, R: Wait + Abort + Print>(
@@ -197,7 +196,7 @@ fn of_shard_in_the_end<N: Name, R: Wait + Abort + Print>(
     match caller.of_shard(rt, shard) {
         Ok(report) => report,
         Err(fault) => {
-            assert_eq!(rt; fault, ReportFault::OutOfMemory);
+            are_same(rt, fault, ReportFault::OutOfMemory);
             told(rt, "a shard's report");
             caller.of_shard(rt, shard).expect(rt, "a report")
         }
@@ -207,21 +206,20 @@ fn of_shard_in_the_end<N: Name, R: Wait + Abort + Print>(
 /// Workers apply each edit by itself.
 pub(super) fn by_turns<N: Name, R: Wait + Abort + AllocGlobal + Print>(
     rt: &R,
-    mut callers: Vec<Caller<'_, N>>,
+    caller: &mut Caller<'_, N>,
 ) {
-    let mut caller = next(rt, &mut callers);
     let mut submitted = 0;
     for line in EDITS.trim().lines() {
-        submitted = submit_in_the_end(rt, &mut caller, line.trim(), submitted);
+        submitted = submit_in_the_end(rt, caller, line.trim(), submitted);
         for shard in 0..SHARDS {
-            work_in_the_end(rt, &mut caller, shard);
+            work_in_the_end(rt, caller, shard);
         }
     }
-    look_at_shards(rt, &mut caller);
-    look_at_end(rt, &mut caller);
+    look_at_shards(rt, caller);
+    look_at_end(rt, caller);
 }
 
 #[test]
 fn each_growth_of_a_turn_is_refused(rt: HostRuntime) {
-    play(&rt, (SHARDS, 1, 100), Row::ByTurns);
+    play(&rt, (SHARDS, 1, 100), Row::Alone(Alone::ByTurns));
 }

@@ -35,9 +35,8 @@ fn missed() -> Kind {
 /// Many edits are applied, and rebuilt.
 pub(super) fn many_edits<N: Name, R: Wait + Abort + AllocGlobal>(
     rt: &R,
-    mut callers: Vec<Caller<'_, N>>,
+    caller: &mut Caller<'_, N>,
 ) {
-    let mut caller = next(rt, &mut callers);
     for id in 1..=MANY {
         caller.submits(rt, link(rt, id), id);
     }
@@ -46,13 +45,13 @@ pub(super) fn many_edits<N: Name, R: Wait + Abort + AllocGlobal>(
     caller.look(rt, (MANY, 5_000, 0), &[missed()]);
     caller.submits(rt, edit(rt, "withdraw 5000"), MANY + 1);
     let worked = caller.work_one(rt, 0, &Open);
-    assert_eq!(rt; worked, Worked::Applied(MANY + 1));
+    are_same(rt, worked, Worked::Applied(MANY + 1));
     caller.look(rt, (MANY + 1, 4_999, 0), &[]);
 }
 
 #[test]
 fn many_edits_are_applied_and_rebuilt(rt: HostRuntime) {
-    play(&rt, (1, 1, 10_000), Row::ManyEdits);
+    play(&rt, (1, 1, 10_000), Row::Alone(Alone::ManyEdits));
 }
 
 /// A transaction 2 that reads nothing from `x`, 4,000 times.
@@ -83,12 +82,11 @@ fn stale_reads<R: Abort + AllocGlobal>(rt: &R) -> Vec<Kind> {
 /// Many reads of one key come and go, and so does what they missed.
 pub(super) fn many_reads<N: Name, R: Wait + Abort + AllocGlobal>(
     rt: &R,
-    mut callers: Vec<Caller<'_, N>>,
+    caller: &mut Caller<'_, N>,
 ) {
-    let mut caller = next(rt, &mut callers);
     let stale = stale_reads(rt);
     caller.submits(rt, edit(rt, "arrive 1 1 2 x=1"), 1);
-    submit_reads(rt, &mut caller);
+    submit_reads(rt, caller);
     caller.look(rt, (2, 2, 0), &stale);
     caller.look_at_shard(rt, 0, 2, &stale);
     caller.submits(rt, edit(rt, "withdraw 1"), 3);
@@ -101,7 +99,7 @@ pub(super) fn many_reads<N: Name, R: Wait + Abort + AllocGlobal>(
 
 #[test]
 fn many_reads_of_one_key_come_and_go(rt: HostRuntime) {
-    play(&rt, (2, 1, 100), Row::ManyReads);
+    play(&rt, (2, 1, 100), Row::Alone(Alone::ManyReads));
 }
 
 /// As many shards and passes as there may be.
@@ -109,8 +107,10 @@ pub(super) fn most_of_all<N: Name, R: Wait + Abort + AllocGlobal>(
     rt: &R,
     mut callers: Vec<Caller<'_, N>>,
 ) {
-    assert_eq!(rt; callers.len(), 16);
-    for (caller, id) in callers.iter_mut().zip(1u64..) {
+    are_same(rt, callers.len(), 16);
+    let mut id = 0u64;
+    for caller in callers.iter_mut() {
+        id = id.saturating_add(1);
         caller.submits(rt, numbered(rt, id), id);
     }
     let mut first = next(rt, &mut callers);

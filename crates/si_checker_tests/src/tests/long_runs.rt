@@ -3,7 +3,7 @@
 use super::threads::work_all;
 use super::*;
 use si_checker::Report;
-use si_model::{Txn, findings_of, is_history};
+use si_model::{Finding, Key, Txn, Value, findings_of, is_history};
 use si_scripts::Dice;
 use std::sync::atomic::{AtomicU64, Ordering};
 use std::thread;
@@ -44,14 +44,88 @@ impl Pace {
     }
 }
 
-/// A caller that submits by chance, what of its own is present, in its order, and how many edits were accepted and refused.
+/// What a thread submits by chance, and what of its own is present, in its order. It stands beside the caller, so that what makes words
+/// has no caller to prove anything of.
 #[derive(Drop)]
-struct Submitter<'a, N: Name> {
-    caller: Caller<'a, N>,
+struct Drawn {
     dice: Dice,
     // The next id, which leaves the place of the thread.
     id: u64,
     own: Vec<u64>,
+}
+
+impl Drawn {
+    fn new<R: AllocGlobal>(rt: &R, place: u64) -> Self {
+        Drawn {
+            dice: Dice::new(place),
+            id: PLACES + place % PLACES,
+            own: Vec::new(rt.alloc()),
+        }
+    }
+
+    /// The id of one of its present transactions, and 0 where there is none.
+    fn some_own(&mut self) -> u64 {
+        let place = self.dice.below(self.own.len() as u64) as usize;
+        self.own.get(place).copied().unwrap_or(0)
+    }
+
+    fn status(&mut self, rt: &(impl Abort + AllocGlobal), commit: u64) -> String {
+        let status = match self.dice.below(8) {
+            0 => String::from_str(rt.alloc(), "indoubt"),
+            1 => String::from_str(rt.alloc(), "aborted"),
+            _ => format!(in rt.alloc(); "{commit}"),
+        };
+        status.expect(rt, "memory")
+    }
+
+    /// A transaction that reads what an earlier one may have written, and writes its id to a key.
+    fn arrival(&mut self, rt: &(impl Abort + AllocGlobal)) -> String {
+        let id = self.id;
+        self.id = id.saturating_add(PLACES);
+        let start = id.saturating_mul(8).saturating_add(self.dice.below(40));
+        let commit = start.saturating_add(self.dice.below(60));
+        let read = id.saturating_sub(self.dice.below(60));
+        let status = self.status(rt, commit);
+        let (from, to) = (read % 6, id % 6);
+        let words = format!(in rt.alloc();
+            "arrive {id} {start} {status} k{from}?{read} k{to}={id}"
+        );
+        words.expect(rt, "memory")
+    }
+
+    fn resolution(&mut self, rt: &(impl Abort + AllocGlobal), id: u64) -> String {
+        let commit = id.saturating_mul(8).saturating_add(self.dice.below(200));
+        let words = format!(in rt.alloc(); "resolve {id} {commit}");
+        words.expect(rt, "memory")
+    }
+
+    fn set_up(&mut self, rt: &(impl Abort + AllocGlobal)) -> String {
+        let (key, value) = (self.dice.below(9), self.id);
+        let words = format!(in rt.alloc(); "setup k{key}={value}");
+        words.expect(rt, "memory")
+    }
+
+    /// Whether what is present of its own is what it has left, in its order.
+    fn finds_own(&self, present: &[Txn]) -> bool {
+        let place = self.id % PLACES;
+        let mut count = 0usize;
+        for txn in present {
+            if txn.id.0 % PLACES == place {
+                if self.own.get(count).copied() != Some(txn.id.0) {
+                    return false;
+                }
+                count = count.saturating_add(1);
+            }
+        }
+        count == self.own.len()
+    }
+}
+
+/// A caller that submits by chance, and how many edits were accepted and refused.
+#[derive(Drop)]
+struct Submitter<'a, N: Name> {
+    caller: Caller<'a, N>,
+    drawn: Drawn,
     last: u64,
     refused: u64,
 }
@@ -60,9 +134,7 @@ impl<'a, N: Name> Submitter<'a, N> {
     fn new<R: AllocGlobal>(rt: &R, caller: Caller<'a, N>, place: u64) -> Self {
         Submitter {
             caller,
-            dice: Dice::new(place),
-            id: PLACES + place % PLACES,
-            own: Vec::new(rt.alloc()),
+            drawn: Drawn::new(rt, place),
             last: 0,
             refused: 0,
         }
@@ -79,19 +151,19 @@ impl<'a, N: Name> Submitter<'a, N> {
     }
 
     fn submit_one<R: Wait + Abort + AllocGlobal>(&mut self, rt: &R) {
-        let id = self.some_own();
-        match self.dice.below(16) {
-            0 => self.set_up(rt),
-            1 | 2 => self.resolve(rt, id),
-            3..=8 if self.own.len() > LEFT => self.withdraw(rt, id),
+        let id = self.drawn.some_own();
+        match self.drawn.dice.below(16) {
+            0 => {
+                let words = self.drawn.set_up(rt);
+                self.is_accepted(rt, words.as_str());
+            }
+            1 | 2 => {
+                let words = self.drawn.resolution(rt, id);
+                self.is_accepted(rt, words.as_str());
+            }
+            3..=8 if self.drawn.own.len() > LEFT => self.withdraw(rt, id),
             _ => self.arrive(rt),
         }
-    }
-
-    /// The id of one of its present transactions, and 0 where there is none.
-    fn some_own(&mut self) -> u64 {
-        let place = self.dice.below(self.own.len() as u64) as usize;
-        self.own.get(place).copied().unwrap_or(0)
     }
 
     /// Whether the edit was accepted, with a number above those before. Nothing but a reason of the edit's own refuses it.
@@ -110,59 +182,19 @@ impl<'a, N: Name> Submitter<'a, N> {
         }
     }
 
-    /// A transaction that reads what an earlier one may have written, and writes its id to a key.
     fn arrive<R: Wait + Abort + AllocGlobal>(&mut self, rt: &R) {
-        let id = self.id;
-        self.id = id.saturating_add(PLACES);
-        let start = id.saturating_mul(8).saturating_add(self.dice.below(40));
-        let commit = start.saturating_add(self.dice.below(60));
-        let read = id.saturating_sub(self.dice.below(60));
-        let status = match self.dice.below(8) {
-            0 => format!(in rt.alloc(); "indoubt"),
-            1 => format!(in rt.alloc(); "aborted"),
-            _ => format!(in rt.alloc(); "{commit}"),
-        };
-        let status = status.expect(rt, "memory");
-        let ops = format!(in rt.alloc(); "k{}?{read} k{}={id}", read % 6, id % 6);
-        let ops = ops.expect(rt, "memory");
-        let words = format!(in rt.alloc(); "arrive {id} {start} {status} {ops}");
-        if self.is_accepted(rt, words.expect(rt, "memory").as_str()) {
-            self.own.push(id).expect(rt, "memory");
+        let id = self.drawn.id;
+        let words = self.drawn.arrival(rt);
+        if self.is_accepted(rt, words.as_str()) {
+            self.drawn.own.push(id).expect(rt, "memory");
         }
-    }
-
-    fn resolve<R: Wait + Abort + AllocGlobal>(&mut self, rt: &R, id: u64) {
-        let commit = id.saturating_mul(8).saturating_add(self.dice.below(200));
-        let words = format!(in rt.alloc(); "resolve {id} {commit}");
-        self.is_accepted(rt, words.expect(rt, "memory").as_str());
     }
 
     /// No other thread knows of the transaction, so it is present.
     fn withdraw<R: Wait + Abort + AllocGlobal>(&mut self, rt: &R, id: u64) {
-        let words = format!(in rt.alloc(); "withdraw {id}");
-        assert!(rt; self.is_accepted(rt, words.expect(rt, "memory").as_str()));
-        self.own.retain(|own| *own != id);
-    }
-
-    fn set_up<R: Wait + Abort + AllocGlobal>(&mut self, rt: &R) {
-        let key = self.dice.below(9);
-        let words = format!(in rt.alloc(); "setup k{key}={}", self.id);
-        self.is_accepted(rt, words.expect(rt, "memory").as_str());
-    }
-
-    /// Whether what is present of its own is what it has left, in its order.
-    fn finds_own(&self, present: &[Txn]) -> bool {
-        let place = self.id % PLACES;
-        let mut count = 0usize;
-        for txn in present {
-            if txn.id.0 % PLACES == place {
-                if self.own.get(count).copied() != Some(txn.id.0) {
-                    return false;
-                }
-                count = count.saturating_add(1);
-            }
-        }
-        count == self.own.len()
+        let words = format!(in rt.alloc(); "withdraw {id}").expect(rt, "memory");
+        assert!(rt; self.is_accepted(rt, words.as_str()));
+        self.drawn.own.retain(|own| *own != id);
     }
 }
 
@@ -198,10 +230,17 @@ fn submit_each<'a, N: Name + Send + Sync, R: Threads + Wait + Abort + AllocGloba
 
 /// The findings are those of the plain program.
 fn assert_plain<R: Abort + AllocGlobal>(rt: &R, report: &Report) {
-    assert!(rt; is_history(&report.present, &report.initial));
-    let plain = findings_of(rt.alloc(), &report.present, &report.initial);
-    let plain = plain.expect(rt, "memory");
-    assert!(rt; report.findings.iter().eq(plain.iter()));
+    let plain = plainly_found(rt, &report.present, &report.initial);
+    assert!(rt; report.findings.as_slice() == plain.as_slice());
+}
+
+fn plainly_found<R: Abort + AllocGlobal>(
+    rt: &R,
+    txns: &[Txn],
+    initial: &[(Key, Value)],
+) -> Vec<Finding> {
+    assert!(rt; is_history(txns, initial));
+    findings_of(rt.alloc(), txns, initial).expect(rt, "memory")
 }
 
 /// Of each thread ids rise.
@@ -260,18 +299,33 @@ fn look_at_end<N: Name, R: Wait + Abort + AllocGlobal>(
     let report = looker.settled(rt).expect(rt, "a report");
     assert_plain(rt, &report);
     for submitter in submitters {
-        assert!(rt; submitter.finds_own(&report.present));
-        assert!(rt; submitter.refused >= 100, "too little was refused");
-        assert!(rt; submitter.last >= 4_000, "too little was accepted");
+        look_at_own(rt, submitter, &report.present);
     }
+    look_after_rebuild(rt, looker, report.number, &report.findings);
+}
+
+/// What the thread has left is present, and enough of its edits were accepted and refused.
+fn look_at_own<N: Name, R: Abort>(rt: &R, submitter: &Submitter<'_, N>, present: &[Txn]) {
+    assert!(rt; submitter.drawn.finds_own(present));
+    assert!(rt; submitter.refused >= 100, "too little was refused");
+    assert!(rt; submitter.last >= 4_000, "too little was accepted");
+}
+
+/// Once each shard was rebuilt a report is of as many edits, and finds the same, as the shards do together.
+fn look_after_rebuild<N: Name, R: Wait + Abort>(
+    rt: &R,
+    looker: &mut Caller<'_, N>,
+    number: u64,
+    found: &[Finding],
+) {
     for shard in 0..SHARDS {
         looker.rebuild(rt, shard).expect(rt, "memory");
     }
     let again = looker.settled(rt).expect(rt, "a report");
-    assert!(rt; again.number == report.number);
-    assert!(rt; again.findings.iter().eq(report.findings.iter()));
-    let count = findings_of_shards(rt, looker, again.number);
-    assert!(rt; count == again.findings.len());
+    assert!(rt; again.number == number);
+    assert!(rt; again.findings.as_slice() == found);
+    let count = findings_of_shards(rt, looker, number);
+    assert!(rt; count == found.len());
 }
 
 /// How much all shards find together, each after all edits.
@@ -283,7 +337,7 @@ fn findings_of_shards<N: Name, R: Wait + Abort>(
     let mut found = 0usize;
     for shard in 0..SHARDS {
         let report = looker.of_shard(rt, shard).expect(rt, "a report");
-        assert_eq!(rt; report.position, number);
+        are_same(rt, report.position, number);
         found = found.saturating_add(report.findings.len());
     }
     found

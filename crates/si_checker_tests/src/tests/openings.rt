@@ -1,5 +1,6 @@
 //! How a checker is opened.
 
+use super::are_same;
 use si_checker::{OpenFault, open};
 use std::alloc::{AllocGlobal, Global};
 use std::hash::RandomState;
@@ -37,7 +38,7 @@ fn openings_out_of_their_bounds_are_refused(rt: HostRuntime) {
 
 #[test]
 fn faults_of_openings_have_codes(rt: HostRuntime) {
-    assert_eq!(rt; OpenFault::BadShards.code(), Some(51));
-    assert_eq!(rt; OpenFault::BadPasses.code(), Some(52));
-    assert_eq!(rt; OpenFault::BadLimit.code(), Some(53));
+    are_same(&rt, OpenFault::BadShards.code(), Some(51));
+    are_same(&rt, OpenFault::BadPasses.code(), Some(52));
+    are_same(&rt, OpenFault::BadLimit.code(), Some(53));
 }

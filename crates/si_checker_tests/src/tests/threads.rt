@@ -94,16 +94,24 @@ pub(super) fn held_shard<N: Name + Send + Sync, R: Threads + Wait + Abort + Allo
     rt: &R,
     mut callers: Vec<Caller<'_, N>>,
 ) {
-    let mut first = next(rt, &mut callers);
+    let first = next(rt, &mut callers);
     let mut second = next(rt, &mut callers);
-    assert_eq!(rt; first.checker().shards(), 2);
-    submit_three(rt, &mut first);
-    let gate = Holding::new();
-    assert!(rt; are_worked_and_looked_on(rt, &gate, first));
-    assert_eq!(rt; gate.gave_up.load(Ordering::SeqCst), 0);
+    hold_first_shard(rt, first);
     // The finding is on a key of the first shard, and each shard has applied all.
     second.look_at_shard(rt, 0, 3, &[stale()]);
     second.look_at_shard(rt, 1, 3, &[]);
+}
+
+/// Three edits are submitted and worked off while the first shard's worker is held.
+fn hold_first_shard<N: Name + Send + Sync, R: Threads + Wait + Abort + AllocGlobal + Sync>(
+    rt: &R,
+    mut caller: Caller<'_, N>,
+) {
+    are_same(rt, caller.checker().shards(), 2);
+    submit_three(rt, &mut caller);
+    let gate = Holding::new();
+    assert!(rt; are_worked_and_looked_on(rt, &gate, caller));
+    are_same(rt, gate.gave_up.load(Ordering::SeqCst), 0);
 }
 
 /// Whether all workers end because the checker is closed, while another thread looks on and closes it.
@@ -159,8 +167,8 @@ pub(super) fn left<N: Name + Send + Sync, R: Threads + Wait + Abort + AllocGloba
     caller.submits(rt, numbered(rt, 1), 1);
     let gate = Holding::new();
     assert!(rt; are_worked_and_submitted(rt, &gate, caller));
-    assert_eq!(rt; gate.gave_up.load(Ordering::SeqCst), 0);
-    assert_eq!(rt; gate.published.load(Ordering::SeqCst), 111);
+    are_same(rt, gate.gave_up.load(Ordering::SeqCst), 0);
+    are_same(rt, gate.published.load(Ordering::SeqCst), 111);
 }
 
 /// Whether all workers end because the checker is closed, while another thread submits and closes it.

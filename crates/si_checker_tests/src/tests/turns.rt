@@ -1,20 +1,17 @@
 //! What one caller after another is told.
 
 use super::*;
+use si_model::Txn;
 
 /// The turns of one worker: what was left for it, 64 edits at a time.
-pub(super) fn turns<N: Name, R: Wait + Abort + AllocGlobal>(
-    rt: &R,
-    mut callers: Vec<Caller<'_, N>>,
-) {
-    let mut caller = next(rt, &mut callers);
-    assert_eq!(rt; caller.work_one(rt, 0, &Open), Worked::Idle);
-    submit_seventy(rt, &mut caller);
+pub(super) fn turns<N: Name, R: Wait + Abort + AllocGlobal>(rt: &R, caller: &mut Caller<'_, N>) {
+    are_same(rt, caller.work_one(rt, 0, &Open), Worked::Idle);
+    submit_seventy(rt, caller);
     for wanted in [Worked::Applied(64), Worked::Applied(70), Worked::Idle] {
-        assert_eq!(rt; caller.work_one(rt, 0, &Open), wanted);
+        are_same(rt, caller.work_one(rt, 0, &Open), wanted);
     }
     caller.close(rt);
-    assert_eq!(rt; caller.work_one(rt, 0, &Open), Worked::Closed);
+    are_same(rt, caller.work_one(rt, 0, &Open), Worked::Closed);
 }
 
 /// The edit of this id: a transaction that starts at twice the id, commits one stamp later and writes the id to `x`.
@@ -32,7 +29,7 @@ fn submit_seventy<N: Name, R: Wait + Abort + AllocGlobal>(rt: &R, caller: &mut C
 
 #[test]
 fn one_worker_turns_by_turns(rt: HostRuntime) {
-    play(&rt, (1, 1, 100), Row::Turns);
+    play(&rt, (1, 1, 100), Row::Alone(Alone::Turns));
 }
 
 /// A report shows what another thread submitted.
@@ -43,12 +40,23 @@ pub(super) fn elsewhere<N: Name + Send + Sync, R: Threads + Wait + Abort + Alloc
     let first = next(rt, &mut callers);
     let mut second = next(rt, &mut callers);
     submit_elsewhere(rt, first);
-    assert_eq!(rt; second.issued(), 1);
-    let report = second.settled(rt).expect(rt, "a report");
-    assert_eq!(rt; report.present.first().map(|txn| txn.id), Some(TxnId(1)));
+    look_from_here(rt, &mut second);
+}
+
+fn look_from_here<N: Name, R: Wait + Abort>(rt: &R, caller: &mut Caller<'_, N>) {
+    are_same(rt, caller.issued(), 1);
+    let report = caller.settled(rt).expect(rt, "a report");
+    are_same(rt, first_id(&report.present), Some(TxnId(1)));
     assert_report(rt, &report, (1, 1, 0), &[]);
-    second.rebuild(rt, 0).expect(rt, "memory");
-    second.look_at_shard(rt, 0, 1, &[]);
+    caller.rebuild(rt, 0).expect(rt, "memory");
+    caller.look_at_shard(rt, 0, 1, &[]);
+}
+
+fn first_id(txns: &[Txn]) -> Option<TxnId> {
+    match txns.first() {
+        Some(txn) => Some(txn.id),
+        None => None,
+    }
 }
 
 /// The edit is accepted on a thread of its own.

@@ -1,0 +1,10 @@
+use denote.Exit.{no}
+use denote.Param.{param}
+use denote.Param.Send.{arg_send, param_send, shr_send}
+use Rattle.si_checker.proofs.Crossing.{checker_sync}
+use Rattle.si_checker_tests.proofs.tests.Crossing.{two_send}
+use Rattle.si_checker_tests.proofs.tests.long_runs.long_run.Goals as goal
+
+pub join-all_closed-requires-send-F : goal.join-all_closed-requires-send-F
+join-all_closed-requires-send-F g c κs within =
+    param_send _ _ (arg_send _ no _ (two_send _ _ _ (shr_send _ _ _ c.type_bounds.sync-R) (shr_send _ _ _ (checker_sync (param 0 g.row.N) g.N.Name))))

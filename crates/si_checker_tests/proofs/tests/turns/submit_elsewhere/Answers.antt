@@ -1,0 +1,9 @@
+use denote.Exit.{no}
+use denote.Param.{param}
+use denote.Param.Send.{arg_send, param_send, shr_send}
+use Rattle.si_checker_tests.proofs.tests.Crossing.{caller_send, two_send}
+use Rattle.si_checker_tests.proofs.tests.turns.submit_elsewhere.Goals as goal
+
+pub join-requires-send-F : goal.join-requires-send-F
+join-requires-send-F g c κs within =
+    param_send _ _ (arg_send _ no _ (two_send _ _ _ (shr_send _ _ _ c.type_bounds.sync-R) (caller_send _ (param 0 g.row.N) g.N.Name)))
