@@ -29,7 +29,6 @@ shard_send =
       ),
     )))
 
-
 pub shard_sync : IsSync Shard.the_row
 shard_sync =
     view_sync inside.the_row _ _ _ _
