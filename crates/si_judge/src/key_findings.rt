@@ -220,8 +220,8 @@ impl<J: Judge + Drop> KeyFindings<J> {
     }
 }
 
-/// Begins an edit. The findings are spoiled until it is whole; where an earlier one has spoiled them it isn't begun.
-fn begin(spoiled: &mut bool) -> Result<(), KeyFault>
+/// Begins an edit of what is kept of a key, which is spoiled until the edit is whole. Where an earlier one has spoiled it, none begins.
+pub(crate) fn begin(spoiled: &mut bool) -> Result<(), KeyFault>
     ensures ok { OnOk result (spoiled.old ≡ false) }
     ensures spoiled { (result ≡ Err fault.Spoiled) ↔ (spoiled.old ≡ true) }
     ensures begun { spoiled.new ≡ true }

@@ -10,7 +10,7 @@ ghost use Rattle.si_judge.specs.Touched.{IsTouched, IsTouchedBySetUp};
 ghost use Rattle.si_judge.specs.States.{HasDoubt, HasPart, IsMended, IsSpoiledBy, key_fault_code};
 
 use crate::Judge;
-use crate::key_findings::KeyFindings;
+use crate::key_findings::{KeyFindings, begin};
 use crate::parts::HeldParts;
 use si_model::{Finding, Key, Outcome, Part, TxnId, Value};
 use std::alloc::{AllocError, AllocFailed, Global};
@@ -122,10 +122,7 @@ impl<J: Judge + Drop> KeyState<J> {
         ensures unchanged { self.old.spoiled ≡ true → self.new ≡ self.old }
         ensures wanting { OnErr result (IsSpoiledBy self.old self.new) }
     {
-        if self.spoiled {
-            return Err(KeyFault::Spoiled);
-        }
-        self.spoiled = true;
+        begin(&mut self.spoiled)?;
         self.findings.arrive(&part)?;
         self.parts.insert(self.alloc, part)?;
         self.spoiled = false;
@@ -143,10 +140,7 @@ impl<J: Judge + Drop> KeyState<J> {
         ensures unchanged { self.old.spoiled ≡ true → self.new ≡ self.old }
         ensures wanting { OnErr result (IsSpoiledBy self.old self.new) }
     {
-        if self.spoiled {
-            return Err(KeyFault::Spoiled);
-        }
-        self.spoiled = true;
+        begin(&mut self.spoiled)?;
         let mut part = self.parts.remove(self.alloc, id)?;
         self.findings.resolve(&mut part, outcome)?;
         self.parts.insert(self.alloc, part)?;
@@ -165,10 +159,7 @@ impl<J: Judge + Drop> KeyState<J> {
         ensures unchanged { self.old.spoiled ≡ true → self.new ≡ self.old }
         ensures wanting { OnErr result (IsSpoiledBy self.old self.new) }
     {
-        if self.spoiled {
-            return Err(KeyFault::Spoiled);
-        }
-        self.spoiled = true;
+        begin(&mut self.spoiled)?;
         let part = self.parts.remove(self.alloc, id)?;
         self.findings.withdraw(&part)?;
         self.spoiled = false;
@@ -186,10 +177,7 @@ impl<J: Judge + Drop> KeyState<J> {
         ensures unchanged { self.old.spoiled ≡ true → self.new ≡ self.old }
         ensures wanting { OnErr result (IsSpoiledBy self.old self.new) }
     {
-        if self.spoiled {
-            return Err(KeyFault::Spoiled);
-        }
-        self.spoiled = true;
+        begin(&mut self.spoiled)?;
         self.findings.set_up(value)?;
         self.spoiled = false;
         Ok(())

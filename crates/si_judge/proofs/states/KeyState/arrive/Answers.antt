@@ -8,13 +8,13 @@ use Rattle.si_judge.specs.Touched.{IsTouched}
 use Rattle.si_judge.proofs.Beside.{mended_beside, shows_beside}
 use Rattle.si_judge.proofs.states.KeyState.arrive.Goals as goal
 
-module _ (g : _) (c : goal.After-self-2-1 g) where
+module _ (g : _) (c : goal.After-self-1 g) where
   abbrev Q : OnKey
   Q = present_of c.self.inside.findings c.self.inside.parts
 
   shown : IsShown g.J.Judge.rules (IsTouched Q (arrived_on c.args.part Q) c.args.part.id) (arrived_on c.args.part Q) c.self.inside.findings c.arrive.new.self
-  shown = c.in_ok-arrive.ensures.ok (present_of c.self.inside.findings c.self.inside.parts) (c.self.invariant c.if-self.false)
-      (subst (λ s. s.spoiled ≡ false → IsOfHistory (arrived_on c.args.part s.present)) (sym c.self.view_is) c.requires c.if-self.false)
+  shown = c.in_ok-arrive.ensures.ok (present_of c.self.inside.findings c.self.inside.parts) (c.self.invariant c.in_ok-begin.ensures.ok)
+      (subst (λ s. s.spoiled ≡ false → IsOfHistory (arrived_on c.args.part s.present)) (sym c.self.view_is) c.requires c.in_ok-begin.ensures.ok)
 
 pub invariant_of-self-2 : goal.invariant_of-self-2
 invariant_of-self-2 g c = λ e. shows_beside g.J.Judge.rules (arrived_on c.args.part (Q g c)) c.arrive.new.self c.insert.new.self (shown g c).shows c.in_ok-insert.ensures

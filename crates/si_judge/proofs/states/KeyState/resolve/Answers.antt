@@ -15,12 +15,12 @@ pub resolve-requires : goal.resolve-requires
 resolve-requires g c = λ whole.
     let T = c.in_ok-part.part in
     let Q = present_of c.self.inside.findings c.self.inside.parts in
-    let shows = c.self.invariant c.if-self.false in
-    let of_id = subst (λ s. s.spoiled ≡ false → HasDoubt s.present c.args.id × IsOfHistory (resolved_on c.args.id c.args.outcome s.present)) (sym c.self.view_is) c.requires c.if-self.false in
+    let shows = c.self.invariant c.in_ok-begin.ensures.ok in
+    let of_id = subst (λ s. s.spoiled ≡ false → HasDoubt s.present c.args.id × IsOfHistory (resolved_on c.args.id c.args.outcome s.present)) (sym c.self.view_is) c.requires c.in_ok-begin.ensures.ok in
     let asked = asked_of T (without Q c.remove.new.self) Q c.args.id c.args.outcome shows.indexes.history (joins_rest T Q c.remove.new.self c.in_ok-part.ensures.left) c.in_ok-part.ensures.id of_id in
     (Q, shows, asked.0, asked.1)
 
-module _ (g : _) (c : goal.After-self-2-1 g) where
+module _ (g : _) (c : goal.After-self-1 g) where
   abbrev Q : OnKey
   Q = present_of c.self.inside.findings c.self.inside.parts
 
@@ -35,8 +35,8 @@ module _ (g : _) (c : goal.After-self-2-1 g) where
 
   shown : IsShown g.J.Judge.rules (IsTouched Q R T.id) R c.self.inside.findings c.resolve.new.self
   shown =
-      let shows = c.self.invariant c.if-self.false in
-      let of_id = subst (λ s. s.spoiled ≡ false → HasDoubt s.present c.args.id × IsOfHistory (resolved_on c.args.id c.args.outcome s.present)) (sym c.self.view_is) c.requires c.if-self.false in
+      let shows = c.self.invariant c.in_ok-begin.ensures.ok in
+      let of_id = subst (λ s. s.spoiled ≡ false → HasDoubt s.present c.args.id × IsOfHistory (resolved_on c.args.id c.args.outcome s.present)) (sym c.self.view_is) c.requires c.in_ok-begin.ensures.ok in
       let asked = asked_of T (without Q c.remove.new.self) Q c.args.id c.args.outcome shows.indexes.history joins c.in_ok-part.ensures.id of_id in
       c.in_ok-resolve.ensures.ok Q R shows asked.0 (resolved_same T (without Q c.remove.new.self) Q c.args.outcome joins)
       (resolved_history T (without Q c.remove.new.self) Q c.args.outcome joins c.in_ok-part.ensures.named asked.1)

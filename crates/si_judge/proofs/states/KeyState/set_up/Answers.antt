@@ -8,14 +8,14 @@ use Rattle.si_judge.specs.Touched.{IsTouchedBySetUp}
 use Rattle.si_judge.proofs.Beside.{mended_beside, shows_beside}
 use Rattle.si_judge.proofs.states.KeyState.set_up.Goals as goal
 
-module _ (g : _) (c : goal.After-self-2-1 g) where
+module _ (g : _) (c : goal.After-self-1 g) where
   abbrev Q : OnKey
   Q = present_of c.self.inside.findings c.self.inside.parts
 
   shown : IsShown g.J.Judge.rules (IsTouchedBySetUp (set_up_on c.args.value Q) c.args.value) (set_up_on c.args.value Q) c.self.inside.findings c.set_up.new.self
   shown =
-      let asked = subst (λ s. s.spoiled ≡ false → (s.present.initial ≡ None) × IsOfHistory (set_up_on c.args.value s.present)) (sym c.self.view_is) c.requires c.if-self.false in
-      c.in_ok-set_up.ensures.ok Q (c.self.invariant c.if-self.false) asked.0 asked.1
+      let asked = subst (λ s. s.spoiled ≡ false → (s.present.initial ≡ None) × IsOfHistory (set_up_on c.args.value s.present)) (sym c.self.view_is) c.requires c.in_ok-begin.ensures.ok in
+      c.in_ok-set_up.ensures.ok Q (c.self.invariant c.in_ok-begin.ensures.ok) asked.0 asked.1
 
 pub invariant_of-self-2 : goal.invariant_of-self-2
 invariant_of-self-2 g c = λ e. shows_beside g.J.Judge.rules (set_up_on c.args.value (Q g c)) c.set_up.new.self c.self.inside.parts (shown g c).shows refl

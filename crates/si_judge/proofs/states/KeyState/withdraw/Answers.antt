@@ -13,7 +13,7 @@ use Rattle.si_judge.proofs.states.KeyState.withdraw.Goals as goal
 pub withdraw-requires : goal.withdraw-requires
 withdraw-requires g c = λ whole.
     let Q = present_of c.self.inside.findings c.self.inside.parts in
-    (Q, c.self.invariant c.if-self.false, taken_there c.in_ok-part.part (without Q c.remove.new.self) Q (joins_rest c.in_ok-part.part Q c.remove.new.self c.in_ok-part.ensures.left))
+    (Q, c.self.invariant c.in_ok-begin.ensures.ok, taken_there c.in_ok-part.part (without Q c.remove.new.self) Q (joins_rest c.in_ok-part.part Q c.remove.new.self c.in_ok-part.ensures.left))
 
 module _ (g : _) (c : goal.Joined-part-2 g) where
   abbrev Q : OnKey
@@ -28,11 +28,11 @@ module _ (g : _) (c : goal.Joined-part-2 g) where
   same : AreSameOnKey (withdrawn_on c.in_ok-part.part.id Q) R
   same =
       let T = c.in_ok-part.part in
-      same_without T (withdrawn_on T.id Q) R Q (withdrawal_joins T Q (c.self.invariant c.if-self.false).indexes.history (taken_there T R Q joins)) joins
+      same_without T (withdrawn_on T.id Q) R Q (withdrawal_joins T Q (c.self.invariant c.in_ok-begin.ensures.ok).indexes.history (taken_there T R Q joins)) joins
 
   shown : IsShown g.J.Judge.rules (IsTouched Q R c.in_ok-part.part.id) R c.self.inside.findings c.withdraw.new.self
   shown =
-      let shows = c.self.invariant c.if-self.false in
+      let shows = c.self.invariant c.in_ok-begin.ensures.ok in
       c.in_ok-withdraw.ensures.ok Q R shows (taken_there c.in_ok-part.part R Q joins) same
       (history_within Q R shows.indexes.history refl (λ X h. (joins.parts X).1 (inl h)) c.in_ok-part.ensures.named)
 
