@@ -12,8 +12,8 @@ use super::turns::{elsewhere, turns};
 use si_checker::{
     AcceptFault, Checker, Gate, Name, Parts, Pass, Report, ReportFault, ShardReport, Worked, open,
 };
-use si_model::{Edit, Finding, Kind, Number, OutOfMemory};
-use si_scripts::edit_of;
+use si_model::{Edit, Kind, Number, OutOfMemory};
+use si_scripts::{are_of_kinds, edit_of};
 use std::alloc::AllocGlobal;
 use std::fmt::Debug;
 use std::hash::RandomState;
@@ -145,18 +145,6 @@ pub(super) fn assert_report(
     let shown = (report.number, report.present.len(), report.initial.len());
     are_same(rt, shown, counts);
     assert!(rt; are_of_kinds(&report.findings, kinds));
-}
-
-/// Whether the findings are of these kinds, in order.
-fn are_of_kinds(findings: &[Finding], kinds: &[Kind]) -> bool {
-    let mut count = 0usize;
-    for finding in findings {
-        if kinds.get(count) != Some(&finding.kind) {
-            return false;
-        }
-        count = count.saturating_add(1);
-    }
-    count == kinds.len()
 }
 
 /// The two are the same. They are moved here, so that no other proof sees how they are compared and let go.

@@ -7,36 +7,10 @@
 use super::*;
 use si_checker::{Report, ReportFault, ShardReport};
 use si_model::Value;
+use si_scripts::{SEVERAL_ROWS, TAKEN};
 
-/// Several worked rows, each on keys of its own: 2 misses what 1 wrote; 3 is in doubt while 4 reads from it, and reads itself what
-/// nobody wrote; 6 reads what `z` was set up with after 5 had written; 9 overlaps 8, and 7 once 8 is withdrawn; and the value of
-/// 10 can't be written again until that is withdrawn.
-const EDITS: &str = "
-    arrive 1 1 2 x=1
-    arrive 2 3 4 x?null
-    arrive 3 5 indoubt y=3 v?7
-    arrive 4 7 8 y?3
-    setup z=5
-    arrive 5 9 10 z?5 z=6
-    arrive 6 11 12 z?5
-    arrive 7 13 22 w=7
-    arrive 8 23 24 w=8
-    arrive 9 21 30 w=9
-    arrive 10 31 32 u=5
-    again arrive 11 33 34 u=5
-    withdraw 10
-    arrive 11 33 34 u=5
-    resolve 3 6
-    withdraw 8";
-
-/// How many edits are accepted.
+/// How many edits of these rows are accepted.
 const COUNT: u64 = 15;
-
-/// Why an edit that comes again later is refused at first.
-const TAKEN: AcceptFault = AcceptFault::Refused(Refusal::ValueTaken {
-    op: 0,
-    holder: TxnId(10),
-});
 
 const SHARDS: usize = 2;
 
@@ -60,7 +34,7 @@ fn submit_in_the_end<N: Name, R: Wait + Abort + AllocGlobal + Print>(
         answer = caller.submit(rt, edit(rt, words));
     }
     if words.len() < line.len() {
-        assert!(rt; answer == Err(TAKEN));
+        assert!(rt; answer == Err(AcceptFault::Refused(TAKEN)));
         return before;
     }
     let after = before.saturating_add(1);
@@ -143,7 +117,7 @@ pub(super) fn by_report<N: Name, R: Wait + Abort + AllocGlobal + Print>(
     caller: &mut Caller<'_, N>,
 ) {
     let mut submitted = 0;
-    for line in EDITS.trim().lines() {
+    for line in SEVERAL_ROWS.trim().lines() {
         submitted = submit_in_the_end(rt, caller, line.trim(), submitted);
     }
     look_at_end(rt, caller);
@@ -209,7 +183,7 @@ pub(super) fn by_turns<N: Name, R: Wait + Abort + AllocGlobal + Print>(
     caller: &mut Caller<'_, N>,
 ) {
     let mut submitted = 0;
-    for line in EDITS.trim().lines() {
+    for line in SEVERAL_ROWS.trim().lines() {
         submitted = submit_in_the_end(rt, caller, line.trim(), submitted);
         for shard in 0..SHARDS {
             work_in_the_end(rt, caller, shard);

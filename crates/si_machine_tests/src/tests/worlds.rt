@@ -8,7 +8,7 @@ mod rows;
 use super::*;
 use si_core::{Reply, Step, World, WorldFault};
 use si_model::{Finding, Key, Kind, MOST_EDITS, Txn, Value, findings_of, is_history};
-use si_scripts::{asked, edit_of};
+use si_scripts::{are_of_kinds, asked, edit_of};
 use si_shard::MOST_SHARDS;
 use std::hash::RandomState;
 use std::random::RandomSource;
@@ -83,16 +83,4 @@ fn compare_findings(rt: &(impl Abort + AllocGlobal), world: &World) -> Vec<Findi
 fn finds(rt: &impl Abort, world: &World, count: usize) {
     let found = found_in(world).expect(rt, "findings");
     are_same(rt, found.len(), count);
-}
-
-/// Whether the findings are of these kinds, in order.
-fn are_of_kinds(findings: &[Finding], kinds: &[Kind]) -> bool {
-    let mut count = 0usize;
-    for finding in findings {
-        if kinds.get(count) != Some(&finding.kind) {
-            return false;
-        }
-        count = count.saturating_add(1);
-    }
-    count == kinds.len()
 }

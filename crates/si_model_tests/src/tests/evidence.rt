@@ -115,27 +115,31 @@ fn explained_alone(
 
 /// Of the history the evidence behind `yes` holds, and that behind `no` doesn't, in whatever order its transactions come. What stands
 /// behind `explains` explains its one finding.
-fn is_so(rt: &(impl Abort + AllocGlobal), history: &mut History, line: &str) {
+fn is_so(rt: &(impl Abort + AllocGlobal), history: &mut History, title: &str, line: &str) {
     let (wanted, evidence) = line.split_once(' ').expect(rt, "evidence");
     let evidence = evidence_of(rt, evidence);
     if wanted == "explains" {
-        assert_eq!(rt; explained_alone(rt, history), Ok(evidence), "at {line}");
+        assert_eq!(rt;
+            explained_alone(rt, history),
+            Ok(evidence),
+            "{title}: {line}"
+        );
         return;
     }
     for _ in 0..2 {
         let shown = holds(rt, history, &evidence);
-        assert_eq!(rt; shown, wanted == "yes", "at {line}");
+        assert_eq!(rt; shown, wanted == "yes", "{title}: {line}");
         history.txns.reverse();
     }
 }
 
 /// A title, a history and what is so of it.
 fn check_row(rt: &(impl Abort + AllocGlobal), row: &str) {
-    let (_, row) = row.split_once('\n').expect(rt, "a title");
+    let (title, row) = row.split_once('\n').expect(rt, "a title");
     let (lines, answers) = asked(row).expect(rt, "evidence");
     let mut history = present(rt, lines).expect(rt, "a history");
     for line in answers.lines() {
-        is_so(rt, &mut history, line.trim());
+        is_so(rt, &mut history, title.trim(), line.trim());
     }
 }
 

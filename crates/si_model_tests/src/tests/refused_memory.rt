@@ -156,27 +156,33 @@ fn an_arrival_is_accepted_in_the_end(rt: HostRuntime) {
     accept_in_the_end(&rt, case, "arrive 5 3 10 x=1 y=1");
 }
 
+/// The words with this between them. Where memory is refused they are joined again.
+fn joined(rt: &(impl Abort + AllocGlobal), front: &str, between: &str, back: &str) -> String {
+    match format!(in rt.alloc(); "{front}{between}{back}") {
+        Ok(text) => text,
+        Err(_) => format!(in rt.alloc(); "{front}{between}{back}").expect(rt, "memory"),
+    }
+}
+
 /// A transaction with over 32 operations, which writes each value to both of two keys.
 const MANY_WRITES: &str =
-    "arrive 6 3 11 a=0 b=0 a=1 b=1 a=2 b=2 a=3 b=3 a=4 b=4 a=5 b=5 a=6 b=6 a=7 b=7 a=8 b=8 a=9 b=9 a=10 b=10 a=11 b=11 \
-    a=12 b=12 a=13 b=13 a=14 b=14 a=15 b=15 a=16 b=16 a=17 b=17 a=18 b=18 a=19 b=19 a=20 b=20 a=21 b=21 a=22 b=22 a=23 b=23";
-
-/// It and another one.
-const WITH_MANY_WRITES: &str = "5 3 10 a=24
-    6 3 11 a=0 b=0 a=1 b=1 a=2 b=2 a=3 b=3 a=4 b=4 a=5 b=5 a=6 b=6 a=7 b=7 a=8 b=8 a=9 b=9 a=10 b=10 a=11 b=11 \
+    "6 3 11 a=0 b=0 a=1 b=1 a=2 b=2 a=3 b=3 a=4 b=4 a=5 b=5 a=6 b=6 a=7 b=7 a=8 b=8 a=9 b=9 a=10 b=10 a=11 b=11 \
     a=12 b=12 a=13 b=13 a=14 b=14 a=15 b=15 a=16 b=16 a=17 b=17 a=18 b=18 a=19 b=19 a=20 b=20 a=21 b=21 a=22 b=22 a=23 b=23";
 
 #[test]
 fn many_operations_are_accepted_in_the_end(rt: HostRuntime) {
     // Over 32 operations are looked up in an index of their own.
+    let before = "5 3 10 a=24";
+    let after = joined(&rt, before, "\n", MANY_WRITES);
+    let arrival = joined(&rt, "arrive", " ", MANY_WRITES);
     let case = Case {
         accepted: "arrive 5 3 10 a=24",
-        before: "5 3 10 a=24",
-        after: WITH_MANY_WRITES,
+        before,
+        after: after.as_str(),
         journal: (1, 2),
         set_up: (0, 0),
     };
-    accept_in_the_end(&rt, case, MANY_WRITES);
+    accept_in_the_end(&rt, case, arrival.as_str());
 }
 
 #[test]

@@ -6,33 +6,7 @@
 
 use super::*;
 use si_model::{Number, Refusal, TxnId, Value};
-
-/// Several worked rows, each on keys of its own: 2 misses what 1 wrote; 3 is in doubt while 4 reads from it, and reads itself what
-/// nobody wrote; 6 reads what `z` was set up with after 5 had written; 9 overlaps 8, and 7 once 8 is withdrawn; and the value of
-/// 10 can't be written again until that is withdrawn.
-const EDITS: &str = "
-    arrive 1 1 2 x=1
-    arrive 2 3 4 x?null
-    arrive 3 5 indoubt y=3 v?7
-    arrive 4 7 8 y?3
-    setup z=5
-    arrive 5 9 10 z?5 z=6
-    arrive 6 11 12 z?5
-    arrive 7 13 22 w=7
-    arrive 8 23 24 w=8
-    arrive 9 21 30 w=9
-    arrive 10 31 32 u=5
-    again arrive 11 33 34 u=5
-    withdraw 10
-    arrive 11 33 34 u=5
-    resolve 3 6
-    withdraw 8";
-
-/// Why an edit that comes again later is refused at first.
-const TAKEN: Refusal = Refusal::ValueTaken {
-    op: 0,
-    holder: TxnId(10),
-};
+use si_scripts::{SEVERAL_ROWS, TAKEN};
 
 const SHARDS: usize = 2;
 
@@ -69,7 +43,7 @@ impl Pressed {
     }
 
     fn accept_all(&mut self, rt: &(impl Abort + AllocGlobal + Print)) {
-        for words in EDITS.trim().lines() {
+        for words in SEVERAL_ROWS.trim().lines() {
             self.accept(rt, words.trim());
         }
     }
@@ -260,7 +234,7 @@ fn play_on(rt: &(impl Abort + AllocGlobal + Print), pressed: &mut Pressed, way: 
 }
 
 fn step_all(rt: &(impl Abort + AllocGlobal + Print), pressed: &mut Pressed) {
-    for words in EDITS.trim().lines() {
+    for words in SEVERAL_ROWS.trim().lines() {
         pressed.accept(rt, words.trim());
         for shard in 0..SHARDS {
             pressed.apply_one(rt, shard);
@@ -322,7 +296,7 @@ fn run_in_the_end(rt: &(impl Abort + AllocGlobal + Print), pressed: &mut Pressed
 }
 
 fn run_all(rt: &(impl Abort + AllocGlobal + Print), pressed: &mut Pressed) {
-    for words in EDITS.trim().lines() {
+    for words in SEVERAL_ROWS.trim().lines() {
         run_in_the_end(rt, pressed, words.trim());
     }
 }
