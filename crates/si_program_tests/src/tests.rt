@@ -22,6 +22,7 @@ use si_cli::{ExitStatus, NamedFiles, Options, RunFault, main_with, run};
 use si_text::memory::{MemorySink, MemorySource};
 use si_text::{ByteSink, ByteSource};
 use std::alloc::AllocGlobal;
+use std::fmt::{Debug, Display};
 use std::hash::RandomState;
 use std::process::Abort;
 use std::random::RandomSource;
@@ -42,6 +43,21 @@ trait Host: AllocGlobal + Abort + RandomSource + Threads + Wait + Sync {}
 
 impl<R: AllocGlobal + Abort + RandomSource + Threads + Wait + Sync> Host for R {}
 
+/// The two are the same. They are moved here, so that no other proof sees how they are compared and let go.
+fn are_same<T: PartialEq + Debug + Drop>(rt: &impl Abort, found: T, wanted: T) {
+    assert_eq!(rt; found, wanted);
+}
+
+/// The two are the same, at that place of a test.
+fn are_same_at<T: PartialEq + Debug + Drop>(
+    rt: &impl Abort,
+    found: T,
+    wanted: T,
+    place: impl Display + Drop,
+) {
+    assert_eq!(rt; found, wanted, "at {place}");
+}
+
 /// The bytes of the text.
 fn bytes_of(rt: &impl Host, text: &str) -> Vec<u8> {
     Vec::from_slice(rt.alloc(), text.as_bytes()).expect(rt, "memory")
@@ -54,7 +70,7 @@ fn text_of<'a>(rt: &impl Host, written: &'a [u8]) -> &'a str {
 
 /// This text was written.
 fn is_text(rt: &impl Host, written: &[u8], text: &str) {
-    assert_eq!(rt; text_of(rt, written), text);
+    are_same(rt, text_of(rt, written), text);
 }
 
 /// The part so many times.
@@ -87,6 +103,11 @@ fn is_in_range(options: Options) -> bool {
     1 <= options.shards && options.shards <= 16 && 1 <= options.limit && options.limit <= 16_777_216
 }
 
+/// A secret key for the hash maps.
+fn secret_key(rt: &impl Host) -> RandomState {
+    RandomState::new(rt).expect(rt, "a secret key")
+}
+
 /// How a run over the source ends.
 fn ended<H: Host, S: ByteSource + Send, W: ByteSink>(
     rt: &H,
@@ -98,8 +119,24 @@ fn ended<H: Host, S: ByteSource + Send, W: ByteSink>(
     requires source { S.failed source.old ≡ false }
     requires sink { W.failed sink.old ≡ false }
 {
-    let hash = RandomState::new(rt).expect(rt, "a secret key");
+    let hash = secret_key(rt);
     run(rt, rt.alloc(), hash, slice::from_mut(source), sink, options)
+}
+
+/// What a run wrote, and its status.
+#[derive(Drop)]
+struct RunEnd {
+    out: MemorySink,
+    status: Option<ExitStatus>,
+}
+
+/// How a run over the input ends, which gives and takes so many bytes at once.
+fn run_end(rt: &impl Host, piece: usize, options: Options, input: &str) -> RunEnd {
+    assert!(rt; 1 <= piece);
+    let mut source = MemorySource::new(bytes_of(rt, input), piece);
+    let mut out = MemorySink::new(rt.alloc(), piece);
+    let status = ended(rt, &mut source, &mut out, options).ok();
+    RunEnd { out, status }
 }
 
 /// A run over the input, which gives and takes so many bytes at once, writes the output and has that status.
@@ -111,20 +148,18 @@ fn check_text(
     output: &str,
     status: ExitStatus,
 ) {
-    assert!(rt; 1 <= piece);
     assert!(rt; is_in_range(options));
-    let mut source = MemorySource::new(bytes_of(rt, input), piece);
-    let mut sink = MemorySink::new(rt.alloc(), piece);
-    let ended = ended(rt, &mut source, &mut sink, options);
-    assert_eq!(rt; ended.ok(), Some(status));
-    is_text(rt, sink.as_slice(), output);
+    let end = run_end(rt, piece, options, input);
+    are_same(rt, end.status, Some(status));
+    is_text(rt, end.out.as_slice(), output);
 }
 
 /// The same, by bytes one at a time, and all at once with any number of shards.
 fn check_with(rt: &impl Host, options: Options, input: &str, output: &str, status: ExitStatus) {
-    for (piece, shards) in [(1, options.shards), (65536, 1), (65536, 4), (65536, 16)] {
+    check_text(rt, 1, options, input, output, status);
+    for shards in [1, 4, 16] {
         let sharded = Options { shards, ..options };
-        check_text(rt, piece, sharded, input, output, status);
+        check_text(rt, 65536, sharded, input, output, status);
     }
 }
 
@@ -146,7 +181,7 @@ fn answer<H: Host, F: NamedFiles, I: ByteSource + Send, O: ByteSink, E: ByteSink
     requires input { I.failed input.old ≡ false }
     requires out { O.failed out.old ≡ false }
 {
-    let hash = RandomState::new(rt).expect(rt, "a secret key");
+    let hash = secret_key(rt);
     main_with(rt, files, rt.alloc(), hash, words, input, out, err)
 }
 
@@ -176,7 +211,7 @@ fn writes<H: Host, F: NamedFiles>(
     (output, complaint, status): (&str, &str, u8),
 ) {
     let outcome = outcome(rt, files, words, input);
-    assert_eq!(rt; outcome.status, status);
+    are_same(rt, outcome.status, status);
     is_text(rt, outcome.out.as_slice(), output);
     is_text(rt, outcome.err.as_slice(), complaint);
 }

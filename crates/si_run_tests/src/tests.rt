@@ -9,6 +9,7 @@ mod sources;
 use si_run::{ExitStatus, Gate, Options, RunFault, run, run_gated};
 use si_text::memory::{MemorySink, MemorySource};
 use std::alloc::AllocGlobal;
+use std::fmt::Debug;
 use std::hash::RandomState;
 use std::process::Abort;
 use std::random::RandomSource;
@@ -46,6 +47,16 @@ trait Host: AllocGlobal + Abort + RandomSource + Threads + Wait + Sync {}
 
 impl<R: AllocGlobal + Abort + RandomSource + Threads + Wait + Sync> Host for R {}
 
+/// The two are the same. They are moved here, so that no other proof sees how they are compared and let go.
+fn are_same<T: PartialEq + Debug + Drop>(rt: &impl Abort, found: T, wanted: T) {
+    assert_eq!(rt; found, wanted);
+}
+
+/// A secret key for the hash maps.
+fn secret_key(rt: &impl Host) -> RandomState {
+    RandomState::new(rt).expect(rt, "a secret key")
+}
+
 /// How a run ended, and what it wrote.
 #[derive(Drop)]
 struct RunEnd {
@@ -53,15 +64,21 @@ struct RunEnd {
     out: MemorySink,
 }
 
+/// The bytes of the text, of which so many are given at once.
+fn source_of(rt: &impl Host, text: &str, piece: usize) -> MemorySource {
+    let bytes = Vec::from_slice(rt.alloc(), text.as_bytes()).expect(rt, "memory");
+    MemorySource::new(bytes, piece.max(1))
+}
+
 /// A source of each text, which gives so many bytes at once.
 fn sources_of(rt: &impl Host, texts: &[&str], piece: usize) -> Vec<MemorySource> {
     let mut sources = Vec::new(rt.alloc());
     for text in texts {
-        let bytes = Vec::from_slice(rt.alloc(), text.as_bytes()).expect(rt, "memory");
-        let source = MemorySource::new(bytes, piece.max(1));
-        sources.push(source).expect(rt, "memory");
+        sources
+            .push(source_of(rt, text, piece))
+            .expect(rt, "memory");
     }
-    assert_eq!(rt; sources.len(), texts.len());
+    are_same(rt, sources.len(), texts.len());
     sources
 }
 
@@ -70,9 +87,8 @@ fn ended(rt: &impl Host, texts: &[&str], piece: (usize, usize), options: Options
     let mut inputs = sources_of(rt, texts, piece.0);
     assert!(rt; 1 <= inputs.len() && inputs.len() <= 8);
     let mut out = MemorySink::new(rt.alloc(), piece.1.max(1));
-    let hash = RandomState::new(rt).expect(rt, "a secret key");
     let inputs = inputs.as_mut_slice();
-    let status = run(rt, rt.alloc(), hash, inputs, &mut out, options);
+    let status = run(rt, rt.alloc(), secret_key(rt), inputs, &mut out, options);
     RunEnd { status, out }
 }
 
@@ -87,8 +103,7 @@ fn ended_gated<R: Host, G: Gate + Sync>(
     let mut inputs = sources_of(rt, texts, piece.0);
     assert!(rt; 1 <= inputs.len() && inputs.len() <= 8);
     let mut out = MemorySink::new(rt.alloc(), piece.1.max(1));
-    let hash = RandomState::new(rt).expect(rt, "a secret key");
-    let inputs = inputs.as_mut_slice();
+    let (hash, inputs) = (secret_key(rt), inputs.as_mut_slice());
     let status = run_gated(rt, rt.alloc(), hash, inputs, &mut out, options, gate);
     RunEnd { status, out }
 }
@@ -100,5 +115,5 @@ fn is_resolved_or_not(rt: &impl Host, ended: &RunEnd) {
         Ok(ExitStatus::Open) => UNRESOLVED,
         _ => panic!(rt; "the run ends otherwise"),
     };
-    assert_eq!(rt; ended.out.as_slice(), text.as_bytes());
+    are_same(rt, ended.out.as_slice(), text.as_bytes());
 }

@@ -1,6 +1,6 @@
 //! Devices over those of std: what is interrupted is tried again and nothing else is, and a large text goes through them whole.
 
-use super::{Host, is_text};
+use super::{Host, are_same, is_text};
 use si_text::{ByteSink, ByteSource, DeviceFailed, StdSink, StdSource};
 use std::io;
 use std::io::{ErrorKind, Read, Write};
@@ -77,10 +77,10 @@ fn interrupted_calls(rt: HostRuntime) {
     for byte in [b'x', b'y'] {
         let read = read_of(&mut StdSource::new(&mut device));
         assert!(rt; read == (Ok(1), [b'a', 0, 0, 0]));
-        let mut sink = StdSink::new(&mut device);
-        assert_eq!(rt; sink.write(&[byte, b'z']), Ok(1));
+        let written = StdSink::new(&mut device).write(&[byte, b'z']);
+        are_same(&rt, written, Ok(1));
     }
-    assert_eq!(rt; device.calls, 12);
+    are_same(&rt, device.calls, 12);
     is_text(&rt, device.written.as_slice(), "xy");
 }
 
@@ -119,8 +119,8 @@ fn calls_that_fail(rt: HostRuntime) {
     for kind in OTHER_KINDS {
         for last in 1..3 {
             let wanted = (Err(DeviceFailed), last);
-            assert_eq!(rt; failing_read(&rt, last, kind), wanted);
-            assert_eq!(rt; failing_write(&rt, last, kind), wanted);
+            are_same(&rt, failing_read(&rt, last, kind), wanted);
+            are_same(&rt, failing_write(&rt, last, kind), wanted);
         }
     }
 }
@@ -136,12 +136,17 @@ fn many_bytes(rt: &impl Host) -> Vec<u8> {
     bytes
 }
 
+/// A read of a byte gives this one.
+fn gives_byte<H: Host, S: ByteSource>(rt: &H, source: &mut S, byte: u8) {
+    let mut buffer = [0u8; 1];
+    are_same(rt, source.read(buffer.as_mut_slice()), Ok(1));
+    are_same(rt, buffer[0], byte);
+}
+
 /// Moves a byte from the one to the other, and compares it.
 fn moves_byte<H: Host, S: ByteSource, W: ByteSink>(rt: &H, source: &mut S, sink: &mut W, byte: u8) {
-    let mut buffer = [0u8; 1];
-    let read = source.read(buffer.as_mut_slice());
-    let written = sink.write(buffer.as_slice());
-    assert_eq!(rt; (read, buffer[0], written), (Ok(1), byte, Ok(1)));
+    gives_byte(rt, source, byte);
+    are_same(rt, sink.write(&[byte]), Ok(1));
 }
 
 #[test]
@@ -153,7 +158,7 @@ fn large_texts_byte_by_byte(rt: HostRuntime) {
     for byte in &bytes {
         moves_byte(&rt, &mut source, &mut sink, *byte);
     }
-    assert_eq!(rt; source.read(&mut [0u8; 1]), Ok(0));
+    are_same(&rt, source.read(&mut [0u8; 1]), Ok(0));
     assert!(rt; taken == bytes);
 }
 
@@ -161,7 +166,7 @@ fn large_texts_byte_by_byte(rt: HostRuntime) {
 fn gives_at_once(rt: &impl Host, bytes: &[u8]) {
     let mut source = StdSource::new(bytes);
     let mut buffer = vec![in rt.alloc(); 0u8; 300_000].expect(rt, "memory");
-    assert_eq!(rt; source.read(buffer.as_mut_slice()), Ok(200_000));
+    are_same(rt, source.read(buffer.as_mut_slice()), Ok(200_000));
     buffer.truncate(200_000);
     assert!(rt; buffer.as_slice() == bytes);
 }
@@ -170,8 +175,8 @@ fn gives_at_once(rt: &impl Host, bytes: &[u8]) {
 fn takes_at_once(rt: &impl Host, bytes: &[u8]) {
     assert!(rt; !bytes.is_empty());
     let mut taken = Vec::new(rt.alloc());
-    let mut sink = StdSink::new(&mut taken);
-    assert_eq!(rt; sink.write(bytes), Ok(200_000));
+    let written = StdSink::new(&mut taken).write(bytes);
+    are_same(rt, written, Ok(200_000));
     assert!(rt; taken.as_slice() == bytes);
 }
 

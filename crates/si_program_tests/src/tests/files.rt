@@ -59,14 +59,10 @@ fn a_file_is_read(rt: HostRuntime) -> Result<(), Fail> {
 #[test]
 fn files_that_cannot_be_read(rt: HostRuntime) {
     let files = StdFiles::new(&rt);
-    for (line, complaint) in [
-        ("check no/such/file.jsonl", CANNOT_OPEN),
-        ("check .", "sicheck: cannot read source 0\n"),
-        (
-            "check . . . . . . . . no/such/file.jsonl",
-            "sicheck: too many files\n",
-        ),
-    ] {
-        answers(&rt, &files, line, ("", complaint, 2));
-    }
+    let missing = "check no/such/file.jsonl";
+    answers(&rt, &files, missing, ("", CANNOT_OPEN, 2));
+    let cannot_read = "sicheck: cannot read source 0\n";
+    answers(&rt, &files, "check .", ("", cannot_read, 2));
+    let nine = "check . . . . . . . . no/such/file.jsonl";
+    answers(&rt, &files, nine, ("", "sicheck: too many files\n", 2));
 }

@@ -1,6 +1,6 @@
 //! What help tells: lines that fit a terminal, the forms of the input, how stamps are written, what ends with which status.
 
-use super::{Host, outcome, text_of, words_of};
+use super::{Host, are_same, outcome, text_of, words_of};
 use si_cli::{NamedFiles, StdFiles};
 
 /// How many columns a line of help has at most.
@@ -20,7 +20,7 @@ fn has_parts(rt: &impl Host, text: &str, parts: &str) {
 fn tells<H: Host, F: NamedFiles>(rt: &H, files: &F, line: &str, parts: &str) {
     let words = words_of(rt, line);
     let outcome = outcome(rt, files, words.as_slice(), "");
-    assert_eq!(rt; outcome.status, 0);
+    are_same(rt, outcome.status, 0);
     has_parts(rt, text_of(rt, outcome.out.as_slice()), parts);
 }
 

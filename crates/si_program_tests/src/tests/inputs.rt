@@ -1,145 +1,197 @@
-use super::{Host, bytes_of, is_text};
-use si_model::{Edit, TxnId};
+use super::known_keys::no_keys;
+use super::{Host, are_same, are_same_at, bytes_of, is_text};
+use si_model::Edit;
 use si_text::memory::{FailingSink, FailingSource, MemorySink, MemorySource};
 use si_text::{
-    ByteSink, ByteSource, InputFault, KnownKeys, LineBuffer, LineFault, LineItem, StdSink,
-    StdSource,
+    ByteSink, ByteSource, InputFault, KnownKeys, LineBuffer, LineItem, StdSink, StdSource,
 };
-use std::hash::RandomState;
 
 /// Two edits, a faulty line and blank lines, of which the last line lacks its line feed.
 const INPUT: &str =
     "\n{\"do\":\"withdraw\",\"id\":1}\n \t\r\n[]\r\n\n{\"do\":\"withdraw\",\"id\":2}";
 
 /// What it says.
-const ITEMS: [LineItem; 3] = [
-    (2, Ok(Edit::Withdraw(TxnId(1)))),
-    (4, Err(LineFault::NotObject)),
-    (6, Ok(Edit::Withdraw(TxnId(2)))),
-];
+const ITEMS: &str = "2 withdraw 1, 4 NotObject, 6 withdraw 2, ";
 
-/// The items of a source up to its end, or up to a fault.
-fn items_of<H: Host, S: ByteSource + Drop>(
+/// The contract of this call is long, so it is made here alone.
+fn next_item<S: ByteSource>(
+    lines: &mut LineBuffer,
+    source: &mut S,
+    keys: &mut KnownKeys,
+) -> Result<Option<LineItem>, InputFault> {
+    lines.next_item(source, keys)
+}
+
+fn keep(rt: &impl Host, items: &mut Vec<LineItem>, item: LineItem) {
+    items.push(item).expect(rt, "memory");
+}
+
+/// Keeps the items that come up to the end of the source, or up to a fault.
+fn keep_all<H: Host, S: ByteSource>(
     rt: &H,
-    mut source: S,
-) -> (Vec<LineItem>, Option<InputFault>) {
-    let hash = RandomState::new(rt).expect(rt, "a secret key");
-    let mut keys = KnownKeys::new(rt.alloc(), hash);
-    let mut lines = LineBuffer::new(rt.alloc()).expect(rt, "memory");
-    let mut items = Vec::new(rt.alloc());
+    lines: &mut LineBuffer,
+    source: &mut S,
+    keys: &mut KnownKeys,
+    items: &mut Vec<LineItem>,
+) -> Option<InputFault> {
     for _ in 0..1000 {
-        match lines.next_item(&mut source, &mut keys) {
-            Ok(Some(item)) => items.push(item).expect(rt, "memory"),
-            Ok(None) => return (items, None),
-            Err(fault) => return (items, Some(fault)),
+        match next_item(lines, source, keys) {
+            Ok(Some(item)) => keep(rt, items, item),
+            Ok(None) => return None,
+            Err(fault) => return Some(fault),
         }
     }
     panic!(rt; "the input has no end")
 }
 
-/// The source gives these items.
-fn gives<H: Host, S: ByteSource + Drop>(rt: &H, source: S, expected: &[LineItem]) {
-    let (items, fault) = items_of(rt, source);
-    assert_eq!(rt; fault, None);
-    assert!(rt; items.as_slice() == expected);
+/// The same from the beginning of the source.
+fn read_all<H: Host, S: ByteSource>(
+    rt: &H,
+    source: &mut S,
+    items: &mut Vec<LineItem>,
+) -> Option<InputFault> {
+    let mut keys = no_keys(rt);
+    let mut lines = LineBuffer::new(rt.alloc()).expect(rt, "memory");
+    keep_all(rt, &mut lines, source, &mut keys, items)
+}
+
+/// Its line, and the withdrawal or the fault that it is.
+fn tell(rt: &impl Host, text: &mut String, item: &LineItem) {
+    let line = item.0;
+    let written = match &item.1 {
+        Ok(Edit::Withdraw(id)) => write!(text, "{line} withdraw {}, ", id.0),
+        Ok(_) => panic!(rt; "only withdrawals are wanted"),
+        Err(fault) => write!(text, "{line} {fault:?}, "),
+    };
+    written.expect(rt, "memory");
+}
+
+fn told(rt: &impl Host, items: &[LineItem]) -> String {
+    let mut text = String::new(rt.alloc());
+    for item in items {
+        tell(rt, &mut text, item);
+    }
+    text
+}
+
+/// The source gives items that are told so.
+fn gives<H: Host, S: ByteSource>(rt: &H, source: &mut S, expected: &str) {
+    let mut items = Vec::new(rt.alloc());
+    are_same(rt, read_all(rt, source, &mut items), None);
+    are_same(rt, told(rt, items.as_slice()).as_str(), expected);
+}
+
+fn gives_in_pieces(rt: &impl Host, piece: usize) {
+    let mut source = MemorySource::new(bytes_of(rt, INPUT), piece.max(1));
+    gives(rt, &mut source, ITEMS);
 }
 
 #[test]
 fn lines_in_pieces_of_any_size(rt: HostRuntime) {
     for piece in [1, 2, 7, 1000] {
-        let source = MemorySource::new(bytes_of(&rt, INPUT), piece);
-        gives(&rt, source, ITEMS.as_slice());
+        gives_in_pieces(&rt, piece);
     }
-    gives(&rt, StdSource::new(INPUT.as_bytes()), ITEMS.as_slice());
+    gives(&rt, &mut StdSource::new(INPUT.as_bytes()), ITEMS);
+}
+
+/// Adds a line of so many of that byte.
+fn add_line(rt: &impl Host, input: &mut Vec<u8>, length: usize, byte: u8) {
+    let end = input.len().saturating_add(length);
+    input.resize(end, byte).expect(rt, "memory");
+    input.push(b'\n').expect(rt, "memory");
 }
 
 /// Three lines, of which the second one is as long as a line may be, and a short one.
 fn long_lines(rt: &impl Host) -> Vec<u8> {
     let mut input = Vec::new(rt.alloc());
-    for (length, byte) in [(1_048_577, b'a'), (1_048_576, b' '), (1_048_577, b' ')] {
-        let end = input.len().saturating_add(length);
-        input.resize(end, byte).expect(rt, "memory");
-        input.push(b'\n').expect(rt, "memory");
-    }
-    input.extend_from_slice(b"7\n").expect(rt, "memory");
+    add_line(rt, &mut input, 1_048_577, b'a');
+    add_line(rt, &mut input, 1_048_576, b' ');
+    add_line(rt, &mut input, 1_048_577, b' ');
+    add_line(rt, &mut input, 1, b'7');
     input
 }
 
 #[test]
 fn lines_that_are_too_long(rt: HostRuntime) {
-    let expected = [
-        (1, Err(LineFault::TooLong)),
-        (3, Err(LineFault::TooLong)),
-        (4, Err(LineFault::NotObject)),
-    ];
-    gives(
-        &rt,
-        MemorySource::new(long_lines(&rt), 5000),
-        expected.as_slice(),
-    );
+    let mut source = MemorySource::new(long_lines(&rt), 5000);
+    gives(&rt, &mut source, "1 TooLong, 3 TooLong, 4 NotObject, ");
 }
 
-/// How many lines so many reads of a byte give, and what is told of the next read. The lines end at the 2nd, 5th, 7th and 10th byte,
-/// and the last one at the read that finds the end.
-fn wanted_after(reads: u64) -> (usize, Option<InputFault>) {
-    let lines = match reads {
+/// How many lines so many reads of a byte give. The lines end at the 2nd, 5th, 7th and 10th byte, and the last one at the read that
+/// finds the end.
+fn lines_after(reads: u64) -> usize {
+    match reads {
         0..2 => 0,
         2..5 => 1,
         5..10 => 2,
         10..14 => 3,
         _ => 4,
-    };
-    let told = if reads < 15 {
+    }
+}
+
+/// What is told of the read after so many.
+fn fault_after(reads: u64) -> Option<InputFault> {
+    if reads < 15 {
         Some(InputFault::DeviceFailed)
     } else {
         None
-    };
-    (lines, told)
+    }
+}
+
+fn read_so_often(rt: &impl Host, reads: u64, items: &mut Vec<LineItem>) -> Option<InputFault> {
+    let bytes = MemorySource::new(bytes_of(rt, "1\n[]\n \n{}\n[1]"), 1);
+    let mut source = FailingSource::new(bytes, reads);
+    read_all(rt, &mut source, items)
 }
 
 /// A read that fails is told after the whole lines before it, and the unfinished line is dropped.
 #[test]
 fn reads_that_fail(rt: HostRuntime) {
     for reads in 0..20 {
-        let bytes = MemorySource::new(bytes_of(&rt, "1\n[]\n \n{}\n[1]"), 1);
-        let (items, fault) = items_of(&rt, FailingSource::new(bytes, reads));
-        assert_eq!(rt; (items.len(), fault), wanted_after(reads), "{reads}");
+        let mut items = Vec::new(rt.alloc());
+        let fault = read_so_often(&rt, reads, &mut items);
+        are_same_at(&rt, items.len(), lines_after(reads), reads);
+        are_same_at(&rt, fault, fault_after(reads), reads);
     }
 }
 
-/// Writes of these texts take so many bytes, or fail.
-fn takes<H: Host, W: ByteSink>(rt: &H, sink: &mut W, calls: &[(&str, Option<usize>)]) {
-    for (text, count) in calls {
-        assert!(rt; !text.as_bytes().is_empty());
-        assert_eq!(rt; sink.write(text.as_bytes()).ok(), *count, "at {text}");
-    }
+/// A write of this text takes so many bytes, or fails.
+fn takes<H: Host, W: ByteSink>(rt: &H, sink: &mut W, text: &str, count: Option<usize>) {
+    assert!(rt; !text.as_bytes().is_empty());
+    are_same_at(rt, sink.write(text.as_bytes()).ok(), count, text);
 }
 
 fn sinks_of_memory(rt: &impl Host) {
     let mut sink = MemorySink::new(rt.alloc(), 1);
-    takes(rt, &mut sink, &[("ab", Some(1)), ("b", Some(1))]);
+    takes(rt, &mut sink, "ab", Some(1));
+    takes(rt, &mut sink, "b", Some(1));
     is_text(rt, sink.as_slice(), "ab");
-    let mut failing = FailingSink::new(&mut sink, 1);
-    takes(
-        rt,
-        &mut failing,
-        &[("cd", Some(1)), ("d", None), ("d", None)],
-    );
+    fails_at_second(rt, &mut FailingSink::new(&mut sink, 1));
     is_text(rt, sink.as_slice(), "abc");
 }
 
-fn sinks_over_those_of_std(rt: &impl Host) {
+fn fails_at_second<H: Host, W: ByteSink>(rt: &H, failing: &mut W) {
+    takes(rt, failing, "cd", Some(1));
+    takes(rt, failing, "d", None);
+    takes(rt, failing, "d", None);
+}
+
+fn sinks_over_vectors(rt: &impl Host) {
     let mut bytes = Vec::new(rt.alloc());
-    let mut writer = StdSink::new(&mut bytes);
-    takes(rt, &mut writer, &[("abc", Some(3))]);
+    takes(rt, &mut StdSink::new(&mut bytes), "abc", Some(3));
     is_text(rt, bytes.as_slice(), "abc");
+}
+
+fn sinks_over_slices(rt: &impl Host) {
     let mut room = [0u8; 2];
     let mut narrow = StdSink::new(room.as_mut_slice());
-    takes(rt, &mut narrow, &[("abc", Some(2)), ("c", None)]);
+    takes(rt, &mut narrow, "abc", Some(2));
+    takes(rt, &mut narrow, "c", None);
 }
 
 #[test]
 fn sinks(rt: HostRuntime) {
     sinks_of_memory(&rt);
-    sinks_over_those_of_std(&rt);
+    sinks_over_vectors(&rt);
+    sinks_over_slices(&rt);
 }

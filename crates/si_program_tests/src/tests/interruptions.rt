@@ -1,6 +1,6 @@
 //! Reads and writes that a signal interrupts are tried again.
 
-use super::{PLAIN, ended, is_text};
+use super::{PLAIN, are_same, ended, is_text};
 use si_cli::ExitStatus;
 use si_text::{StdSink, StdSource};
 use std::io;
@@ -59,7 +59,7 @@ fn interrupted_calls_are_tried_again(rt: HostRuntime) {
     };
     let mut sink = StdSink::new(&mut writer);
     let ended = ended(&rt, &mut source, &mut sink, PLAIN);
-    assert_eq!(rt; ended.ok(), Some(ExitStatus::Open));
+    are_same(&rt, ended.ok(), Some(ExitStatus::Open));
     let expected =
         "refused source=0 line=1 code=3 reason=not-object\ntransactions=0 findings=0 refused=1 verdict=clean\n";
     is_text(&rt, writer.bytes.as_slice(), expected);

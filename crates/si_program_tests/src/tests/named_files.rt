@@ -3,7 +3,7 @@
 ghost use Rattle.std.specs.Prelude.{Some, not};
 ghost use Rattle.std.specs.Str.{bytes_eq};
 
-use super::{Host, is_text, outcome, words_of, writes};
+use super::{Host, ProgramEnd, are_same, is_text, outcome, words_of, writes};
 use si_cli::{CannotOpen, NamedFiles};
 use si_text::StdSource;
 use si_text::memory::FailingSource;
@@ -42,21 +42,15 @@ const STALE: &str =
 
 const REFUSED: &str = "refused source=0 line=3 code=15 reason=stamp-order\n";
 
-/// Command lines, and what is written for them.
-const CHECKED: [(&str, &str); 3] = [
-    (
-        "check a",
-        "refused source=0 line=3 code=15 reason=stamp-order\nstale key=\"x\" txn=3 op=0 read=1 missed=2\ntransactions=3 findings=1 refused=1 verdict=violation\n",
-    ),
-    (
-        "check --explain a",
-        "refused source=0 line=3 code=15 reason=stamp-order\nstale key=\"x\" txn=3 op=0 read=1 missed=2\n  G-SI(b) 3-rw->2 2-st->3\ntransactions=3 findings=1 refused=1 verdict=violation\n",
-    ),
-    (
-        "check a --explain --every=2",
-        "transactions=2 findings=0 refused=0 verdict=clean\nrefused source=0 line=3 code=15 reason=stamp-order\nstale key=\"x\" txn=3 op=0 read=1 missed=2\n  G-SI(b) 3-rw->2 2-st->3\ntransactions=3 findings=1 refused=1 verdict=violation\nstale key=\"x\" txn=3 op=0 read=1 missed=2\n  G-SI(b) 3-rw->2 2-st->3\ntransactions=3 findings=1 refused=1 verdict=violation\n",
-    ),
-];
+/// What is written for its three good lines.
+const PLAINLY: &str =
+    "refused source=0 line=3 code=15 reason=stamp-order\nstale key=\"x\" txn=3 op=0 read=1 missed=2\ntransactions=3 findings=1 refused=1 verdict=violation\n";
+
+const EXPLAINED: &str =
+    "refused source=0 line=3 code=15 reason=stamp-order\nstale key=\"x\" txn=3 op=0 read=1 missed=2\n  G-SI(b) 3-rw->2 2-st->3\ntransactions=3 findings=1 refused=1 verdict=violation\n";
+
+const EXPLAINED_TWICE: &str =
+    "transactions=2 findings=0 refused=0 verdict=clean\nrefused source=0 line=3 code=15 reason=stamp-order\nstale key=\"x\" txn=3 op=0 read=1 missed=2\n  G-SI(b) 3-rw->2 2-st->3\ntransactions=3 findings=1 refused=1 verdict=violation\nstale key=\"x\" txn=3 op=0 read=1 missed=2\n  G-SI(b) 3-rw->2 2-st->3\ntransactions=3 findings=1 refused=1 verdict=violation\n";
 
 /// The file `a` of those bytes with so many good reads, checked by the words of this line, gives this on both devices, and the
 /// status. Standard input has a line that is refused.
@@ -71,21 +65,20 @@ fn answers(rt: &impl Host, reads: u64, line: &str, told: (&str, &str, u8)) {
 
 #[test]
 fn a_file_is_checked_by_the_options(rt: HostRuntime) {
-    for (line, output) in CHECKED {
-        answers(&rt, 100, line, (output, "", 20));
-    }
+    answers(&rt, 100, "check a", (PLAINLY, "", 20));
+    answers(&rt, 100, "check --explain a", (EXPLAINED, "", 20));
+    let line = "check a --explain --every=2";
+    answers(&rt, 100, line, (EXPLAINED_TWICE, "", 20));
 }
 
 /// Of a file whose second read fails the lines of the first read are decided, and no report comes.
 #[test]
 fn a_file_is_missing_or_fails(rt: HostRuntime) {
-    for (reads, line, output, complaint) in [
-        (100, "check b", "", "sicheck: cannot open source 0\n"),
-        (0, "check a", "", "sicheck: cannot read source 0\n"),
-        (1, "check a", REFUSED, "sicheck: cannot read source 0\n"),
-    ] {
-        answers(&rt, reads, line, (output, complaint, 2));
-    }
+    let cannot_open = "sicheck: cannot open source 0\n";
+    answers(&rt, 100, "check b", ("", cannot_open, 2));
+    let cannot_read = "sicheck: cannot read source 0\n";
+    answers(&rt, 0, "check a", ("", cannot_read, 2));
+    answers(&rt, 1, "check a", (REFUSED, cannot_read, 2));
 }
 
 /// All files are opened before one is read.
@@ -94,16 +87,21 @@ fn a_missing_one_is_told(rt: &impl Host) {
     answers(rt, 100, "check a b a c", ("", complaint, 2));
 }
 
-/// The file `a` twice is two sources.
-fn one_twice_is_two(rt: &impl Host) {
+/// How the program ends on the file `a` twice.
+fn end_of_one_twice(rt: &impl Host) -> ProgramEnd {
     let files = OneFile {
         name: "a",
         bytes: WRITES,
         reads: 100,
     };
     let words = words_of(rt, "check a a");
-    let outcome = outcome(rt, &files, words.as_slice(), "");
-    assert_eq!(rt; outcome.status, 10);
+    outcome(rt, &files, words.as_slice(), "")
+}
+
+/// The file `a` twice is two sources.
+fn one_twice_is_two(rt: &impl Host) {
+    let outcome = end_of_one_twice(rt);
+    are_same(rt, outcome.status, 10);
     let first =
         "refused source=0 line=1 code=12 reason=id-present\ntransactions=1 findings=0 refused=1 verdict=clean\n";
     let second =

@@ -3,11 +3,11 @@
 ghost use Rattle.std.specs.Prelude.{◌≡◌, false};
 
 use super::{
-    Host, PLAIN, ProgramEnd, answer, bytes_of, ended, halves, is_text, outcome, text_of, words_of,
-    writes,
+    Host, PLAIN, ProgramEnd, answer, are_same, are_same_at, bytes_of, ended, halves, is_text,
+    outcome, text_of, words_of, writes,
 };
 use si_cli::{
-    ExitStatus, NamedFiles, Options, RunFault, SettingsFault, StdFiles, main_without_key,
+    ExitStatus, NamedFiles, Options, RunFault, Settings, SettingsFault, StdFiles, main_without_key,
     settings_of,
 };
 use si_text::ByteSource;
@@ -18,39 +18,40 @@ const LOST_UPDATE: &str =
 
 #[test]
 fn versions(rt: HostRuntime) {
+    let files = StdFiles::new(&rt);
     for option in ["--version", "-V"] {
-        let words = ["sicheck", option];
-        writes(
-            &rt,
-            &StdFiles::new(&rt),
-            words.as_slice(),
-            LOST_UPDATE,
-            ("sicheck 0.1.0\n", "", 0),
-        );
+        let words = words_of(&rt, option);
+        let told = ("sicheck 0.1.0\n", "", 0);
+        writes(&rt, &files, words.as_slice(), LOST_UPDATE, told);
+    }
+}
+
+/// To which device something was written.
+fn device_told(out: &[u8], err: &[u8]) -> &'static str {
+    match (out.is_empty(), err.is_empty()) {
+        (false, true) => "writes",
+        (true, false) => "complains",
+        (true, true) => "does neither",
+        (false, false) => "does both",
     }
 }
 
 /// The status, and to which device something was written.
 fn told(rt: &impl Host, outcome: &ProgramEnd) -> String {
-    let silent = (
-        outcome.out.as_slice().is_empty(),
-        outcome.err.as_slice().is_empty(),
-    );
-    let device = match silent {
-        (false, true) => "writes",
-        (true, false) => "complains",
-        (true, true) => "does neither",
-        (false, false) => "does both",
-    };
+    let device = device_told(outcome.out.as_slice(), outcome.err.as_slice());
     format!(in rt.alloc(); "{} {device}", outcome.status).expect(rt, "memory")
+}
+
+/// The same of the program's end on the words of this line.
+fn told_on<H: Host, F: NamedFiles>(rt: &H, files: &F, line: &str) -> String {
+    let words = words_of(rt, line);
+    told(rt, &outcome(rt, files, words.as_slice(), LOST_UPDATE))
 }
 
 /// On the words before the bar the program ends with the status behind it, and `writes` its output or `complains`.
 fn ends_so<H: Host, F: NamedFiles>(rt: &H, files: &F, row: &str) {
     let (line, wanted) = halves(rt, row);
-    let words = words_of(rt, line);
-    let outcome = outcome(rt, files, words.as_slice(), LOST_UPDATE);
-    assert_eq!(rt; told(rt, &outcome).as_str(), wanted, "at {row}");
+    are_same_at(rt, told_on(rt, files, line).as_str(), wanted, row);
 }
 
 const COMMAND_LINES: &str = "
@@ -84,13 +85,18 @@ fn command_lines(rt: HostRuntime) {
     }
 }
 
-/// `4 - plain`: how many shards, after how many lines a report comes, and whether its findings are `explained`.
-fn options_told(rt: &impl Host, options: Options) -> String {
-    let every = match options.every {
+/// After how many lines a report comes.
+fn every_told(rt: &impl Host, every: Option<u64>) -> String {
+    let every = match every {
         None => String::from_str(rt.alloc(), "-"),
         Some(every) => format!(in rt.alloc(); "{every}"),
     };
-    let every = every.expect(rt, "memory");
+    every.expect(rt, "memory")
+}
+
+/// `4 - plain`: how many shards, after how many lines a report comes, and whether its findings are `explained`.
+fn options_told(rt: &impl Host, options: Options) -> String {
+    let every = every_told(rt, options.every);
     let explained = if options.explain {
         "explained"
     } else {
@@ -99,22 +105,31 @@ fn options_told(rt: &impl Host, options: Options) -> String {
     format!(in rt.alloc(); "{} {every} {explained}", options.shards).expect(rt, "memory")
 }
 
+/// What the words ask for.
+fn settings<'a>(rt: &impl Host, words: &'a [&str]) -> Settings<'a> {
+    settings_of(rt.alloc(), words).ok().expect(rt, "settings")
+}
+
+/// The files have these names.
+fn are_named(rt: &impl Host, files: &[&str], names: &str, row: &str) {
+    let named = files.iter().copied();
+    assert!(rt; named.eq(names.split_ascii_whitespace()), "at {row}");
+}
+
+/// The settings are the options before the bar and the files behind it.
+fn are_asked(rt: &impl Host, settings: &Settings<'_>, wanted: &str, row: &str) {
+    let (options, files) = halves(rt, wanted);
+    are_same(rt, settings.options.limit, PLAIN.limit);
+    let told = options_told(rt, settings.options);
+    are_same_at(rt, told.as_str(), options, row);
+    are_named(rt, &settings.files, files, row);
+}
+
 /// The words before the bar ask for the options behind it, and for the files behind the second bar.
 fn asks_so(rt: &impl Host, row: &str) {
     let (line, wanted) = halves(rt, row);
-    let (options, files) = halves(rt, wanted);
     let words = words_of(rt, line);
-    let settings = settings_of(rt.alloc(), words.as_slice())
-        .ok()
-        .expect(rt, "settings");
-    assert_eq!(rt; settings.options.limit, PLAIN.limit);
-    assert_eq!(rt;
-        options_told(rt, settings.options).as_str(),
-        options,
-        "at {row}"
-    );
-    let named = settings.files.iter().copied();
-    assert!(rt; named.eq(files.split_ascii_whitespace()), "at {row}");
+    are_asked(rt, &settings(rt, words.as_slice()), wanted, row);
 }
 
 const ASKED: &str = "
@@ -148,17 +163,14 @@ fn nine_files_are_too_many(rt: HostRuntime) {
 #[test]
 fn a_fault_of_words_is_printed(rt: HostRuntime) {
     let text = format!(in rt.alloc(); "{}", SettingsFault::TooManyFiles).expect(&rt, "memory");
-    assert_eq!(rt; text.as_str(), "too many files");
+    are_same(&rt, text.as_str(), "too many files");
 }
 
 #[test]
 fn statuses(rt: HostRuntime) {
-    let codes = [
-        ExitStatus::Clean.code(),
-        ExitStatus::Open.code(),
-        ExitStatus::Violation.code(),
-    ];
-    assert_eq!(rt; codes, [0, 10, 20]);
+    are_same(&rt, ExitStatus::Clean.code(), 0);
+    are_same(&rt, ExitStatus::Open.code(), 10);
+    are_same(&rt, ExitStatus::Violation.code(), 20);
 }
 
 /// Lines that are read whole.
@@ -173,7 +185,7 @@ fn a_run_cannot_read(rt: &impl Host) {
     let mut input = FailingSource::new(source(rt), 0);
     let mut out = MemorySink::new(rt.alloc(), 4096);
     let ended = ended(rt, &mut input, &mut out, PLAIN);
-    assert_eq!(rt; ended.err(), Some(RunFault::Input(0)));
+    are_same(rt, ended.err(), Some(RunFault::Input(0)));
     is_text(rt, out.as_slice(), "");
 }
 
@@ -182,7 +194,7 @@ fn a_run_cannot_write(rt: &impl Host) {
     let mut input = source(rt);
     let mut out = FailingSink::new(MemorySink::new(rt.alloc(), 4096), 0);
     let ended = ended(rt, &mut input, &mut out, PLAIN);
-    assert_eq!(rt; ended.err(), Some(RunFault::Output));
+    are_same(rt, ended.err(), Some(RunFault::Output));
 }
 
 #[test]
@@ -198,7 +210,7 @@ fn the_program_cannot_read<H: Host, F: NamedFiles>(rt: &H, files: &F) {
     let mut out = MemorySink::new(rt.alloc(), 4096);
     let mut err = MemorySink::new(rt.alloc(), 4096);
     let status = answer(rt, files, CHECK.as_slice(), &mut input, &mut out, &mut err);
-    assert_eq!(rt; status, 2);
+    are_same(rt, status, 2);
     is_text(rt, err.as_slice(), "sicheck: cannot read source 0\n");
 }
 
@@ -207,7 +219,7 @@ fn the_program_cannot_write<H: Host, F: NamedFiles>(rt: &H, files: &F) {
     let mut out = FailingSink::new(MemorySink::new(rt.alloc(), 4096), 0);
     let mut err = MemorySink::new(rt.alloc(), 4096);
     let status = answer(rt, files, CHECK.as_slice(), &mut input, &mut out, &mut err);
-    assert_eq!(rt; status, 2);
+    are_same(rt, status, 2);
     is_text(rt, err.as_slice(), "sicheck: cannot write\n");
 }
 
@@ -218,20 +230,27 @@ fn faults_in_words(rt: HostRuntime) {
     the_program_cannot_write(&rt, &files);
 }
 
+/// How the program ends on these words with no secret key for the hash maps.
+fn end_without_key(rt: &impl Host, words: &[&str]) -> ProgramEnd {
+    let mut out = MemorySink::new(rt.alloc(), 4096);
+    let mut err = MemorySink::new(rt.alloc(), 4096);
+    let status = main_without_key(rt.alloc(), words, &mut out, &mut err);
+    ProgramEnd { out, err, status }
+}
+
+/// The status, and what was written.
+fn said(rt: &impl Host, end: &ProgramEnd) -> String {
+    let out = text_of(rt, end.out.as_slice());
+    let err = text_of(rt, end.err.as_slice());
+    format!(in rt.alloc(); "{} {out}{err}", end.status).expect(rt, "memory")
+}
+
 /// With no secret key for the hash maps the program on the words before the bar writes the output behind it, or complains so.
 fn ends_without_key(rt: &impl Host, row: &str) {
     let (line, wanted) = halves(rt, row);
     let words = words_of(rt, line);
-    let mut out = MemorySink::new(rt.alloc(), 4096);
-    let mut err = MemorySink::new(rt.alloc(), 4096);
-    let status = main_without_key(rt.alloc(), words.as_slice(), &mut out, &mut err);
-    let said = format!(in rt.alloc();
-        "{status} {}{}",
-        text_of(rt, out.as_slice()),
-        text_of(rt, err.as_slice())
-    )
-    .expect(rt, "memory");
-    assert_eq!(rt; said.as_str().trim(), wanted, "at {row}");
+    let said = said(rt, &end_without_key(rt, words.as_slice()));
+    are_same_at(rt, said.as_str().trim(), wanted, row);
 }
 
 const WITHOUT_KEY: &str = "

@@ -1,4 +1,4 @@
-use super::{Host, bytes_of, halves, repeated};
+use super::{Host, are_same_at, bytes_of, halves, repeated};
 use si_model::{Edit, TxnId};
 use si_scripts::edit_of;
 use si_text::{Field, LineFault, read_edit};
@@ -17,17 +17,35 @@ fn with_ops(rt: &impl Host, ops: &str) -> String {
     ).expect(rt, "memory")
 }
 
+/// The edit of these words.
+fn edit(rt: &impl Host, words: &str) -> Edit {
+    edit_of(rt, words).ok().expect(rt, "an edit in words")
+}
+
+/// The edit that the line says.
+fn read(rt: &impl Host, line: &[u8]) -> Edit {
+    read_edit(rt.alloc(), line).ok().expect(rt, "an edit")
+}
+
+/// Whether the edits are the same. They are moved here, so that no other proof sees how they are compared and let go.
+fn is_edit_of(found: Edit, wanted: Edit) -> bool {
+    found == wanted
+}
+
 /// The line says the edit of these words.
 fn says(rt: &impl Host, line: &[u8], words: &str) {
-    let wanted = edit_of(rt, words).ok().expect(rt, "an edit in words");
-    assert!(rt; read_edit(rt.alloc(), line) == Ok(wanted), "{words}");
+    assert!(rt; is_edit_of(read(rt, line), edit(rt, words)), "{words}");
+}
+
+fn fault_of(rt: &impl Host, line: &[u8]) -> LineFault {
+    read_edit(rt.alloc(), line).err().expect(rt, "a fault")
 }
 
 /// The line has this fault, as its variant stands in code.
 fn lacks(rt: &impl Host, line: &[u8], wanted: &str) {
-    let fault = read_edit(rt.alloc(), line).err().expect(rt, "a fault");
+    let fault = fault_of(rt, line);
     let told = format!(in rt.alloc(); "{fault:?}").expect(rt, "memory");
-    assert_eq!(rt; told.as_str(), wanted, "of {} bytes", line.len());
+    are_same_at(rt, told.as_str(), wanted, line.len());
 }
 
 const EDITS: &str = "
@@ -154,36 +172,39 @@ fn numbers_of_operations_at_their_limit(rt: HostRuntime) {
     lacks(&rt, more.as_bytes(), "TooManyOps");
 }
 
+/// A line with a value that nests so deep.
+fn with_note(rt: &impl Host, depth: usize) -> String {
+    let (open, close) = (repeated(rt, "[", depth), repeated(rt, "]", depth));
+    format!(in rt.alloc(); "{{\"do\":\"withdraw\",\"id\":7,\"note\":{open}{close}}}").expect(
+        rt, "memory",
+    )
+}
+
 /// A value that nests deeper than is read is no JSON.
 #[test]
 fn values_that_nest_deep(rt: HostRuntime) {
-    let (open, close) = (repeated(&rt, "[", 200), repeated(&rt, "]", 200));
-    let line = format!(in rt.alloc();
-        "{{\"do\":\"withdraw\",\"id\":7,\"note\":{open}{close}}}"
-    ).expect(&rt, "memory");
-    let answer = read_edit(rt.alloc(), line.as_bytes());
+    let line = with_note(&rt, 200);
     assert!(rt;
         matches!(
-            answer,
+            read_edit(rt.alloc(), line.as_bytes()),
             Err(LineFault::NotJson) | Ok(Edit::Withdraw(TxnId(7)))
         )
     );
 }
 
+fn has_number(rt: &impl Host, fault: LineFault, code: Option<u64>) {
+    are_same_at(rt, fault.code(), code, fault);
+}
+
 #[test]
 fn faults_have_numbers(rt: HostRuntime) {
-    let rows = [
-        (LineFault::TooLong, Some(1)),
-        (LineFault::NotJson, Some(2)),
-        (LineFault::NotObject, Some(3)),
-        (LineFault::BadKind, Some(4)),
-        (LineFault::BadField(Field::Ops), Some(5)),
-        (LineFault::BadStatus, Some(6)),
-        (LineFault::TooManyOps, Some(7)),
-        (LineFault::BadOp(3), Some(8)),
-        (LineFault::OutOfMemory, None),
-    ];
-    for (fault, code) in rows {
-        assert_eq!(rt; fault.code(), code, "{fault}");
-    }
+    has_number(&rt, LineFault::TooLong, Some(1));
+    has_number(&rt, LineFault::NotJson, Some(2));
+    has_number(&rt, LineFault::NotObject, Some(3));
+    has_number(&rt, LineFault::BadKind, Some(4));
+    has_number(&rt, LineFault::BadField(Field::Ops), Some(5));
+    has_number(&rt, LineFault::BadStatus, Some(6));
+    has_number(&rt, LineFault::TooManyOps, Some(7));
+    has_number(&rt, LineFault::BadOp(3), Some(8));
+    has_number(&rt, LineFault::OutOfMemory, None);
 }

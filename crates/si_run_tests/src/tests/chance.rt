@@ -4,33 +4,48 @@ use super::orders::check_order;
 use super::{Host, PLAIN};
 use si_run::Options;
 use si_scripts::chance::Dice;
+use std::fmt::Display;
 
 /// How many runs there are.
 const ROUNDS: u64 = 40;
+
+fn op(rt: &impl Host, kind: &str, key: &str, value: impl Display + Drop) -> String {
+    format!(in rt.alloc(); "[\"{kind}\",\"{key}\",{value}]").expect(rt, "memory")
+}
 
 /// An operation on one of two keys.
 fn op_by(rt: &impl Host, dice: &mut Dice) -> String {
     let key = if dice.below(2) == 0 { "x" } else { "y" };
     let value = dice.below(4);
-    let text = match dice.below(4) {
-        0 => format!(in rt.alloc(); "[\"r\",\"{key}\",null]"),
-        1 => format!(in rt.alloc(); "[\"r\",\"{key}\",{value}]"),
-        _ => format!(in rt.alloc(); "[\"w\",\"{key}\",{value}]"),
-    };
-    text.expect(rt, "memory")
+    match dice.below(4) {
+        0 => op(rt, "r", key, "null"),
+        1 => op(rt, "r", key, value),
+        _ => op(rt, "w", key, value),
+    }
+}
+
+fn committed(rt: &impl Host, commit: u64) -> String {
+    format!(in rt.alloc(); "\"committed\",\"commit\":{commit}").expect(rt, "memory")
+}
+
+fn string(rt: &impl Host, text: &str) -> String {
+    String::from_str(rt.alloc(), text).expect(rt, "memory")
 }
 
 /// A status, of a transaction that starts there.
 fn status_by(rt: &impl Host, dice: &mut Dice, start: u64) -> String {
-    let text = match dice.below(6) {
-        0 => String::from_str(rt.alloc(), "\"aborted\""),
-        1 => String::from_str(rt.alloc(), "\"indoubt\""),
-        _ => {
-            let commit = start.saturating_add(dice.below(4));
-            format!(in rt.alloc(); "\"committed\",\"commit\":{commit}")
-        }
-    };
-    text.expect(rt, "memory")
+    match dice.below(6) {
+        0 => string(rt, "\"aborted\""),
+        1 => string(rt, "\"indoubt\""),
+        _ => committed(rt, start.saturating_add(dice.below(4))),
+    }
+}
+
+fn txn(rt: &impl Host, (id, start): (u64, u64), status: &str, ops: (&str, &str)) -> String {
+    let (first, second) = ops;
+    format!(in rt.alloc();
+        "{{\"do\":\"txn\",\"id\":{id},\"start\":{start},\"status\":{status},\"ops\":[{first},{second}]}}"
+    ).expect(rt, "memory")
 }
 
 /// A transaction, of which nothing makes sure that it will be accepted.
@@ -40,27 +55,42 @@ fn txn_by(rt: &impl Host, dice: &mut Dice) -> String {
     let status = status_by(rt, dice, start);
     let first = op_by(rt, dice);
     let second = op_by(rt, dice);
-    format!(in rt.alloc();
-        "{{\"do\":\"txn\",\"id\":{id},\"start\":{start},\"status\":{status},\"ops\":[{first},{second}]}}"
-    ).expect(rt, "memory")
+    let ops = (first.as_str(), second.as_str());
+    txn(rt, (id, start), status.as_str(), ops)
+}
+
+/// The line of that kind, where it is no transaction, with `#` in place of an id and `%` in place of another number.
+fn pattern(kind: u64) -> Option<&'static str> {
+    match kind {
+        0 => Some(""),
+        1 => Some("[%]"),
+        2 => Some("{\"do\":\"withdraw\",\"id\":#}"),
+        3 => Some("{\"do\":\"setup\",\"key\":\"x\",\"value\":%}"),
+        4 => Some("{\"do\":\"resolve\",\"id\":#,\"status\":\"aborted\"}"),
+        5 => Some("{\"do\":\"resolve\",\"id\":#,\"status\":\"committed\",\"commit\":%}"),
+        _ => None,
+    }
+}
+
+/// The line with this number in place of that mark.
+fn with_number(rt: &impl Host, line: &str, mark: &str, number: u64) -> String {
+    let number = format!(in rt.alloc(); "{number}").expect(rt, "memory");
+    line.replace(rt.alloc(), mark, number.as_str())
+        .expect(rt, "memory")
+}
+
+fn with_numbers(rt: &impl Host, line: &str, id: u64, number: u64) -> String {
+    with_number(rt, with_number(rt, line, "#", id).as_str(), "%", number)
 }
 
 /// A line of any kind.
 fn line_by(rt: &impl Host, dice: &mut Dice) -> String {
     let id = dice.below(9);
     let number = dice.below(16);
-    let text = match dice.below(12) {
-        0 => Ok(String::new(rt.alloc())),
-        1 => format!(in rt.alloc(); "[{number}]"),
-        2 => format!(in rt.alloc(); "{{\"do\":\"withdraw\",\"id\":{id}}}"),
-        3 => format!(in rt.alloc(); "{{\"do\":\"setup\",\"key\":\"x\",\"value\":{number}}}"),
-        4 => format!(in rt.alloc(); "{{\"do\":\"resolve\",\"id\":{id},\"status\":\"aborted\"}}"),
-        5 => format!(in rt.alloc();
-            "{{\"do\":\"resolve\",\"id\":{id},\"status\":\"committed\",\"commit\":{number}}}"
-        ),
-        _ => Ok(txn_by(rt, dice)),
-    };
-    text.expect(rt, "memory")
+    match pattern(dice.below(12)) {
+        Some(line) => with_numbers(rt, line, id, number),
+        None => txn_by(rt, dice),
+    }
 }
 
 /// The text of a source of up to twelve lines.
@@ -97,15 +127,25 @@ fn options_by(dice: &mut Dice) -> Options {
     }
 }
 
+fn parts_of<'a>(rt: &impl Host, texts: &'a [String]) -> Vec<&'a str> {
+    let mut parts = Vec::new(rt.alloc());
+    for text in texts {
+        parts.push(text.as_str()).expect(rt, "memory");
+    }
+    parts
+}
+
+/// A run over these texts, with options by chance.
+fn check_texts(rt: &impl Host, dice: &mut Dice, texts: &[String]) {
+    let parts = parts_of(rt, texts);
+    check_order(rt, parts.as_slice(), options_by(dice));
+}
+
 #[test]
 fn lines_of_many_sources(rt: HostRuntime) {
     for round in 0..ROUNDS {
         let mut dice = Dice::new(round);
         let texts = texts_by(&rt, &mut dice);
-        let mut parts = Vec::new(rt.alloc());
-        for text in &texts {
-            parts.push(text.as_str()).expect(&rt, "memory");
-        }
-        check_order(&rt, parts.as_slice(), options_by(&mut dice));
+        check_texts(&rt, &mut dice, texts.as_slice());
     }
 }

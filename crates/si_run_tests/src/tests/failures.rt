@@ -1,16 +1,11 @@
 //! Reads and writes that fail at each place.
 
-use super::{DOUBT, Host, PLAIN, RESOLUTION, RESOLVED, RunEnd, UNRESOLVED};
+use super::{
+    DOUBT, Host, PLAIN, RESOLUTION, RESOLVED, RunEnd, UNRESOLVED, are_same, secret_key, source_of,
+};
 use si_run::{ExitStatus, RunFault, run};
 use si_text::memory::{FailingSink, FailingSource, MemorySink, MemorySource};
-use std::hash::RandomState;
 use std::slice;
-
-/// The bytes of the text, in pieces of that size.
-fn source(rt: &impl Host, text: &str, piece: usize) -> MemorySource {
-    let bytes = Vec::from_slice(rt.alloc(), text.as_bytes()).expect(rt, "memory");
-    MemorySource::new(bytes, piece.max(1))
-}
 
 /// A value that is written twice, with a withdrawal between.
 const AGAIN: &str =
@@ -25,11 +20,10 @@ const AGAIN_TEXT: &str =
 
 /// How a run ends that writes a byte at once, of which so many writes don't fail.
 fn ended_writing(rt: &impl Host, writes: usize) -> RunEnd {
-    let mut input = source(rt, AGAIN, 4096);
+    let mut input = source_of(rt, AGAIN, 4096);
     let mut out = MemorySink::new(rt.alloc(), 1);
     let mut failing = FailingSink::new(&mut out, writes as u64);
-    let hash = RandomState::new(rt).expect(rt, "a secret key");
-    let inputs = slice::from_mut(&mut input);
+    let (hash, inputs) = (secret_key(rt), slice::from_mut(&mut input));
     let status = run(rt, rt.alloc(), hash, inputs, &mut failing, PLAIN);
     RunEnd { status, out }
 }
@@ -38,35 +32,40 @@ fn ended_writing(rt: &impl Host, writes: usize) -> RunEnd {
 fn each_write_fails(rt: HostRuntime) {
     let text = AGAIN_TEXT.as_bytes();
     for writes in 0..text.len() {
-        let ended = ended_writing(&rt, writes);
-        assert_eq!(rt; ended.status, Err(RunFault::Output));
-        assert_eq!(rt; Some(ended.out.as_slice()), text.get(..writes));
+        is_cut_short(&rt, &ended_writing(&rt, writes), text.get(..writes));
     }
+}
+
+/// The run could write no more than this.
+fn is_cut_short(rt: &impl Host, ended: &RunEnd, text: Option<&[u8]>) {
+    are_same(rt, ended.status, Err(RunFault::Output));
+    are_same(rt, Some(ended.out.as_slice()), text);
 }
 
 /// How a run over the two texts ends, which are given by a byte a read, the second one by so many good reads.
 fn ended_reading(rt: &impl Host, reads: usize) -> RunEnd {
     let mut inputs = [
-        FailingSource::new(source(rt, DOUBT, 1), u64::MAX),
-        FailingSource::new(source(rt, RESOLUTION, 1), reads as u64),
+        FailingSource::new(source_of(rt, DOUBT, 1), u64::MAX),
+        FailingSource::new(source_of(rt, RESOLUTION, 1), reads as u64),
     ];
     let mut out = MemorySink::new(rt.alloc(), 4096);
-    let hash = RandomState::new(rt).expect(rt, "a secret key");
-    let inputs = inputs.as_mut_slice();
+    let (hash, inputs) = (secret_key(rt), inputs.as_mut_slice());
     let status = run(rt, rt.alloc(), hash, inputs, &mut out, PLAIN);
     RunEnd { status, out }
+}
+
+/// The run could not read the second source, and wrote the beginning of one of two texts.
+fn cannot_read(rt: &impl Host, ended: &RunEnd) {
+    are_same(rt, ended.status, Err(RunFault::Input(1)));
+    let text = ended.out.as_slice();
+    assert!(rt; RESOLVED.as_bytes().starts_with(text) || UNRESOLVED.as_bytes().starts_with(text));
 }
 
 /// One read finds the end.
 #[test]
 fn each_read_of_the_second_source_fails(rt: HostRuntime) {
     for reads in 0..RESOLUTION.len() {
-        let ended = ended_reading(&rt, reads);
-        assert_eq!(rt; ended.status, Err(RunFault::Input(1)));
-        let text = ended.out.as_slice();
-        assert!(rt;
-            RESOLVED.as_bytes().starts_with(text) || UNRESOLVED.as_bytes().starts_with(text)
-        );
+        cannot_read(&rt, &ended_reading(&rt, reads));
     }
     let status = ended_reading(&rt, 1_000).status;
     assert!(rt; status == Ok(ExitStatus::Clean) || status == Ok(ExitStatus::Open));

@@ -1,6 +1,6 @@
 //! Threads that are held until others have come somewhere: each is a thread of its own.
 
-use super::{DOUBT, Host, PLAIN, RESOLUTION, ended_gated, is_resolved_or_not};
+use super::{DOUBT, Host, PLAIN, RESOLUTION, are_same, ended_gated, is_resolved_or_not};
 use si_model::Number;
 use si_run::{ExitStatus, Gate, Options, Place};
 use std::sync::atomic::{AtomicU64, Ordering};
@@ -97,8 +97,8 @@ impl Gate for OnePublished {
 
 /// Nobody gave up, and that was told.
 fn was_told(rt: &impl Host, told: &Told, word: &AtomicU64) {
-    assert_eq!(rt; told.gave_up.load(Ordering::SeqCst), 0);
-    assert_eq!(rt; word.load(Ordering::SeqCst), 1);
+    are_same(rt, told.gave_up.load(Ordering::SeqCst), 0);
+    are_same(rt, word.load(Ordering::SeqCst), 1);
 }
 
 #[test]
@@ -118,8 +118,8 @@ const PAIR: &str =
 /// A run over the pair is clean, and writes this text.
 fn is_clean<R: Host, G: Gate + Sync>(rt: &R, options: Options, gate: &G, text: &str) {
     let ended = ended_gated(rt, [PAIR].as_slice(), (4096, 4096), options, gate);
-    assert_eq!(rt; ended.status, Ok(ExitStatus::Clean));
-    assert_eq!(rt; ended.out.as_slice(), text.as_bytes());
+    are_same(rt, ended.status, Ok(ExitStatus::Clean));
+    are_same(rt, ended.out.as_slice(), text.as_bytes());
 }
 
 const CLEAN: &str = "transactions=2 findings=0 refused=0 verdict=clean\n";

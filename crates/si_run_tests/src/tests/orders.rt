@@ -1,6 +1,6 @@
 //! The order in which items are decided, as the gate tells it, and the text of one source that has their lines in that order.
 
-use super::{Host, ended, ended_gated};
+use super::{Host, are_same, ended, ended_gated};
 use si_run::{Gate, Options, Place};
 use si_text::memory::MemorySink;
 use std::mem;
@@ -35,6 +35,15 @@ impl<'a, R: Wait> Gate for Noting<'a, R> {
     }
 }
 
+/// A gate that has noted nothing.
+fn new_gate<R: Host>(rt: &R) -> Noting<'_, R> {
+    let noted = Mutex::new(Noted {
+        items: Vec::new(rt.alloc()),
+        is_whole: true,
+    });
+    Noting { rt, noted }
+}
+
 /// What was noted, of all items.
 fn order_of<R: Host>(rt: &R, gate: &Noting<'_, R>) -> Vec<Decided> {
     let mut guard = gate.noted.lock(rt);
@@ -45,13 +54,7 @@ fn order_of<R: Host>(rt: &R, gate: &Noting<'_, R>) -> Vec<Decided> {
 
 /// The text of a run over these texts, and the order in which their lines were decided.
 fn run_noted<R: Host>(rt: &R, texts: &[&str], options: Options) -> (MemorySink, Vec<Decided>) {
-    let gate = Noting {
-        rt,
-        noted: Mutex::new(Noted {
-            items: Vec::new(rt.alloc()),
-            is_whole: true,
-        }),
-    };
+    let gate = new_gate(rt);
     let ended = ended_gated(rt, texts, (50, 100), options, &gate);
     assert!(rt; ended.status.is_ok());
     (ended.out, order_of(rt, &gate))
@@ -79,17 +82,27 @@ fn in_order(rt: &impl Host, texts: &[&str], order: &[Decided]) -> String {
     all
 }
 
-/// The line with the source and line of a refused item in place of the place that it has in that order.
-fn row_put_back(rt: &impl Host, row: &str, order: &[Decided]) -> String {
-    let Some(told) = row.strip_prefix("refused source=0 line=") else {
-        return format!(in rt.alloc(); "{row}\n").expect(rt, "memory");
-    };
-    let (place, reason) = told.split_once(' ').expect(rt, "a reason");
+/// The item of that place in that order, counted from 1.
+fn item_at(rt: &impl Host, place: &str, order: &[Decided]) -> Decided {
     let place = place.parse::<usize>().ok().expect(rt, "a number");
-    let (source, line) = order
+    *order
         .get(place.wrapping_sub(1))
-        .expect(rt, "one of the lines");
+        .expect(rt, "one of the lines")
+}
+
+/// What is told of a refused item, with its source and line in place of the place that it has in that order.
+fn refusal_put_back(rt: &impl Host, told: &str, order: &[Decided]) -> String {
+    let (place, reason) = told.split_once(' ').expect(rt, "a reason");
+    let (source, line) = item_at(rt, place, order);
     format!(in rt.alloc(); "refused source={source} line={line} {reason}\n").expect(rt, "memory")
+}
+
+/// The line with the source and line of a refused item put back, where it tells of one.
+fn row_put_back(rt: &impl Host, row: &str, order: &[Decided]) -> String {
+    match row.strip_prefix("refused source=0 line=") {
+        Some(told) => refusal_put_back(rt, told, order),
+        None => format!(in rt.alloc(); "{row}\n").expect(rt, "memory"),
+    }
 }
 
 /// The text with each line put back.
@@ -126,18 +139,38 @@ fn lines_given(rt: &impl Host, text: &str) -> Vec<u64> {
     wanted
 }
 
+/// The lines of each text were decided, each once and in their order.
+fn are_decided(rt: &impl Host, texts: &[&str], order: &[Decided]) {
+    for (source, text) in texts.iter().enumerate() {
+        are_same(rt, lines_decided(rt, order, source), lines_given(rt, text));
+    }
+}
+
+/// What a run over this one text writes, put back to the sources and lines in that order.
+fn written_in_order(rt: &impl Host, lines: &str, options: Options, order: &[Decided]) -> String {
+    let one = ended(rt, [lines].as_slice(), (4096, 4096), options);
+    assert!(rt; one.status.is_ok());
+    let text = str::from_utf8(one.out.as_slice()).expect(rt, "the output is text");
+    put_back(rt, text, order)
+}
+
+/// What was written is what one source would give that has the lines in that order.
+fn is_of_order(
+    rt: &impl Host,
+    written: &[u8],
+    texts: &[&str],
+    options: Options,
+    order: &[Decided],
+) {
+    let lines = in_order(rt, texts, order);
+    let wanted = written_in_order(rt, lines.as_str(), options, order);
+    are_same(rt, written, wanted.as_bytes());
+}
+
 /// A run over these texts, in which blank lines are empty, decides all their lines, each once and those of a source in their order,
 /// and writes what one source would give that has them in the order in which they were decided.
 pub fn check_order(rt: &impl Host, texts: &[&str], options: Options) {
     let (out, order) = run_noted(rt, texts, options);
-    for (source, text) in texts.iter().enumerate() {
-        let decided = lines_decided(rt, order.as_slice(), source);
-        assert_eq!(rt; decided, lines_given(rt, text));
-    }
-    let lines = in_order(rt, texts, order.as_slice());
-    let one = ended(rt, [lines.as_str()].as_slice(), (4096, 4096), options);
-    assert!(rt; one.status.is_ok());
-    let text = str::from_utf8(one.out.as_slice()).expect(rt, "the output is text");
-    let wanted = put_back(rt, text, order.as_slice());
-    assert_eq!(rt; out.as_slice(), wanted.as_bytes());
+    are_decided(rt, texts, order.as_slice());
+    is_of_order(rt, out.as_slice(), texts, options, order.as_slice());
 }
