@@ -62,13 +62,13 @@ def past(code, at, closes):
 
 
 def before(code, at):
-    """Returns the name of the cycle that the attributes before a function give it, if they do, and where they start."""
+    """Returns the name of the cycle that the attributes before a function give it, if they do, and the line and the place where they start."""
     name = None
     while at > 0 and code[at - 1][3] not in "{};":
         at -= 1
         if code[at][3] == "cycle":
             name = code[at + 2][3]
-    return name, code[at][1]
+    return name, code[at][0], code[at][1]
 
 
 def around(scopes):
@@ -93,7 +93,7 @@ def functions(file, module, rattle):
             at = end + 1
             continue
         if word == "fn" and at + 1 < len(code) and re.fullmatch(r"\w+", code[at + 1][3]):
-            name, end, (cycle, head) = code[at + 1][3], past(code, at + 2, "{;"), before(code, at)
+            name, end, (cycle, line, head) = code[at + 1][3], past(code, at + 2, "{;"), before(code, at)
             if end < len(code) and code[end][3] == "{":
                 name_at, at, inner = code[at + 1][1], end + 1, 1
                 while at < len(code) and inner:
