@@ -1,7 +1,9 @@
--- Threads may share a checker: what stands behind its locks may go to any of them.
+-- Threads may share a checker: what stands behind its locks may go to any of them. And so may what is handed to a thread.
 use denote.RattleType.{RattleType}
 use denote.Param.Send.{IsSend, IsSync, recorded_send, recorded_sync, sendable, struct_send, struct_sync, view_send}
 use denote.Struct.Declared.{shape}
+use denote.Struct.Tuple.{TupleAt, field_at, type_at}
+use Rattle.std.proofs.Common.{List, [], ◌∷◌, ℕ}
 use Rattle.std.proofs.Crossing.{crosses}
 use Rattle.std.proofs.alloc.Global.TheSendSync as global
 use Rattle.std.proofs.marker.PhantomData.TheSendSync as phantom
@@ -32,3 +34,25 @@ module _ (N : RattleType) (G : Ghosts N.Denot) where
       (search (desk_send, crosses, sendable) depth 20, (search (bay_send, crosses, sendable) depth 20, (search (crosses, sendable) depth 20, tt))),
     ),
   ))
+
+-- ---- what a closure captures
+
+pub two_send : (name : List ℕ) (A B : RattleType) → IsSend A → IsSend B → IsSend (TupleAt name (A ∷ B ∷ []))
+two_send name A B a b =
+    let Ts : List RattleType = A ∷ B ∷ [] in
+    recorded_send (field_at name Ts).row _ _ (type_at name Ts).to_one (struct_send (shape (type_at name Ts)) (a, (b, tt)))
+
+pub three_send : (name : List ℕ) (A B C : RattleType) → IsSend A → IsSend B → IsSend C → IsSend (TupleAt name (A ∷ B ∷ C ∷ []))
+three_send name A B C a b c =
+    let Ts : List RattleType = A ∷ B ∷ C ∷ [] in
+    recorded_send (field_at name Ts).row _ _ (type_at name Ts).to_one (struct_send (shape (type_at name Ts)) (a, (b, (c, tt))))
+
+pub four_send : (name : List ℕ) (A B C D : RattleType) → IsSend A → IsSend B → IsSend C → IsSend D → IsSend (TupleAt name (A ∷ B ∷ C ∷ D ∷ []))
+four_send name A B C D a b c d =
+    let Ts : List RattleType = A ∷ B ∷ C ∷ D ∷ [] in
+    recorded_send (field_at name Ts).row _ _ (type_at name Ts).to_one (struct_send (shape (type_at name Ts)) (a, (b, (c, (d, tt)))))
+
+pub three_sync : (name : List ℕ) (A B C : RattleType) → IsSync A → IsSync B → IsSync C → IsSync (TupleAt name (A ∷ B ∷ C ∷ []))
+three_sync name A B C a b c =
+    let Ts : List RattleType = A ∷ B ∷ C ∷ [] in
+    recorded_sync (field_at name Ts).row _ _ (type_at name Ts).to_one (struct_sync (shape (type_at name Ts)) (a, (b, (c, tt))))

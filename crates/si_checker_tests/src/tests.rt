@@ -7,6 +7,7 @@ mod long_runs;
 mod openings;
 mod threads;
 mod turns;
+mod words;
 
 use callers::{Alone, Caller, Row, are_same, assert_report, edit, next, play};
 use si_checker::gates::Open;

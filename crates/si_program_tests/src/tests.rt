@@ -1,4 +1,4 @@
-//! What lines say, what is written, and how runs and the whole program end.
+//! What lines say, what is written, what comes of several sources, and how runs and the whole program end.
 
 ghost use Rattle.std.specs.Prelude.{◌≡◌, false};
 ghost use Rattle.std.specs.Mem.{FitsInMemory};
@@ -8,6 +8,7 @@ mod evidence;
 mod files;
 mod helps;
 mod inputs;
+mod intakes;
 mod interruptions;
 mod known_keys;
 mod long_runs;
@@ -15,6 +16,7 @@ mod named_files;
 mod programs;
 mod readings;
 mod rows;
+mod runs;
 mod set_ups;
 mod texts;
 

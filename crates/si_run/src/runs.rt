@@ -1,8 +1,11 @@
-ghost use Rattle.std.specs.Prelude.{◌≡◌, ◌≤◌, All, [], false, length, map, IfOk, IfErr, OnOk, OnErr};
+ghost use Rattle.std.specs.Prelude.{◌≡◌, ◌≤◌, ◌++◌, All, Err, List, [], false, length, map, IfOk, IfErr, OnOk, OnErr};
 ghost use Rattle.std.specs.Thread.{IsSend, IsSync};
 ghost use Rattle.si_intake.specs.declared.openings.TheConstants.{MOST_SOURCES};
+ghost use Rattle.si_intake.specs.declared.items.Item.{Item as Told};
+ghost use Rattle.si_intake.specs.Ends.{AllEnded};
 ghost use Rattle.si_words.specs.Seats.{seated};
 ghost use Rattle.si_words.specs.Views.{new_pass};
+ghost use Rattle.si_run.specs.declared.faults.RunFault.TheVariants.{Memory};
 ghost use Rattle.si_run.specs.Outputs.{start};
 ghost use Rattle.si_run.specs.Readings.{AreRead};
 ghost use Rattle.si_run.specs.Runs.{BeginsText, IsTrueDeviceFault, IsTrueFault, WritesText, terms_by};
@@ -223,11 +226,18 @@ fn run_threads<
     let ((), tried) = join_mut(rt, &mut sources, &mut others);
     match tried {
         Some(ended) => ended,
-        None => {
-            drop_all(rt, accepter);
-            Err(RunFault::Memory)
-        }
+        None => give_up(rt, accepter),
     }
+}
+
+/// Takes what is left, where the sources didn't begin, and answers that memory was refused.
+fn give_up<R: Wait>(rt: &R, accepter: &mut Accepter) -> Result<ExitStatus, RunFault>
+    ensures taken { (more : List Told) × (accepter.new ≡ record accepter.old { taken = accepter.old.taken ++ more }) }
+    ensures ended { AllEnded accepter.new }
+    ensures fault { result ≡ Err Memory }
+{
+    drop_all(rt, accepter);
+    Err(RunFault::Memory)
 }
 
 /// Accepts in this thread, or answers none where the sources don't begin.

@@ -2,7 +2,8 @@ use denote.Exit.{no}
 use denote.Param.{param}
 use denote.Param.Send.{arg_send, mut_slice_send, param_send, shr_send}
 use Rattle.si_intake.proofs.source_ends.SourceEnd.TheSendSync as end
-use Rattle.si_run.proofs.Crossing.{four_send, session_sync}
+use Rattle.si_checker.proofs.Crossing.{four_send}
+use Rattle.si_run.proofs.Crossing.{session_sync}
 use Rattle.si_run.proofs.runs.run_threads.Goals as goal
 
 pub join_mut-tried-requires-send-F : goal.join_mut-tried-requires-send-F

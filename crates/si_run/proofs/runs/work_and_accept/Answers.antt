@@ -1,7 +1,8 @@
 use denote.Exit.{no}
 use denote.Param.{param}
 use denote.Param.Send.{arg_send, param_send, shr_send}
-use Rattle.si_run.proofs.Crossing.{session_sync, two_send}
+use Rattle.si_checker.proofs.Crossing.{two_send}
+use Rattle.si_run.proofs.Crossing.{session_sync}
 use Rattle.si_run.proofs.runs.work_and_accept.Goals as goal
 
 pub join_mut-ended-requires-send-F : goal.join_mut-ended-requires-send-F

@@ -3,7 +3,8 @@ use denote.Param.{param}
 use denote.Param.Send.{IsSend, IsSync, arg_send, mut_send, param_send, shr_send}
 use Rattle.std.proofs.Common.{rules}
 use Rattle.si_intake.proofs.source_ends.SourceEnd.TheSendSync as end
-use Rattle.si_run.proofs.Crossing.{four_send, session_sync}
+use Rattle.si_checker.proofs.Crossing.{four_send}
+use Rattle.si_run.proofs.Crossing.{session_sync}
 use Rattle.si_run.proofs.sources.+inputs.Goals as goal
 
 pub read_both-join_mut-requires-send-F : goal.read_both-join_mut-requires-send-F

@@ -1,8 +1,7 @@
 use denote.Exit.{no}
 use denote.Param.{param}
 use denote.Param.Send.{arg_send, param_send, shr_send}
-use Rattle.si_checker.proofs.Crossing.{checker_sync}
-use Rattle.si_checker_tests.proofs.tests.Crossing.{two_send}
+use Rattle.si_checker.proofs.Crossing.{checker_sync, two_send}
 use Rattle.si_checker_tests.proofs.tests.long_runs.long_run.Goals as goal
 
 pub join-all_closed-requires-send-F : goal.join-all_closed-requires-send-F

@@ -2,7 +2,7 @@ use denote.Exit.{no}
 use denote.Param.{param}
 use denote.Param.Send.{arg_send, param_send, shr_send}
 use Rattle.std.proofs.Crossing.{Vec-send}
-use Rattle.si_checker_tests.proofs.tests.Crossing.{three_send}
+use Rattle.si_checker.proofs.Crossing.{three_send}
 use Rattle.si_checker_tests.proofs.tests.long_runs.Crossing.{submitter_send}
 use Rattle.si_checker_tests.proofs.tests.long_runs.Pace.TheSendSync as pace
 use Rattle.si_checker_tests.proofs.tests.long_runs.submit_and_look.Goals as goal

@@ -1,8 +1,7 @@
 use denote.Exit.{no}
 use denote.Param.{param}
 use denote.Param.Send.{arg_send, param_send, shr_send}
-use Rattle.si_checker.proofs.Crossing.{checker_sync}
-use Rattle.si_checker_tests.proofs.tests.Crossing.{three_send}
+use Rattle.si_checker.proofs.Crossing.{checker_sync, three_send}
 use Rattle.si_checker_tests.proofs.tests.threads.Holding.TheSendSync as holding
 use Rattle.si_checker_tests.proofs.tests.threads.are_worked_and_submitted.Goals as goal
 

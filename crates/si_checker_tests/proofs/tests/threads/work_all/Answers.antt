@@ -1,8 +1,7 @@
 use denote.Exit.{no}
 use denote.Param.{param}
 use denote.Param.Send.{arg_sync, param_sync, shr_sync}
-use Rattle.si_checker.proofs.Crossing.{checker_sync}
-use Rattle.si_checker_tests.proofs.tests.Crossing.{three_sync}
+use Rattle.si_checker.proofs.Crossing.{checker_sync, three_sync}
 use Rattle.si_checker_tests.proofs.tests.threads.work_all.Goals as goal
 
 pub map_indices-ended-requires-sync-F : goal.map_indices-ended-requires-sync-F

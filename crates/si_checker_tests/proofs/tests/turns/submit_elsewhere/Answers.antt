@@ -1,7 +1,8 @@
 use denote.Exit.{no}
 use denote.Param.{param}
 use denote.Param.Send.{arg_send, param_send, shr_send}
-use Rattle.si_checker_tests.proofs.tests.Crossing.{caller_send, two_send}
+use Rattle.si_checker.proofs.Crossing.{two_send}
+use Rattle.si_checker_tests.proofs.tests.Crossing.{caller_send}
 use Rattle.si_checker_tests.proofs.tests.turns.submit_elsewhere.Goals as goal
 
 pub join-requires-send-F : goal.join-requires-send-F

@@ -1,5 +1,0 @@
-use Rattle.std.proofs.Common.{◌≡◌, ◌<◌}
-use Rattle.si_words_tests.proofs.tests.look_on.Given as goal
-
-abbrev pub invariant-loop : goal.invariant-loop
-invariant-loop l = (l.pass.table ≡ l.words.table) × (0 < l.words.shards)
