@@ -69,6 +69,19 @@ impl Book {
         if let Some(refusal) = self.refusal(&edit) {
             return Err(AcceptFault::Refused(refusal));
         }
+        Ok(self.add(edit)?)
+    }
+
+    /// Adds an edit, for which there is room, to the journal.
+    fn add(&mut self, edit: Edit) -> Result<Number, OutOfMemory>
+        requires room { length self.old.journal < self.old.limit }
+        requires acceptable { IsAcceptable (present self.old.journal) edit }
+        ensures ok { OnOk result (self.new ≡ record self.old { journal = self.old.journal ++ edit ∷ [] }) }
+        ensures number { IfOk result (λ number. number.0 ≡ length self.new.journal) }
+        ensures accepted { OnOk result (IsAccepted self.new.journal) }
+        ensures present { OnOk result (present self.new.journal ≡ after edit (present self.old.journal)) }
+        ensures err { OnErr result (self.new ≡ self.old) }
+    {
         // All that can fail comes before the journal changes.
         let recorded = edit.try_clone()?;
         self.journal.reserve(1)?;

@@ -3,22 +3,17 @@
 ghost use Rattle.std.specs.Prelude.{◌≡◌, false};
 ghost use Rattle.std.specs.Mem.{FitsInMemory};
 
-mod devices;
 mod evidence;
 mod files;
 mod helps;
-mod inputs;
 mod intakes;
 mod interruptions;
-mod known_keys;
 mod long_runs;
 mod named_files;
 mod programs;
-mod readings;
 mod rows;
 mod runs;
 mod set_ups;
-mod texts;
 
 use si_cli::{ExitStatus, NamedFiles, Options, RunFault, main_with, run};
 use si_text::memory::{MemorySink, MemorySource};
