@@ -5,3 +5,4 @@ pub mod Parts
 pub mod Rising
 pub mod Search
 pub mod Ends
+pub mod Passing
