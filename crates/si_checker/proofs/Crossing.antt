@@ -1,4 +1,5 @@
--- Threads may share a checker: what stands behind its locks may go to any of them. And so may what is handed to a thread.
+-- Threads may share a checker: what stands behind its locks may go to any of them. And a closure may go to a thread where all that it
+-- captures may.
 use denote.RattleType.{RattleType}
 use denote.Param.Send.{IsSend, IsSync, recorded_send, recorded_sync, sendable, struct_send, struct_sync, view_send}
 use denote.Struct.Declared.{shape}

@@ -125,6 +125,18 @@ impl<N: Name> Checker<N> {
         let mut guard = self.desk.lock(rt);
         let desk = &mut *guard;
         desk.show(&self.words, pass);
+        self.report_of(rt, desk)
+    }
+
+    /// The findings of the whole journal, and what is present after it.
+    fn report_of<R: Wait>(&self, rt: &R, desk: &mut Desk<N>) -> Result<Report, ReportFault>
+        ensures desk { desk.new ≡ desk.old }
+        ensures number { IfOk result (λ r. r.number ≡ length desk.old.journal) }
+        ensures present { IfOk result (λ r. r.present.items ≡ (present (edits_of desk.old.journal)).txns) }
+        ensures initial { IfOk result (λ r. r.initial.items ≡ (present (edits_of desk.old.journal)).initial) }
+        ensures found { IfOk result (λ r. r.findings.items ≡ findings (present (edits_of desk.old.journal))) }
+        ensures empty { IfOk result (λ r. (r.findings.items ≡ []) ↔ (IsWellFormed (present (edits_of desk.old.journal)) × IsPlSi (present (edits_of desk.old.journal)))) }
+    {
         let findings = self.settle(rt, desk)?;
         Ok(Report {
             number: desk.len(),

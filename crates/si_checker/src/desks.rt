@@ -106,7 +106,8 @@ impl<N: Name> Desk<N> {
         ensures made { pass.old.view.mine ≡ made_by pass.old.view.number self.old.journal }
         ensures bearers { All (λ e. e.by < N.board.passes) self.old.journal }
     {
-        words.see(pass, &mut self.seat);
+        let seat = &mut self.seat;
+        words.see(pass, seat);
     }
 
     /// The words are closed from now on.
