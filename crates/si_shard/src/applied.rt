@@ -176,12 +176,33 @@ impl Applied {
         ensures begins { BeginsWith kept.old.items kept.new.items }
     {
         let mut waiting = Waiting::new(self.alloc, self.hash);
-        for edit in edits {
-            let touches = self.gather(&mut waiting, kept.as_slice(), edit, id)?;
-            keep(kept, edit, touches)?;
-            self.make_many(&mut waiting, kept.len())?;
-        }
+        self.gather_all(&mut waiting, kept, _stored, edits, id)?;
         self.make(waiting)?;
+        Ok(())
+    }
+
+    /// Gathers what the edits, which come after the stored ones, are on the keys, and keeps copies of those that are anything there.
+    fn gather_all(
+        &mut self,
+        waiting: &mut Waiting,
+        kept: &mut Vec<Edit>,
+        _stored: &Stored,
+        edits: &[Edit],
+        id: ShardId,
+    ) -> Result<(), OutOfMemory>
+        requires shards { 0 < id.shards }
+        requires kept { AreKept id _stored.now kept.old.items }
+        requires gathered { AreGatheredTo id kept.old.items self.old waiting.old.lists }
+        requires accepted { IsAccepted (_stored.now ++ edits.now) }
+        ensures kept { OnOk result (AreKept id (_stored.now ++ edits.now) kept.new.items) }
+        ensures gathered { OnOk result (AreGatheredTo id kept.new.items self.new waiting.new.lists) }
+        ensures begins { BeginsWith kept.old.items kept.new.items }
+    {
+        for edit in edits {
+            let touches = self.gather(waiting, kept.as_slice(), edit, id)?;
+            keep(kept, edit, touches)?;
+            self.make_many(waiting, kept.len())?;
+        }
         Ok(())
     }
 
