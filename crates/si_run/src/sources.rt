@@ -2,6 +2,7 @@
 ghost use Rattle.std.specs.Prelude.{◌≡◌, [], false, All, List, length, map};
 ghost use Rattle.std.specs.Thread.{IsSend, IsSync};
 ghost use Rattle.si_text.specs.Inputs.{Item as LineRead};
+ghost use Rattle.si_text.specs.LineBuffers.{IsFresh};
 ghost use Rattle.si_run.specs.Readings.{AreRead, EndsSo, HasPut, IsRead};
 
 use crate::sessions::Session;
@@ -130,8 +131,25 @@ fn put_lines<N: Name, R: Wait, S: ByteSource, G: Gate>(
     let Ok(mut lines) = LineBuffer::new(session.alloc) else {
         return What::NoMemory;
     };
-    let source = end.source();
     let mut kept = KeptKeys::new(session.alloc, session.hash);
+    put_read(rt, session, input, end, &mut lines, &mut kept)
+}
+
+/// Puts what this buffer reads of an input, and answers how it ended.
+fn put_read<N: Name, R: Wait, S: ByteSource, G: Gate>(
+    rt: &R,
+    session: &Session<'_, N, G>,
+    input: &mut S,
+    end: &mut SourceEnd,
+    lines: &mut LineBuffer,
+    kept: &mut KeptKeys,
+) -> What
+    requires works { S.failed input.old ≡ false }
+    requires fresh { end.old.put ≡ [] }
+    requires buffer { IsFresh lines.old }
+    ensures { (items : List LineRead) × HasPut end.old end.new items × EndsSo (S.left input.old) (S.failed input.new) items result }
+{
+    let source = end.source();
     'items: for _turn in 0..u64::MAX {
         match lines.next_item(input, &mut kept.keys) {
             Ok(Some((line, answer))) => {

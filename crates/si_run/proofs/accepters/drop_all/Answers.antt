@@ -4,7 +4,7 @@ use Rattle.si_intake.specs.Ends.{Accepting}
 use Rattle.si_intake.specs.declared.items.Item.{Item as Told}
 use Rattle.si_run.proofs.accepters.drop_all.Goals as goal
 
--- nothing but what was taken is another, and that goes on
+-- nothing changed but what was taken, to which more came
 abbrev HasTakenMore : Accepting → Accepting → Type 0
 HasTakenMore old new = (more : List Told) × (new ≡ record old { taken = old.taken ++ more })
 

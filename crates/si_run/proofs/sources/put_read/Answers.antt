@@ -1,17 +1,23 @@
-use Rattle.std.proofs.Common.{◌≡◌, ◌++◌, ◌∷◌, [], inl, inr, refl, ◌∙◌, ◌-◌, ◌^◌, ◌≤◌, ℕ, ap, sym, arith}
+use Rattle.std.proofs.Common.{◌≡◌, ◌++◌, ◌∷◌, [], List, inl, inr, refl, ◌∙◌, ◌-◌, ◌^◌, ◌≤◌, ℕ, ap, sym, arith}
 use Rattle.si_intake.specs.Ends.{Putting}
 use Rattle.si_text.specs.Inputs.{Item}
 use Rattle.si_text.specs.LineBuffers.{bytes_to_come}
-use Rattle.si_run.specs.Readings.{told_item}
+use Rattle.si_run.specs.Readings.{HasPut, told_item}
 use Rattle.si_run.proofs.Runnings.{CountsBytes-none, CountsBytes-then, begins, first_read, goes_on, many_items, spends, unended}
-use Rattle.si_run.proofs.sources.put_lines.Goals as goal
+use Rattle.si_run.proofs.sources.put_read.Goals as goal
+
+-- the item was put with the number of its source
+put_of : (old mid new : Putting) (items : List Item) (s : ℕ) (item : Item) → s ≡ old.source → HasPut old mid items → new ≡ record mid { put = mid.put ++ told_item s item ∷ [] }
+    → new ≡ record mid { put = mid.put ++ told_item mid.source item ∷ [] }
+put_of old mid new items s item source puts put =
+    put ∙ ap (λ (n : ℕ). record mid { put = mid.put ++ told_item n item ∷ [] }) (source ∙ sym (ap (λ (e : Putting). e.source) puts.puts))
 
 pub items-init : goal.items-init
 items-init g c =
     let left = g.S.ByteSource.left c.args.input.now in
     record {
-      way = begins c.in-Ok.lines left c.args.end.now c.in-Ok.ensures;
-      counts = (c.in-Ok.lines, c.in-Ok.ensures, CountsBytes-none c.in-Ok.lines left);
+      way = begins c.args.lines.now left c.args.end.now c.requires.buffer;
+      counts = (c.args.lines.now, c.requires.buffer, CountsBytes-none c.args.lines.now left);
       works = c.requires.works;
       source = c.source-source.ensures;
     }
@@ -28,13 +34,11 @@ items-preserved g c =
     let at = c.items.invariant in
     let one = rw c.in-Ok-Some.field-0-is at c.in-Ok-Some.ensures.items in
     let item : Item = (c.in-Ok-Some.line, c.in-Ok-Some.answer) in
-    let source : c.source-source.result ≡ c.items.end.source = c.source-source.ensures ∙ sym (ap (λ (e : Putting). e.source) at.way.puts.puts) in
-    let puts : c.put.new.self ≡ record c.items.end { put = c.items.end.put ++ told_item c.items.end.source item ∷ [] } =
-    c.put.ensures.put ∙ ap (λ (s : ℕ). record c.items.end { put = c.items.end.put ++ told_item s item ∷ [] }) source in
     record {
       way = goes_on (left c.args.input.now) c.items.lines.lines c.next_item.new.self.lines
           (bytes_to_come c.items.lines (left c.items.input)) (bytes_to_come c.next_item.new.self (left c.next_item.new.source))
-          c.args.end.now c.items.end c.put.new.self c.items._turn item at.way one puts;
+          c.args.end.now c.items.end c.put.new.self c.items._turn item at.way one
+          (put_of c.args.end.now c.items.end c.put.new.self at.way.items c.source-source.result item c.source-source.ensures at.way.puts c.put.ensures.put);
       counts = (at.counts.0, at.counts.1, CountsBytes-then at.counts.0 c.items.lines c.next_item.new.self (left c.args.input.now) (left c.items.input) (left c.next_item.new.source) at.counts.2 c.next_item.ensures.counts);
       works = c.in-Ok-Some.ensures.works ∙ at.works;
       source = at.source;
