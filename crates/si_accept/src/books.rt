@@ -72,7 +72,7 @@ impl Book {
         Ok(self.add(edit)?)
     }
 
-    /// Adds an edit, for which there is room, to the journal.
+    /// Adds an acceptable edit, for which there is room, to the journal. After refused memory the book is as before.
     fn add(&mut self, edit: Edit) -> Result<Number, OutOfMemory>
         requires room { length self.old.journal < self.old.limit }
         requires acceptable { IsAcceptable (present self.old.journal) edit }

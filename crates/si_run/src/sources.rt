@@ -135,7 +135,7 @@ fn put_lines<N: Name, R: Wait, S: ByteSource, G: Gate>(
     put_read(rt, session, input, end, &mut lines, &mut kept)
 }
 
-/// Puts what this buffer reads of an input, and answers how it ended.
+/// Puts what this fresh buffer reads of an input, and answers how that ended.
 fn put_read<N: Name, R: Wait, S: ByteSource, G: Gate>(
     rt: &R,
     session: &Session<'_, N, G>,
