@@ -172,6 +172,21 @@ impl<N: Name> Checker<N> {
         let desk = &mut *guard;
         let words = &self.words;
         desk.show(words, pass);
+        self.findings_of(rt, desk)
+    }
+
+    /// The findings of the whole journal, and how many transactions are present after it.
+    fn findings_of<R: Wait>(
+        &self,
+        rt: &R,
+        desk: &mut Desk<N>,
+    ) -> Result<SettledFindings, ReportFault>
+        ensures desk { desk.new ≡ desk.old }
+        ensures number { IfOk result (λ r. r.number ≡ length desk.old.journal) }
+        ensures count { IfOk result (λ r. r.transactions ≡ length (present (edits_of desk.old.journal)).txns) }
+        ensures found { IfOk result (λ r. r.findings.items ≡ findings (present (edits_of desk.old.journal))) }
+        ensures empty { IfOk result (λ r. (r.findings.items ≡ []) ↔ (IsWellFormed (present (edits_of desk.old.journal)) × IsPlSi (present (edits_of desk.old.journal)))) }
+    {
         let findings = self.settle(rt, desk)?;
         let number = desk.len();
         Ok(SettledFindings {

@@ -123,10 +123,6 @@ more_begun : (terms : Terms) (lines all next : List SourcedItem) (old new : Opti
 more_begun terms lines all next old new is begun = λ more.
     subst (λ (l : List SourcedItem). AppendsBeginning old new (output_of terms l)) (sym (ap (λ (l : List SourcedItem). l ++ more) is ∙ append_assoc lines next more)) (begun (next ++ more))
 
--- nor behind one more that was taken, which is decided no more
-pub stops_behind : (terms : Terms) (taken : List Told) (t : Told) (old new : Option (List ℕ)) (p : Progress) → IsDecided terms taken old new p → IsBegun terms (lines_among (taken ++ t ∷ [])) old new
-stops_behind terms taken t old new p way = more_begun terms (lines_among taken) (lines_among (taken ++ t ∷ [])) (lines_among (t ∷ [])) old new (filter_map-append line_of taken (t ∷ [])) (stops terms taken old new p way)
-
 -- a part of the text of one more line was written
 pub stops_in_line : (terms : Terms) (taken : List Told) (old mid new : Option (List ℕ)) (p : Progress) (source number : ℕ) (answer : Result Edit LineFault) (text : List ℕ)
     → IsDecided terms taken old mid p → AppendsBeginning mid new text → text ≡ item_text terms p (sourced source (number, answer))

@@ -1,9 +1,9 @@
 //! The accepter: it takes what the sources put, decides it, and writes what is written for it.
-ghost use Rattle.std.specs.Prelude.{◌≡◌, ◌++◌, [], false, List, IfOk, IfErr, OnOk, OnErr};
+ghost use Rattle.std.specs.Prelude.{◌≡◌, ◌<◌, ◌-◌, ◌^◌, ◌++◌, [], false, List, IfOk, IfErr, OnOk, OnErr};
 ghost use Rattle.std.specs.Io.KnownBytes.{Appends};
 ghost use Rattle.si_intake.specs.declared.items.Item.{Item as Told};
 ghost use Rattle.si_intake.specs.Ends.{AllEnded};
-ghost use Rattle.si_run.specs.Outputs.{report_at, start, status_at};
+ghost use Rattle.si_run.specs.Outputs.{item_text, progress_after, report_at, sourced, start, status_at};
 ghost use Rattle.si_run.specs.Runs.{AppendsBeginning, IsFaultOfWriting};
 ghost use Rattle.si_run.specs.Takings.{IsAccepted, IsCutOff, IsDecided, device};
 
@@ -14,7 +14,7 @@ use crate::{ExitStatus, RunFault};
 use si_checker::{Checker, Gate, Name, Place};
 use si_intake::{Accepter, Item, What};
 use si_model::Edit;
-use si_text::{ByteSink, LineFault};
+use si_text::{ByteSink, LineFault, LineItem};
 use std::sync::Wait;
 
 /// Decides what the sources put until each has told its end, writes what is written for it and then the last report, and answers the
@@ -68,15 +68,7 @@ fn decide_all<N: Name, R: Wait, W: ByteSink, G: Gate>(
         };
         match what {
             What::Line(line, answer) => {
-                text.clear();
-                let operations = operations_of(&answer);
-                let refused = engine.refused();
-                engine.decide(rt, session.checker, text, source, (line, answer))?;
-                if engine.refused() == refused {
-                    session.add(source, operations);
-                }
-                write_all(writer, text)?;
-                session.gate.at(Place::Decided { source, line });
+                decide_line(rt, session, text, engine, source, (line, answer), writer)?;
             }
             What::ReadFault => return Err(RunFault::Input(source)),
             What::NoMemory => return Err(RunFault::Memory),
@@ -86,6 +78,40 @@ fn decide_all<N: Name, R: Wait, W: ByteSink, G: Gate>(
     // No run comes here: it would have taken 2^64 - 1 items.
     for _ in rt.forever() {}
     unreachable!()
+}
+
+/// Decides an item of this source, and writes what is written for it.
+///
+/// At a fault a beginning of that was written.
+fn decide_line<N: Name, R: Wait, W: ByteSink, G: Gate>(
+    rt: &R,
+    session: &Session<'_, N, G>,
+    text: &mut Vec<u8>,
+    engine: &mut Engine<N>,
+    source: usize,
+    item: LineItem,
+    writer: &mut W,
+) -> Result<(), RunFault>
+    requires room { engine.old.progress.decided < 2 ^ 64 - 1 }
+    requires writer { W.failed writer.old ≡ false }
+    ensures terms { engine.new.terms ≡ engine.old.terms }
+    ensures progress { OnOk result (engine.new.progress ≡ progress_after engine.old.terms engine.old.progress (sourced source item)) }
+    ensures ok { OnOk result (Appends (W.written writer.old) (W.written writer.new) (item_text engine.old.terms engine.old.progress (sourced source item))) }
+    ensures works { OnOk result (W.failed writer.new ≡ false) }
+    ensures part { OnErr result (AppendsBeginning (W.written writer.old) (W.written writer.new) (item_text engine.old.terms engine.old.progress (sourced source item))) }
+    ensures err { IfErr result (IsFaultOfWriting (W.failed writer.new)) }
+{
+    let (line, answer) = item;
+    let operations = operations_of(&answer);
+    let refused = engine.refused();
+    text.clear();
+    engine.decide(rt, session.checker, text, source, (line, answer))?;
+    if engine.refused() == refused {
+        session.add(source, operations);
+    }
+    write_all(writer, text)?;
+    session.gate.at(Place::Decided { source, line });
+    Ok(())
 }
 
 /// How many operations the edit has, a set-up being one.

@@ -9,48 +9,33 @@ use Rattle.si_run.specs.Engines.{EngineState}
 use Rattle.si_run.specs.declared.faults.RunFault.TheVariants as fault
 use Rattle.si_run.specs.Takings.{IsCutOff, IsDecided}
 use Rattle.std.specs.Io.KnownBytes.{Appends}
-use Rattle.si_run.proofs.Beginnings.{cut_before, cut_in_line, decided_one, end_decided, line_decided, stops_behind, stops_in_line}
-use Rattle.si_run.proofs.accepters.decide_all.Goals.{in-Line+in_ok-decide-in-Line+in_ok-write_all-in-Line, in-End}
+use Rattle.si_run.proofs.Beginnings.{cut_before, cut_in_line, decided_one, end_decided, line_decided, stops_in_line}
+use Rattle.si_run.proofs.accepters.decide_all.Goals.{in-Line+in_ok-decide_line-in-Line, in-End}
 use Rattle.si_run.proofs.accepters.decide_all.Goals as goal
 
 -- what was taken with the item
 taken_is : (old new : Accepting) (t : Told) → new ≡ record old { taken = old.taken ++ t ∷ [] } → new.taken ≡ old.taken ++ t ∷ []
 taken_is old new t is = ap (λ (a : Accepting). a.taken) is
 
-pub returns-in_err-decide-in-Line-clause-err : goal.returns-in_err-decide-in-Line-clause-err
-returns-in_err-decide-in-Line-clause-err g c =
+pub returns-in_err-decide_line-in-Line-clause-err : goal.returns-in_err-decide_line-in-Line-clause-err
+returns-in_err-decide_line-in-Line-clause-err g c =
     let written = g.W.ByteSink.written in
-    let failed = g.W.ByteSink.failed c.items.writer in
-    let at = c.items.invariant in
-    let terms : Terms = c.args.engine.now.terms in
-    let before = c.items.accepter.taken in
-    let line : Told = told c.in-Some.field-0.source (Line c.in-Line.line c.in-Line.answer) in
-    let item : c.in-Some.field-0 ≡ line = search rules in
-    let taken = taken_is c.items.accepter c.take.new.self c.in-Some.field-0 c.in-Some.ensures.taken ∙ ap (λ (t : Told). before ++ t ∷ []) item in
-    let p = err_from_is_err_and c.from_residual.result c.from_residual.ensures.1 in
-    rw p.1 (rw p.2 (subst (λ (l : List Told). IsCutOff terms l (written c.args.writer.now) (written c.items.writer) failed fault.Memory) (sym taken)
-    (cut_in_line terms before c.in-Some.field-0.source c.in-Line.line c.in-Line.answer (written c.args.writer.now) (written c.items.writer) failed fault.Memory at.way.faultless
-    (stops_behind terms before line (written c.args.writer.now) (written c.items.writer) c.items.engine.progress at.way) at.works)))
-
-pub returns-in_err-write_all-in-Line-clause-err : goal.returns-in_err-write_all-in-Line-clause-err
-returns-in_err-write_all-in-Line-clause-err g c =
-    let written = g.W.ByteSink.written in
-    let failed = g.W.ByteSink.failed c.write_all.new.writer in
+    let failed = g.W.ByteSink.failed c.decide_line.new.writer in
     let at = c.items.invariant in
     let terms : Terms = c.args.engine.now.terms in
     let p = c.items.engine.progress in
+    let before = c.items.accepter.taken in
     let source = c.in-Some.field-0.source in
     let line = sourced source (c.in-Line.line, c.in-Line.answer) in
     let item : c.in-Some.field-0 ≡ told source (Line c.in-Line.line c.in-Line.answer) = search rules in
-    let taken = taken_is c.items.accepter c.take.new.self c.in-Some.field-0 c.in-Some.ensures.taken ∙ ap (λ (t : Told). c.items.accepter.taken ++ t ∷ []) item in
-    let told_is : c.deref.result.now ≡ item_text c.items.engine.terms p line = search rules in
-    let text_is : c.deref.result.now ≡ item_text terms p line = told_is ∙ ap (λ (t : Terms). item_text t p line) at.terms in
-    let has_failed : failed ≡ true = c.in_err-write_all-in-Line.ensures.failed ∙ ap (λ (b : Bool). b || true) at.works in
-    let f = err_from_is_err_and c.from_residual-in_err-write_all-in-Line.result c.from_residual-in_err-write_all-in-Line.ensures.1 in
-    rw f.1 (rw f.2 (subst (λ (l : List Told). IsCutOff terms l (written c.args.writer.now) (written c.write_all.new.writer) failed fault.Output) (sym taken)
-    (cut_in_line terms c.items.accepter.taken source c.in-Line.line c.in-Line.answer (written c.args.writer.now) (written c.write_all.new.writer) failed fault.Output at.way.faultless
-    (stops_in_line terms c.items.accepter.taken (written c.args.writer.now) (written c.items.writer) (written c.write_all.new.writer) p source c.in-Line.line c.in-Line.answer c.deref.result.now
-    at.way c.in_err-write_all-in-Line.ensures.err text_is) has_failed)))
+    let taken = taken_is c.items.accepter c.take.new.self c.in-Some.field-0 c.in-Some.ensures.taken ∙ ap (λ (t : Told). before ++ t ∷ []) item in
+    let text_is : item_text c.items.engine.terms p line ≡ item_text terms p line = ap (λ (t : Terms). item_text t p line) at.terms in
+    let met = c.in_err-decide_line-in-Line.field-0.0 in
+    let f = err_from_is_err_and c.from_residual.result c.from_residual.ensures.1 in
+    rw f.1 (rw f.2 (subst (λ (l : List Told). IsCutOff terms l (written c.args.writer.now) (written c.decide_line.new.writer) failed met) (sym taken)
+    (cut_in_line terms before source c.in-Line.line c.in-Line.answer (written c.args.writer.now) (written c.decide_line.new.writer) failed met at.way.faultless
+    (stops_in_line terms before (written c.args.writer.now) (written c.items.writer) (written c.decide_line.new.writer) p source c.in-Line.line c.in-Line.answer (item_text c.items.engine.terms p line)
+    at.way c.in_err-decide_line-in-Line.ensures.part text_is) c.in_err-decide_line-in-Line.ensures.err)))
 
 pub returns-in-ReadFault-clause-err : goal.returns-in-ReadFault-clause-err
 returns-in-ReadFault-clause-err g c =
@@ -85,26 +70,26 @@ items-preserved g c =
     let taken = taken_is c.items.accepter c.take.new.self c.in-Some.field-0 c.in-Some.ensures.taken in
     let same : c.take.new.self ≡ record c.args.accepter.now { taken = c.take.new.self.taken } = search rules in
     elim c.match-what.branch [
-      | in-Line+in_ok-decide-in-Line+in_ok-write_all-in-Line w ↦ (
+      | in-Line+in_ok-decide_line-in-Line w ↦ (
           let number = w.in-Line.line in
           let answer = w.in-Line.answer in
           let line = sourced source (number, answer) in
           let item : c.in-Some.field-0 ≡ told source (Line number answer) = search rules in
-          let told_is : w.deref.result.now ≡ item_text c.items.engine.terms p line = search rules in
-          let text_is : w.deref.result.now ≡ item_text terms p line = told_is ∙ ap (λ (t : Terms). item_text t p line) at.terms in
+          let text_is : item_text c.items.engine.terms p line ≡ item_text terms p line = ap (λ (t : Terms). item_text t p line) at.terms in
           let state : c.match-what.engine.progress ≡ progress_after terms p line =
-          ap (λ (e : EngineState). e.progress) w.engine-is ∙ w.in_ok-decide-in-Line.ensures.progress ∙ ap (λ (t : Terms). progress_after t p line) at.terms in
-          let adds : Appends (written c.items.writer) (written c.match-what.writer) w.deref.result.now =
-          subst (λ x. Appends (written c.items.writer) (written x) w.deref.result.now) (sym w.writer-is) w.in_ok-write_all-in-Line.ensures.ok in
+          ap (λ (e : EngineState). e.progress) w.engine-is ∙ w.in_ok-decide_line-in-Line.ensures.progress ∙ ap (λ (t : Terms). progress_after t p line) at.terms in
+          let adds : Appends (written c.items.writer) (written c.match-what.writer) (item_text c.items.engine.terms p line) =
+          subst (λ x. Appends (written c.items.writer) (written x) (item_text c.items.engine.terms p line)) (sym w.writer-is) w.in_ok-decide_line-in-Line.ensures.ok in
           let decided : c.match-what.engine.progress.decided ≡ p.decided + 1 = ap (λ (r : Progress). r.decided) state ∙ decided_one terms p line in
           record {
             same = same;
-            terms = ap (λ (e : EngineState). e.terms) w.engine-is ∙ w.in_ok-decide-in-Line.ensures.terms ∙ at.terms;
+            terms = ap (λ (e : EngineState). e.terms) w.engine-is ∙ w.in_ok-decide_line-in-Line.ensures.terms ∙ at.terms;
             way = subst (λ (l : List Told). IsDecided terms l (written c.args.writer.now) (written c.match-what.writer) c.match-what.engine.progress)
                 (sym (taken ∙ ap (λ (t : Told). before ++ t ∷ []) item))
-                (line_decided terms before (written c.args.writer.now) (written c.items.writer) (written c.match-what.writer) p c.match-what.engine.progress source number answer w.deref.result.now at.way adds text_is state);
+                (line_decided terms before (written c.args.writer.now) (written c.items.writer) (written c.match-what.writer) p c.match-what.engine.progress source number answer
+                (item_text c.items.engine.terms p line) at.way adds text_is state);
             turns = (let t = at.turns in omega arith);
-            works = ap g.W.ByteSink.failed w.writer-is ∙ w.in_ok-write_all-in-Line.ensures.failed ∙ ap (λ (b : Bool). b || false) at.works;
+            works = ap g.W.ByteSink.failed w.writer-is ∙ w.in_ok-decide_line-in-Line.ensures.works;
           }
           )
       | in-End w ↦ (
