@@ -6,16 +6,19 @@ import re
 NAME = re.compile(r"\s*(?:(?:pub|abbrev|unfoldable|record|data|private) )*([^\s(){}:]+)")
 WORDS = re.compile(r"[^\s(){}\[\].,:;]+")
 USE = re.compile(r"\s*(?:pub |ghost )*use ")
+RENAMED = re.compile(r"([^\s{},.]+) as ([^\s{},;]+)")
 
 
-def words_of(text):
-    """Returns the words of a text, comments and `use` lines aside."""
-    return {word for row in text.split("\n") if not re.match(r"\s*(?:--|//)", row) and not USE.match(row) for word in WORDS.findall(row)}
+def words_of(text, file=""):
+    """Returns the words of a text, comments and `use` lines aside, and for what a `use` line of its file renames the name that it has."""
+    words = {word for row in text.split("\n") if not re.match(r"\s*(?:--|//)", row) and not USE.match(row) for word in WORDS.findall(row)}
+    uses = "\n".join(row for row in (file or text).split("\n") if USE.match(row))
+    return words | {name for name, other in RENAMED.findall(uses) if other in words}
 
 
 def words_of_header(function, text):
     """Returns the words of a function's header, with its attributes."""
-    return words_of(text[function.head : function.body[0]].decode())
+    return words_of(text[function.head : function.body[0]].decode(), text.decode())
 
 
 def words_of_clauses(files, texts, law):
@@ -24,13 +27,13 @@ def words_of_clauses(files, texts, law):
     for path, near in files.items():
         text, inner = texts[path], sorted((it.head if it is law else it.body[0], it.body[1]) for it in near)
         starts, ends = [0, *(end for _, end in inner)], [*(start for start, _ in inner), len(text)]
-        words |= words_of(b"\n".join(text[start:end] for start, end in zip(starts, ends)).decode())
+        words |= words_of(b"\n".join(text[start:end] for start, end in zip(starts, ends)).decode(), text.decode())
     return words - {it.path.rpartition("::")[2] for near in files.values() for it in near}
 
 
 class Statements:
     """The definitions and lemmas of a crate, in the order of each file of specs/ and proofs/: at which lines each stands, what it declares
-    and which words it has. A search finds no lemma that isn't named. Functions' own proofs, which nothing else names, are left out."""
+    and which words it has. That a search takes no lemma that isn't named is taken for granted. Functions' own proofs are left out."""
 
     def __init__(self, folder):
         self.files = {}
@@ -49,7 +52,7 @@ class Statements:
             said = [row for row in rows[start:end] if row.strip() and not USE.match(row) and not row.startswith(("--", "unfolding "))]
             within = any(row.startswith("module ") for row in said)
             declared = {NAME.match(row)[1] for row in said if NAME.match(row) and (within or row[:1].strip())}
-            yield range(start, end), declared, words_of("\n".join(said))
+            yield range(start, end), declared, words_of("\n".join(rows[start:end]), "\n".join(rows))
 
     def resting_on(self, path, row, names):
         """Returns the names of what is declared at this line of the file, with these, and of all that names one of them."""
