@@ -61,8 +61,8 @@ impl<N: Name> Checker<N> {
             seats,
             limit,
         } = parts;
-        let desk = Desk::new(Book::new(alloc, hash, limit), book);
         let bays = bays_of(alloc, hash, seats)?;
+        let desk = Desk::new(Book::new(alloc, hash, limit), book);
         Ok(Checker {
             alloc,
             words,

@@ -48,6 +48,16 @@ fn are_same_at<T: PartialEq + Debug + Drop>(
     assert_eq!(rt; found, wanted, "at {place}");
 }
 
+/// The two are the same, in that line of what the title names.
+fn are_same_in<T: PartialEq + Debug + Drop>(
+    rt: &impl Abort,
+    found: T,
+    wanted: T,
+    (title, line): (&str, &str),
+) {
+    assert_eq!(rt; found, wanted, "{title}: {line}");
+}
+
 /// The bytes of the text.
 fn bytes_of(rt: &impl Host, text: &str) -> Vec<u8> {
     Vec::from_slice(rt.alloc(), text.as_bytes()).expect(rt, "memory")

@@ -5,6 +5,7 @@ use crate::lines::{halves, number};
 use si_model::operations::MOST_OPS;
 use si_model::{Edit, Key, Op, Ops, Outcome, Stamp, Status, Txn, TxnId, Value};
 use std::alloc::AllocGlobal;
+use std::str::SplitAsciiWhitespace;
 
 /// The key with that text.
 pub fn key(rt: &impl AllocGlobal, text: &str) -> Result<Key, ScriptFault> {
@@ -61,21 +62,26 @@ fn word<'a>(next: Option<&'a str>, wanted: &'static str) -> Result<&'a str, Scri
     next.ok_or(ScriptFault::Wanted(wanted))
 }
 
+/// The operations of these words.
+fn all_ops(rt: &impl AllocGlobal, words: SplitAsciiWhitespace<'_>) -> Result<Vec<Op>, ScriptFault> {
+    let mut ops = Vec::new(rt.alloc());
+    for word in words {
+        ops.push(op_of(rt, word)?)?;
+    }
+    Ok(ops)
+}
+
 /// An id, a start stamp, a status and the operations, as `1 3 6 x?null y=2`.
 pub fn txn_of(rt: &impl AllocGlobal, text: &str) -> Result<Txn, ScriptFault> {
     let mut words = text.split_ascii_whitespace();
     let id = number(word(words.next(), "an id")?)?;
     let start = number(word(words.next(), "a start")?)?;
     let status = status_of(word(words.next(), "a status")?)?;
-    let mut ops = Vec::new(rt.alloc());
-    for word in words {
-        ops.push(op_of(rt, word)?)?;
-    }
     Ok(Txn {
         id: TxnId(id),
         start: Stamp(start),
         status,
-        ops: ops_of(ops)?,
+        ops: ops_of(all_ops(rt, words)?)?,
     })
 }
 

@@ -79,7 +79,7 @@ impl KeyStates {
         let left = change_in(self.alloc, &mut self.states, key, changes)?;
         keep_found(&mut self.found, key, left.has_findings)?;
         if left.is_bare {
-            self.states.remove(key);
+            drop(self.states.remove(key));
         }
         Ok(())
     }
@@ -123,11 +123,19 @@ fn change_in(
         make_changes(kept, changes)?;
         return Ok(left_on(kept));
     }
+    let own = key.try_clone()?;
     let mut kept = KeyFindings::new(alloc, key.try_clone()?, Cases::new());
-    make_changes(&mut kept, changes)?;
-    let left = left_on(&kept);
-    states.insert(key.try_clone()?, kept)?;
-    Ok(left)
+    match make_changes(&mut kept, changes) {
+        Ok(()) => {
+            let left = left_on(&kept);
+            drop(states.insert(own, kept)?);
+            Ok(left)
+        }
+        Err(fault) => {
+            drop(kept);
+            Err(fault)
+        }
+    }
 }
 
 /// Keeps the key among those on which something is found, or not.

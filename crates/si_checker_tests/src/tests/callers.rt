@@ -263,6 +263,8 @@ fn play_alone<N: Name, R: Wait + Abort + AllocGlobal + Print>(
         Alone::ManyEdits => many_edits(rt, &mut caller),
         Alone::ManyReads => many_reads(rt, &mut caller),
     }
+    drop(caller);
+    drop(callers);
 }
 
 /// A caller for each pass, the last one first, if there is memory for them.

@@ -85,6 +85,7 @@ fn look_at_end<N: Name, R: Wait + Abort + Print>(rt: &R, caller: &mut Caller<'_,
     let report = settle_in_the_end(rt, caller);
     let kinds = [unknown(), overlap(), stale(), stale_set_up()];
     assert_report(rt, &report, (COUNT, 9, 1), &kinds);
+    drop(report);
 }
 
 fn unknown() -> Kind {
@@ -158,6 +159,7 @@ fn look_at_shards<N: Name, R: Wait + Abort + Print>(rt: &R, caller: &mut Caller<
         let report = of_shard_in_the_end(rt, caller, shard);
         are_same(rt, report.position, COUNT);
         found = report.findings.len().saturating_add(found);
+        drop(report);
     }
     are_same(rt, found, 4);
 }

@@ -95,6 +95,7 @@ pub(super) fn many_reads<N: Name, R: Wait + Abort + AllocGlobal>(
     caller.look(rt, (4, 2, 0), &stale);
     caller.submits(rt, edit(rt, "withdraw 2"), 5);
     caller.look(rt, (5, 1, 0), &[]);
+    drop(stale);
 }
 
 #[test]
@@ -118,6 +119,8 @@ pub(super) fn most_of_all<N: Name, R: Wait + Abort + AllocGlobal>(
     for caller in callers.iter_mut() {
         look_at_words(rt, caller);
     }
+    drop(first);
+    drop(callers);
 }
 
 /// Every word says that all 16 edits are issued and applied.

@@ -271,6 +271,7 @@ fn look_on<N: Name, R: Wait + Abort + AllocGlobal>(
         assert!(rt; number <= report.number);
         number = report.number;
         found = found.saturating_add(u64::from(!report.findings.is_empty()));
+        drop(report);
         pace.reports.fetch_add(1, Ordering::SeqCst);
     }
     found
@@ -302,6 +303,7 @@ fn look_at_end<N: Name, R: Wait + Abort + AllocGlobal>(
         look_at_own(rt, submitter, &report.present);
     }
     look_after_rebuild(rt, looker, report.number, &report.findings);
+    drop(report);
 }
 
 /// What the thread has left is present, and enough of its edits were accepted and refused.
@@ -322,8 +324,9 @@ fn look_after_rebuild<N: Name, R: Wait + Abort>(
         looker.rebuild(rt, shard).expect(rt, "memory");
     }
     let again = looker.settled(rt).expect(rt, "a report");
-    assert!(rt; again.number == number);
-    assert!(rt; again.findings.as_slice() == found);
+    are_same(rt, again.number, number);
+    are_same(rt, again.findings.as_slice(), found);
+    drop(again);
     let count = findings_of_shards(rt, looker, number);
     assert!(rt; count == found.len());
 }
@@ -339,6 +342,7 @@ fn findings_of_shards<N: Name, R: Wait + Abort>(
         let report = looker.of_shard(rt, shard).expect(rt, "a report");
         are_same(rt, report.position, number);
         found = found.saturating_add(report.findings.len());
+        drop(report);
     }
     found
 }
@@ -382,6 +386,8 @@ fn submit_and_look<'a, N: Name + Send + Sync, R: Threads + Wait + Abort + AllocG
     assert!(rt; found >= ROUNDS - 2, "too little is found");
     look_at_end(rt, &mut looker, &submitters);
     looker.close(rt);
+    drop(submitters);
+    drop(looker);
 }
 
 #[test]

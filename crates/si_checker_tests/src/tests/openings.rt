@@ -32,7 +32,11 @@ fn openings_out_of_their_bounds_are_refused(rt: HostRuntime) {
         (1, 1, 1, None),
     ] {
         let fault = fault_of(&rt, alloc, shards, passes, limit);
-        assert_eq!(rt; fault, wanted, "at {shards} {passes} {limit}");
+        are_same(
+            &rt,
+            (shards, passes, limit, fault),
+            (shards, passes, limit, wanted),
+        );
     }
 }
 

@@ -141,14 +141,14 @@ fn submit_three<N: Name, R: Wait + Abort + AllocGlobal>(rt: &R, caller: &mut Cal
 /// Looks while the first shard's worker is held, lets it go, reports and closes. Tells whether the checker is closed then.
 fn look_on<N: Name, R: Wait + Abort>(rt: &R, gate: &Holding, mut caller: Caller<'_, N>) -> bool {
     gate.wait_for(&gate.come, 2);
-    assert!(rt; caller.shard_mark(rt, 1) == 3);
-    assert!(rt; caller.shard_mark(rt, 0) == 0);
-    assert!(rt; caller.watermark() == 0);
-    assert!(rt; caller.issued() == 3);
+    are_same(rt, caller.shard_mark(rt, 1), 3);
+    are_same(rt, caller.shard_mark(rt, 0), 0);
+    are_same(rt, caller.watermark(), 0);
+    are_same(rt, caller.issued(), 3);
     gate.is_open.store(1, Ordering::SeqCst);
     caller.look(rt, (3, 3, 0), &[stale()]);
-    assert!(rt; caller.watermark() == 3);
-    assert!(rt; !caller.is_closed());
+    are_same(rt, caller.watermark(), 3);
+    are_same(rt, caller.is_closed(), false);
     caller.close(rt);
     caller.is_closed()
 }

@@ -4,6 +4,7 @@ ghost use Rattle.std.specs.Prelude.{◌≡◌, ◌<◌, [], All, length};
 
 mod steps;
 
+use super::are_same;
 use si_words::{BookSeat, Pass, ShardSeat, Words};
 use std::alloc::AllocGlobal;
 use std::process::Abort;
@@ -18,7 +19,7 @@ fn shows(rt: &impl Abort, words: &Words, pass: &mut Pass, wanted: (u64, u64, u64
 {
     let (count, second) = (issued(words, pass), mark(words, pass, 1));
     let (first, least) = (mark(words, pass, 0), watermark(words, pass));
-    assert_eq!(rt; (count, second, first, least), wanted);
+    are_same(rt, (count, second, first, least), wanted);
     assert!(rt; !is_closed(words, pass));
 }
 
@@ -123,8 +124,8 @@ fn answers_never_go_back(rt: HostRuntime) {
         move || look_on(shared, looker),
     );
     assert!(rt; steady);
-    assert_eq!(rt; issued(&words, &mut issuer), ROUNDS);
-    assert_eq!(rt; mark(&words, &mut issuer, 0), ROUNDS);
+    are_same(&rt, issued(&words, &mut issuer), ROUNDS);
+    are_same(&rt, mark(&words, &mut issuer, 0), ROUNDS);
 }
 
 /// A pass, with the number of the last edit that it has issued.
@@ -302,7 +303,7 @@ fn take_one_turn_each(
         issue(words, book, &mut issuers[turn].pass);
         workers[turn].advance(words, book, number, 0);
         let found = looked(words, &mut issuers[15 - turn].pass, 15 - turn);
-        assert_eq!(rt; found, (number, number, number / 16));
+        are_same(rt, found, (number, number, number / 16));
     }
 }
 
@@ -341,10 +342,10 @@ fn look_by_own_seat(
     requires of_shard { shard.table ≡ words.now.table }
     requires of_pass { pass.table ≡ words.now.table }
 {
-    assert_eq!(rt; words.issued_at(&mut shard), 0);
+    are_same(rt, words.issued_at(&mut shard), 0);
     issue(words, &mut book, &mut pass);
     words.see(&mut pass, &mut book);
-    assert_eq!(rt; words.issued_at(&mut shard), 1);
+    are_same(rt, words.issued_at(&mut shard), 1);
     assert!(rt; !words.closed_at(&mut shard));
     words.close(&mut book);
     assert!(rt; words.closed_at(&mut shard));

@@ -48,6 +48,7 @@ fn versions_stand_by_their_commits(rt: HostRuntime) {
     let put = timeline.insert(Stamp(20), version(2, 11, 6));
     put.expect(&rt, "memory");
     three_are_told(&rt, &timeline);
+    drop(timeline);
 }
 
 /// The version after 10 is that at 20, and is taken out.
@@ -74,6 +75,7 @@ fn a_version_that_is_taken_out_is_passed_over(rt: HostRuntime) {
     is_after(&rt, &timeline, 10, third);
     let first = Some((Stamp(10), version(1, 1, 5)));
     is_before(&rt, &timeline, 30, first);
+    drop(timeline);
 }
 
 #[test]
@@ -86,4 +88,5 @@ fn the_greatest_and_the_least_stamp(rt: HostRuntime) {
     is_after(&rt, &timeline, u64::MAX, None);
     is_before(&rt, &timeline, u64::MAX, None);
     is_before(&rt, &timeline, 0, None);
+    drop(timeline);
 }

@@ -25,7 +25,7 @@ fn leave(rt: &impl Abort, arrivals: &mut Arrivals, id: u64, turn: u64) {
         arrivals.withdraw(TxnId(id));
     }
     let most = 2 * arrivals.len().min(1000) + 1;
-    assert!(rt; arrivals.slots() <= most, "after {turn} turns");
+    are_same_at(rt, arrivals.slots() <= most, true, turn);
 }
 
 fn all_arrive(rt: &(impl Abort + AllocGlobal), arrivals: &mut Arrivals) {
@@ -44,10 +44,10 @@ fn most_leave(rt: &impl Abort, arrivals: &mut Arrivals) {
 /// What is left has the ids 0, 100, 200 and so on, up to 900.
 fn assert_left(rt: &impl Abort, arrivals: &Arrivals) {
     let left = arrivals.to_vec().expect(rt, "memory");
-    assert_eq!(rt; (arrivals.len(), left.len()), (10, 10));
+    are_same(rt, (arrivals.len(), left.len()), (10, 10));
     let mut id = 0u64;
     for txn in &left {
-        assert_eq!(rt; txn.id.0, id);
+        are_same(rt, txn.id.0, id);
         id = id.saturating_add(100);
     }
 }
@@ -55,7 +55,7 @@ fn assert_left(rt: &impl Abort, arrivals: &Arrivals) {
 /// One leaves, whose slot stays empty, and is told with the others.
 fn one_leaves(rt: &impl Abort, arrivals: &mut Arrivals) {
     arrivals.withdraw(TxnId(1));
-    assert_eq!(rt; (arrivals.len(), arrivals.slots()), (999, 1000));
+    are_same(rt, (arrivals.len(), arrivals.slots()), (999, 1000));
 }
 
 /// No clause says that the slots of withdrawn transactions are closed up: only the room that they take shows it.
@@ -67,4 +67,5 @@ fn empty_slots_are_closed_up(rt: HostRuntime) {
     one_leaves(&rt, &mut arrivals);
     most_leave(&rt, &mut arrivals);
     assert_left(&rt, &arrivals);
+    drop(arrivals);
 }

@@ -34,7 +34,7 @@ fn answer(rt: &(impl Abort + AllocGlobal), book: &mut Book, line: &str) -> Strin
 /// The ids of what is present, in order.
 fn present_text(rt: &(impl Abort + AllocGlobal), book: &Book) -> String {
     let txns = present_in(book).expect(rt, "memory");
-    assert_eq!(rt; txns.len(), book.len());
+    are_same(rt, txns.len(), book.len());
     let mut text = String::new(rt.alloc());
     for txn in &txns {
         write!(text, "{} ", txn.id.0).expect(rt, "memory");
@@ -79,7 +79,7 @@ fn told(rt: &(impl Abort + AllocGlobal), book: &mut Book, line: &str) -> String 
 fn give(rt: &(impl Abort + AllocGlobal), book: &mut Book, title: &str, line: &str) {
     let (question, wanted) = asked(line).expect(rt, "an answer");
     let told = told(rt, book, question);
-    assert_eq!(rt; told.trim(), wanted, "{title}: {line}");
+    are_same_in(rt, told.trim(), wanted, (title, line));
 }
 
 fn new_book(rt: &(impl Abort + AllocGlobal + RandomSource), limit: usize) -> Book {
@@ -99,4 +99,5 @@ pub(super) fn answers(
     for line in script.trim().lines() {
         give(rt, &mut book, title, line.trim());
     }
+    drop(book);
 }

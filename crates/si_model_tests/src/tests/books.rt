@@ -243,7 +243,7 @@ impl Both {
         let refusal = plain_refusal(self.txns.as_slice(), self.initial.as_slice(), edit);
         let copy = edit.try_clone().expect(rt, "memory");
         let fault = accept(&mut self.book, copy).err();
-        assert_eq!(rt; fault, refusal.map(AcceptFault::Refused));
+        are_same(rt, fault, refusal.map(AcceptFault::Refused));
         refusal.is_none()
     }
 }
@@ -277,6 +277,7 @@ fn the_book_answers_as_the_plain_program(rt: HostRuntime) {
     let mut both = Both::new(rt.alloc(), hash);
     give_some(&rt, &mut both);
     is_long(&rt, &both.book);
+    drop(both);
 }
 
 #[test]
@@ -287,6 +288,6 @@ fn a_fault_is_printed(rt: HostRuntime) {
         (refused, "the edit is refused: Full"),
     ] {
         let text = format!(in rt.alloc(); "{fault}").expect(&rt, "memory");
-        assert_eq!(rt; text.as_str(), wanted);
+        are_same(&rt, text.as_str(), wanted);
     }
 }

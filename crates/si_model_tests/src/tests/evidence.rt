@@ -109,7 +109,7 @@ fn explained_alone(
     history: &History,
 ) -> Result<Evidence, ExplainFault> {
     let found = found_in(rt, &history.txns, &history.initial);
-    assert_eq!(rt; found.len(), 1);
+    are_same(rt, found.len(), 1);
     explained(rt, history, &found[0])
 }
 
@@ -119,16 +119,17 @@ fn is_so(rt: &(impl Abort + AllocGlobal), history: &mut History, title: &str, li
     let (wanted, evidence) = line.split_once(' ').expect(rt, "evidence");
     let evidence = evidence_of(rt, evidence);
     if wanted == "explains" {
-        assert_eq!(rt;
+        are_same_in(
+            rt,
             explained_alone(rt, history),
             Ok(evidence),
-            "{title}: {line}"
+            (title, line),
         );
         return;
     }
     for _ in 0..2 {
         let shown = holds(rt, history, &evidence);
-        assert_eq!(rt; shown, wanted == "yes", "{title}: {line}");
+        are_same_in(rt, shown, wanted == "yes", (title, line));
         history.txns.reverse();
     }
 }
@@ -141,6 +142,7 @@ fn check_row(rt: &(impl Abort + AllocGlobal), row: &str) {
     for line in answers.lines() {
         is_so(rt, &mut history, title.trim(), line.trim());
     }
+    drop(history);
 }
 
 /// Histories, and behind the bar what is so of them: rows with a title each, between `#`.
@@ -248,10 +250,10 @@ fn what_is_no_finding_is_not_explained(rt: HostRuntime) {
             missed: TxnId(3),
         },
     };
-    assert_eq!(rt;
-        explained(&rt, &history, &another),
-        Err(ExplainFault::NotAFinding)
-    );
+    let explained = explained(&rt, &history, &another);
+    are_same(&rt, explained, Err(ExplainFault::NotAFinding));
+    drop(another);
+    drop(history);
 }
 
 #[test]
@@ -263,7 +265,8 @@ fn findings_of_form_are_not_explained(rt: HostRuntime) {
     for lines in ["2 3 4 x?1", null_of_a_set_up_key] {
         let history = present(&rt, lines).expect(&rt, "a history");
         let explained = explained_alone(&rt, &history);
-        assert_eq!(rt; explained, Err(ExplainFault::FormFinding));
+        are_same(&rt, explained, Err(ExplainFault::FormFinding));
+        drop(history);
     }
 }
 
@@ -274,6 +277,6 @@ fn faults_have_their_codes(rt: HostRuntime) {
         (ExplainFault::FormFinding, Some(32)),
         (ExplainFault::OutOfMemory, None),
     ] {
-        assert_eq!(rt; fault.code(), code);
+        are_same(&rt, fault.code(), code);
     }
 }

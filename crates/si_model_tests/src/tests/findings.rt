@@ -30,9 +30,10 @@ fn finds(rt: &(impl Abort + AllocGlobal), lines: &str, wanted: &str) {
     let wanted = trimmed(rt, wanted).expect(rt, "memory");
     for _ in 0..2 {
         let found = found_in(rt, &history.txns, &history.initial);
-        assert_eq!(rt; text_of(rt, &found).as_str(), wanted.as_str(), "of {lines}");
+        are_same_at(rt, text_of(rt, &found).as_str(), wanted.as_str(), lines);
         history.txns.reverse();
     }
+    drop(history);
 }
 
 fn find(rt: &(impl Abort + AllocGlobal), rows: &[(&str, &str)]) {

@@ -12,9 +12,10 @@ fn is_one(history: &History) -> bool {
 fn are_all(rt: &(impl Abort + AllocGlobal), rows: &str, wanted: bool) {
     for lines in rows.split('#') {
         let mut history = present(rt, lines).expect(rt, "lines");
-        assert_eq!(rt; is_one(&history), wanted, "of {lines}");
+        are_same_at(rt, is_one(&history), wanted, lines);
         history.txns.reverse();
-        assert_eq!(rt; is_one(&history), wanted, "of {lines}");
+        are_same_at(rt, is_one(&history), wanted, lines);
+        drop(history);
     }
 }
 

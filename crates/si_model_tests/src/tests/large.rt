@@ -19,7 +19,7 @@ fn add_pair(rt: &impl Abort, lines: &mut String, pair: u64) {
 
 /// The findings are the overlaps of 200 pairs.
 fn are_overlaps(rt: &impl Abort, found: &[Finding]) {
-    assert_eq!(rt; found.len(), 200);
+    are_same(rt, found.len(), 200);
     let mut first = 1u64;
     for finding in found {
         let second = first.saturating_add(1);
@@ -27,7 +27,7 @@ fn are_overlaps(rt: &impl Abort, found: &[Finding]) {
             first: TxnId(first),
             second: TxnId(second),
         };
-        assert_eq!(rt; finding.kind, overlap);
+        are_same(rt, finding.kind, overlap);
         first = second.saturating_add(1);
     }
 }
@@ -43,4 +43,6 @@ fn hundreds_of_findings_are_found_in_order(rt: HostRuntime) {
     are_overlaps(&rt, &found);
     let last = found.last().expect(&rt, "a finding");
     assert!(rt; explained(&rt, &history, last).is_ok());
+    drop(found);
+    drop(history);
 }

@@ -34,7 +34,7 @@ fn is_edit_of(found: Edit, wanted: Edit) -> bool {
 
 /// The line says the edit of these words.
 fn says(rt: &impl Host, line: &[u8], words: &str) {
-    assert!(rt; is_edit_of(read(rt, line), edit(rt, words)), "{words}");
+    are_same_at(rt, is_edit_of(read(rt, line), edit(rt, words)), true, words);
 }
 
 fn fault_of(rt: &impl Host, line: &[u8]) -> LineFault {

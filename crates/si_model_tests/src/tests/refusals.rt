@@ -34,7 +34,7 @@ fn give(rt: &(impl Abort + AllocGlobal), history: &mut History, line: &str) {
         "left" => left(rt, history),
         line => answer(rt, history, line),
     };
-    assert_eq!(rt; told.as_str(), wanted, "at {line}");
+    are_same_at(rt, told.as_str(), wanted, line);
 }
 
 #[test]
@@ -60,4 +60,5 @@ fn the_plain_program_of_acceptance(rt: HostRuntime) {
     for line in script.trim().lines() {
         give(&rt, &mut history, line.trim());
     }
+    drop(history);
 }

@@ -65,16 +65,16 @@ fn values_in(rt: &impl Abort, book: &Book) -> Vec<(Key, Value)> {
 fn assert_found_at(rt: &impl Abort, book: &Book, wanted: &[Txn], id: u64) {
     for txn in wanted {
         if txn.id.0 == id {
-            assert!(rt; book.get(TxnId(id)) == Some(txn), "at id {id}");
+            are_same_at(rt, book.get(TxnId(id)), Some(txn), id);
             return;
         }
     }
-    assert!(rt; book.get(TxnId(id)).is_none(), "at id {id}");
+    are_same_at(rt, book.get(TxnId(id)), None, id);
 }
 
 /// The book shows these transactions, and finds each by its id and no other.
 fn assert_found(rt: &impl Abort, book: &Book, wanted: &[Txn]) {
-    assert_eq!(rt; book.len(), wanted.len());
+    are_same(rt, book.len(), wanted.len());
     assert!(rt; txns_in(rt, book).as_slice() == wanted);
     for id in 0..12u64 {
         assert_found_at(rt, book, wanted, id);
@@ -89,10 +89,11 @@ fn assert_shown(
     journal: usize,
     set_up: usize,
 ) {
-    assert_eq!(rt; values_in(rt, book).len(), set_up);
-    assert_eq!(rt; book.journal().len(), journal);
+    are_same(rt, values_in(rt, book).len(), set_up);
+    are_same(rt, book.journal().len(), journal);
     let wanted = all_of(rt, lines);
     assert_found(rt, book, &wanted.txns);
+    drop(wanted);
 }
 
 /// Gives the book the edit. Where memory is refused, the book has to be as before and is given the edit again.
@@ -108,13 +109,13 @@ fn give_in_the_end(
         assert_shown(rt, book, case.before, case.journal.0, case.set_up.0);
         answer = accept(book, copy_of(rt, edit));
     }
-    assert_eq!(rt; answer, Ok(Number(case.journal.1 as u64)));
+    are_same(rt, answer, Ok(Number(case.journal.1 as u64)));
 }
 
 /// Gives the edit. Where memory is refused, it is given again.
 fn give(rt: &(impl Abort + AllocGlobal), book: &mut Book, line: &str) {
     if accept(book, edit(rt, line)).is_err() {
-        assert!(rt; accept(book, edit(rt, line)).is_ok(), "at {line}");
+        are_same_at(rt, accept(book, edit(rt, line)).is_ok(), true, line);
     }
 }
 
@@ -140,7 +141,10 @@ fn accept_in_the_end(
 ) {
     let hash = RandomState::new(rt).expect(rt, "random bytes");
     let mut book = Book::new(rt.alloc(), hash, MOST_EDITS);
-    give_case(rt, &mut book, case, &edit(rt, line));
+    let edit = edit(rt, line);
+    give_case(rt, &mut book, case, &edit);
+    drop(edit);
+    drop(book);
 }
 
 #[test]

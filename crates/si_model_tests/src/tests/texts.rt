@@ -226,6 +226,8 @@ fn reports_so(rt: &impl Host, lines: &str, refused: u64, explain: bool, text: &s
     let history = history(rt, lines);
     let findings = found(rt, &history);
     are_reported(rt, history.txns.len(), &findings, (refused, explain), text);
+    drop(findings);
+    drop(history);
 }
 
 const ONE: TxnId = TxnId(1);

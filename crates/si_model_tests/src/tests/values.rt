@@ -11,7 +11,7 @@ use std::collections::{BTreeMap, HashMap};
 /// What shows a finding of this kind is printed so.
 fn is_shown_so(rt: &(impl Abort + AllocGlobal), kind: Kind, wanted: &str) {
     let found = evidence_of(rt.alloc(), kind).expect(rt, "memory");
-    assert_eq!(rt; shown_as(rt, found).as_str(), wanted);
+    are_same(rt, shown_as(rt, found).as_str(), wanted);
 }
 
 #[test]
@@ -43,9 +43,9 @@ fn assert_shards(
     shards: (usize, usize, usize),
 ) {
     let key = key(rt, text).expect(rt, "a key");
-    assert_eq!(rt; key.shard_hash(), hash);
+    are_same(rt, key.shard_hash(), hash);
     let found = (shard_of(&key, 2), shard_of(&key, 4), shard_of(&key, 16));
-    assert_eq!(rt; found, shards);
+    are_same(rt, found, shards);
 }
 
 #[test]
@@ -65,7 +65,8 @@ fn is_on_key(rt: &(impl Abort + AllocGlobal), lines: &str, key: &Key, wanted: &s
     let history = present(rt, lines).expect(rt, "a history");
     let found = on_key(rt.alloc(), &history.txns, &history.initial, key);
     let found = found.expect(rt, "memory");
-    assert_eq!(rt; shown_as(rt, found).as_str(), wanted);
+    are_same(rt, shown_as(rt, found).as_str(), wanted);
+    drop(history);
 }
 
 #[test]
@@ -95,7 +96,7 @@ fn a_transaction_has_no_part_on_another_key(rt: HostRuntime) {
 fn lengths_of_keys(rt: HostRuntime) {
     let mut text = String::new(rt.alloc());
     for length in 0..130 {
-        assert_eq!(rt; Key::fits(text.as_str()), 1 <= length && length <= 128);
+        are_same(&rt, Key::fits(text.as_str()), 1 <= length && length <= 128);
         text.push('k').expect(&rt, "memory");
     }
 }
@@ -109,7 +110,7 @@ fn copies_of_edits_are_equal(rt: HostRuntime) {
         "setup x=5",
     ] {
         let edit = edit_of(&rt, line).expect(&rt, "an edit");
-        assert_eq!(rt; edit.try_clone().expect(&rt, "memory"), edit);
+        are_same(&rt, edit.try_clone().expect(&rt, "memory"), edit);
     }
 }
 
@@ -122,7 +123,7 @@ fn copies_of_findings_are_equal(rt: HostRuntime) {
             second: TxnId(2),
         },
     };
-    assert_eq!(rt; finding.try_clone().expect(&rt, "memory"), finding);
+    are_same(&rt, finding.try_clone().expect(&rt, "memory"), finding);
 }
 
 fn is_copied(rt: &impl Abort, op: &Op) {
@@ -135,8 +136,8 @@ fn copies_of_operations_are_equal(rt: HostRuntime) {
     let write = op_of(&rt, "x=1").expect(&rt, "an operation");
     is_copied(&rt, &write);
     let copy = write.key().try_clone().expect(&rt, "memory");
-    assert_eq!(rt; copy.as_str(), "x");
-    assert_eq!(rt; Outcome::Aborted.status(), Status::Aborted);
+    are_same(&rt, copy.as_str(), "x");
+    are_same(&rt, Outcome::Aborted.status(), Status::Aborted);
 }
 
 /// Whether threads may share it is asked when this is compiled.
@@ -158,7 +159,7 @@ fn keys_stand_in_a_map_by_their_hash(rt: HostRuntime) {
         before.expect(&rt, "memory");
     }
     let b = key(&rt, "b").expect(&rt, "a key");
-    assert_eq!(rt; map.get(&b).copied(), Some(3));
+    are_same(&rt, map.get(&b).copied(), Some(3));
 }
 
 fn own_key(rt: &(impl Abort + AllocGlobal), text: &str) -> Key {
@@ -175,6 +176,6 @@ fn keys_stand_in_a_map_by_their_order(rt: HostRuntime) {
         before.expect(&rt, "memory");
     }
     let b = key(&rt, "b").expect(&rt, "a key");
-    assert_eq!(rt; map.get(&b).copied(), Some(3));
-    assert_eq!(rt; map.first_key_value().map(|entry| *entry.1), Some(2));
+    are_same(&rt, map.get(&b).copied(), Some(3));
+    are_same(&rt, map.first_key_value().map(|entry| *entry.1), Some(2));
 }

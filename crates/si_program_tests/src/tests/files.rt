@@ -37,22 +37,22 @@ fn answers_on<H: Host, F: NamedFiles>(
 
 const CANNOT_OPEN: &str = "sicheck: cannot open source 0\n";
 
+/// The file of this path, with the stale read, is read as a whole and with a report after every two lines.
+fn is_read<H: Host, F: NamedFiles>(rt: &H, files: &F, path: &str) {
+    answers_on(rt, files, "check", path, (LAST_REPORT, "", 20));
+    answers_on(rt, files, "check --every 2", path, (BOTH_REPORTS, "", 20));
+}
+
 #[test]
 fn a_file_is_read(rt: HostRuntime) -> Result<(), Fail> {
     let files = StdFiles::new(&rt);
     let name = format!(in rt.alloc(); "sicheck-test-{}", process::id(rt.process()))?;
     let path = env::temp_dir(&rt)?.join(rt.alloc(), name.as_str())?;
     fs::write(&rt, path.as_path(), STALE.as_bytes())?;
-    answers_on(&rt, &files, "check", path.as_str(), (LAST_REPORT, "", 20));
-    answers_on(
-        &rt,
-        &files,
-        "check --every 2",
-        path.as_str(),
-        (BOTH_REPORTS, "", 20),
-    );
+    is_read(&rt, &files, path.as_str());
     fs::remove_file(&rt, path.as_path())?;
     answers_on(&rt, &files, "check", path.as_str(), ("", CANNOT_OPEN, 2));
+    drop(path);
     Ok(())
 }
 

@@ -113,7 +113,7 @@ fn settings<'a>(rt: &impl Host, words: &'a [&str]) -> Settings<'a> {
 /// The files have these names.
 fn are_named(rt: &impl Host, files: &[&str], names: &str, row: &str) {
     let named = files.iter().copied();
-    assert!(rt; named.eq(names.split_ascii_whitespace()), "at {row}");
+    are_same_at(rt, named.eq(names.split_ascii_whitespace()), true, row);
 }
 
 /// The settings are the options before the bar and the files behind it.

@@ -98,6 +98,8 @@ impl Beside {
         assert!(rt; self.state.judged() <= judged.saturating_add(most));
         self.assert_same_findings(rt);
         self.assert_same_fill(rt, &now);
+        drop(before);
+        drop(now);
         refusal
     }
 
@@ -123,6 +125,8 @@ impl Beside {
         let plain = self.plainly_found(rt);
         assert!(rt; are_those_on(&found, &plain, &self.key));
         are_same(rt, self.state.has_findings(), !found.is_empty());
+        drop(found);
+        drop(plain);
     }
 
     /// The state is empty where nothing is on the key, and it is not spoiled.

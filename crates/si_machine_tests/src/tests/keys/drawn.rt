@@ -22,6 +22,7 @@ fn give_some(rt: &(impl Abort + AllocGlobal), dice: &mut Dice, tally: &mut Tally
     for _ in 0..500 {
         give_one(rt, &mut *beside, &some_edit(rt, dice, FEW), tally);
     }
+    drop(beside);
 }
 
 fn give_one(rt: &impl Abort, beside: &mut Beside, edit: &Edit, tally: &mut Tally) {

@@ -108,7 +108,9 @@ fn gives_or_spoils(
     let mut beside = new_beside(rt);
     let spoiled = is_spoiled_in_the_end(rt, &mut beside, accepted, line);
     let mut state = beside.into_state();
-    stays_spoiled(rt, &mut state, spoiled)
+    let stayed = stays_spoiled(rt, &mut state, spoiled);
+    drop(state);
+    stayed
 }
 
 /// The same as [`is_spoiled_by`], of a key that is given these edits before.

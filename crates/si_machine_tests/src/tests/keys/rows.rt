@@ -80,6 +80,7 @@ fn read_often(rt: &(impl Abort + AllocGlobal), beside: &mut Beside) {
 fn many_readers_are_left_alone(rt: HostRuntime) {
     let mut beside = new_beside(&rt, "x");
     leave_alone(&rt, &mut *beside);
+    drop(beside);
 }
 
 fn leave_alone(rt: &(impl Abort + AllocGlobal), beside: &mut Beside) {

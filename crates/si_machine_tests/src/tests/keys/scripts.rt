@@ -38,7 +38,7 @@ fn give(rt: &(impl Abort + AllocGlobal), beside: &mut Beside, line: &str) {
 fn is_at_most(rt: &impl Abort, count: u64, most: &str, line: &str) {
     if !most.is_empty() {
         let most = most.parse::<u64>().ok().expect(rt, "a number");
-        assert!(rt; count <= most, "at {line}");
+        are_same_at(rt, count <= most, true, line);
     }
 }
 
@@ -55,4 +55,5 @@ pub(super) fn answers(rt: &(impl Abort + AllocGlobal), name: &str, script: &str)
     for line in script.trim().lines() {
         give(rt, &mut *beside, line.trim());
     }
+    drop(beside);
 }

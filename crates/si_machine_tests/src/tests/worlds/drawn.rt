@@ -208,6 +208,8 @@ fn drive(
         some_step(rt, &mut *world, &mut foretold, dice, tally);
         compare(rt, &*world, &foretold, tally);
     }
+    drop(foretold);
+    drop(world);
 }
 
 /// Enough of everything came.

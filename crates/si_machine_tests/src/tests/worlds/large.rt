@@ -37,6 +37,7 @@ fn finds_unknown(rt: &impl Abort, world: &World) {
         read: Some(Value(7)),
     };
     assert!(rt; are_of_kinds(&found, &[unknown]));
+    drop(found);
 }
 
 fn many_keys(rt: &(impl Abort + AllocGlobal), world: &mut World) {
@@ -113,6 +114,7 @@ fn many_reads(rt: &(impl Abort + AllocGlobal), world: &mut World) {
     accept_and_find(rt, world, "withdraw 1", 3, 0);
     accept_and_find(rt, world, "arrive 1 1 2 x=1", 4, 4_000);
     accept_and_find(rt, world, "withdraw 2", 5, 0);
+    drop(reads);
 }
 
 #[test]
@@ -199,6 +201,7 @@ enum Row {
 fn play(rt: &(impl Abort + AllocGlobal + RandomSource), shards: usize, limit: usize, row: Row) {
     let mut world = new_world(rt, shards, limit);
     play_on(rt, &mut *world, row);
+    drop(world);
 }
 
 fn play_on(rt: &(impl Abort + AllocGlobal), world: &mut World, row: Row) {

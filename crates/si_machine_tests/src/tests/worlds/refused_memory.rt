@@ -221,6 +221,7 @@ enum Way {
 fn play(rt: &(impl Abort + AllocGlobal + RandomSource + Print), way: Way) {
     let mut pressed = Pressed::new(rt);
     play_on(rt, &mut pressed, way);
+    drop(pressed);
 }
 
 fn play_on(rt: &(impl Abort + AllocGlobal + Print), pressed: &mut Pressed, way: Way) {

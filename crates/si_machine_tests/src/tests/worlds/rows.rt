@@ -108,6 +108,7 @@ fn play(rt: &(impl Abort + AllocGlobal), world: &mut World, script: &str) {
 fn answers(rt: &(impl Abort + AllocGlobal + RandomSource), shards: usize, script: &str) {
     let mut world = new_world(rt, shards, 10);
     play(rt, &mut *world, script);
+    drop(world);
 }
 
 fn steps_of(rt: &(impl Abort + AllocGlobal), script: &str) -> Vec<Step> {
@@ -137,6 +138,7 @@ fn runs(rt: &(impl Abort + AllocGlobal), world: &mut World, script: &str) {
     for (reply, line) in replies.iter().zip(script.trim().lines()) {
         is_reply(rt, *reply, line);
     }
+    drop(replies);
 }
 
 #[test]
@@ -176,6 +178,7 @@ fn a_value_is_free_after_a_withdrawal(rt: HostRuntime) {
         findings |
         present | 2 3";
     play(&rt, &mut *world, after);
+    drop(world);
 }
 
 #[test]

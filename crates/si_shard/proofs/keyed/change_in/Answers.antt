@@ -1,6 +1,7 @@
 use Rattle.std.proofs.Common.{rules, ◌≡◌, ◌∙◌, Some, None, subst}
 use Rattle.std.specs.HashMap.{get}
 use Rattle.si_model.specs.Operations.{same_key}
+use Rattle.si_shard.specs.Changes.{AreMade}
 use Rattle.si_shard.specs.Keyed.{ShowsAt}
 use Rattle.si_shard.proofs.keyed.change_in.Goals as goal
 
@@ -29,10 +30,10 @@ make_changes-requires-2 c =
     let bare = subst (λ o. ShowsAt c.args.key.now o c.requires.0) none c.requires.2 in
     (c.requires.0, c.requires.1, c.new-kept.ensures.shows c.requires.0 bare.0 bare.1, c.requires.3)
 
-pub returns : goal.returns
-returns c =
+pub returns-in_ok-insert-in-Ok : goal.returns-in_ok-insert-in-Ok
+returns-in_ok-insert-in-Ok c =
     let none : get same_key c.args.states.now c.args.key.now ≡ None = search rules in
-    let made = c.in_ok-make_changes-2.ensures in
+    let made : AreMade c.args.changes.items c.new-kept.result c.make_changes-2.new.kept = search rules in
     record {
       kept = c.make_changes-2.new.kept;
       key = search rules;
