@@ -109,7 +109,7 @@ fn explained_alone(
     history: &History,
 ) -> Result<Evidence, ExplainFault> {
     let found = found_in(rt, &history.txns, &history.initial);
-    are_same(rt, found.len(), 1);
+    assert!(rt; found.len() == 1);
     explained(rt, history, &found[0])
 }
 
