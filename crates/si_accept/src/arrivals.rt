@@ -15,8 +15,8 @@ use std::marker::Model;
 
 /// Transactions in the order of arrival. Contracts see the list.
 ///
-/// A withdrawal leaves its slot empty, so that it moves no other transaction. Once half of the slots are empty they
-/// are closed up, which costs no more than the withdrawals before it.
+/// A withdrawal leaves its slot empty, so that it moves no other transaction. Once fewer than half of the slots, rounded
+/// down, hold one, the empty ones are closed up, which costs no more than the withdrawals before it.
 #[derive(Drop)]
 pub struct Arrivals {
     alloc: Global,
@@ -92,7 +92,7 @@ impl Arrivals {
         Ok(copies)
     }
 
-    /// The transaction arrives. Its id may not be there.
+    /// The transaction arrives. Its id must not be there yet. If memory is refused, nothing changes.
     pub fn push(&mut self, txn: Txn) -> Result<(), OutOfMemory>
         requires { with_id self.old txn.id ≡ None }
         ensures ok { OnOk result (self.new ≡ self.old ++ txn ∷ []) }
@@ -136,7 +136,8 @@ impl Arrivals {
         }
     }
 
-    /// Closes up the empty slots where half of all are empty. Where memory is refused they stay for now.
+    /// Closes up the empty slots where fewer than half of all, rounded down, hold a transaction. Where memory is refused they stay for
+    /// now.
     fn close_up(&mut self)
         ensures { self.new ≡ self.old }
     {

@@ -2,7 +2,7 @@
 //!
 //! It carries the promise that an edit is refused exactly where the definition of a refusal gives that refusal, and
 //! that a refused edit changes nothing. No edit walks over all that is present. It stands on `si_model`, `si_sorted`,
-//! `indexmap` and `thiserror`, and its proofs on `si_lists`.
+//! `si_hashing`, `indexmap` and `thiserror`, and its proofs on `si_lists`.
 #![tactic(auto)]
 
 pub mod arrivals;

@@ -46,7 +46,7 @@ impl SetUps {
         self.values.get(key).copied()
     }
 
-    /// The key is set up with the value. It may not be set up already.
+    /// The key is set up with the value. It must not be set up already.
     #[tactic(auto, using(crate::proofs::SetUpFinds::set_up_found))]
     pub fn add(&mut self, key: Key, value: Value) -> Result<(), OutOfMemory>
         requires { set_up_value key self.old ≡ None }

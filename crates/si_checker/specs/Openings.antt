@@ -1,5 +1,5 @@
 -- What is opened, before it is named. All of it is this project's choice.
-use Rattle.std.specs.Prelude.{◌≡◌, ℕ, ◌≤◌, ◌⊎◌, ◌<◌, List}
+use Rattle.std.specs.Prelude.{◌≡◌, ℕ, ◌≤◌, ◌⊎◌, ◌<◌, List, None, Option, Some}
 use Rattle.std.specs.List.{Contains}
 use Rattle.si_model.specs.declared.edits.TheConstants.{MOST_EDITS}
 use Rattle.si_words.specs.declared.views.BookView.{BookView}
@@ -29,6 +29,13 @@ IsOpenFault shards passes limit fault.BadShards = IsBeyond 16 shards
 IsOpenFault shards passes limit fault.BadPasses = IsWithin 16 shards × IsBeyond 16 passes
 IsOpenFault shards passes limit fault.BadLimit = IsWithin 16 shards × IsWithin 16 passes × IsBeyond MOST_EDITS limit
 IsOpenFault shards passes limit fault.OutOfMemory = CanOpen shards passes limit
+
+-- the number of a fault, if it has one
+abbrev pub open_fault_code : OpenFault → Option ℕ
+open_fault_code fault.BadShards = Some 51
+open_fault_code fault.BadPasses = Some 52
+open_fault_code fault.BadLimit = Some 53
+open_fault_code fault.OutOfMemory = None
 
 -- the parts of one opening as contracts see them
 pub record PartsState : Type 0 where

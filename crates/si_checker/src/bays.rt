@@ -94,7 +94,7 @@ impl<N: Name> Bay<N> {
 
     /// Applies the edits, which are the next of those that the shard is due, and publishes how far it came.
     ///
-    /// If memory is refused to one of them, those before it stand, and the shard is spoiled.
+    /// If memory is refused to one of them, those before it stand, and the shard is spoiled. One that was spoiled before stays so.
     pub fn apply(&mut self, words: &Words, edits: Vec<Edit>)
         requires words { words.now ≡ N.board }
         requires next { edits.items ≡ take (vec_len edits) (drop self.old.seat.done (edits_of self.old.seat.due)) }

@@ -49,7 +49,7 @@ pub struct Checker<N: Name> {
 }
 
 impl<N: Name> Checker<N> {
-    /// The checker of these parts, which the name is of.
+    /// The checker of these parts, whose board and limit the name tells. It fails where memory is refused.
     pub fn new(alloc: Global, parts: Parts) -> Result<Self, OutOfMemory>
         requires board { parts.board ≡ N.board }
         requires limit { parts.limit ≡ N.limit }

@@ -1,7 +1,7 @@
 //! A checker is opened in parts, which have no name yet.
 ghost use Rattle.std.specs.Prelude.{◌≡◌, IfOk, OnOk, IfErr};
 ghost use Rattle.si_words.specs.Seats.{new_passes};
-ghost use Rattle.si_checker.specs.Openings.{CanOpen, IsOpenFault};
+ghost use Rattle.si_checker.specs.Openings.{CanOpen, IsOpenFault, open_fault_code};
 
 use si_model::MOST_EDITS;
 use si_shard::MOST_SHARDS;
@@ -43,8 +43,10 @@ impl From<AllocError> for OpenFault {
 }
 
 impl OpenFault {
-    /// Its number. Want of memory has none.
-    pub fn code(&self) -> Option<u8> {
+    /// The number of the fault, where it has one. The program prints it nowhere, as it opens no checker with numbers of a user's own.
+    pub fn code(&self) -> Option<u64>
+        ensures { result ≡ open_fault_code self.now }
+    {
         match self {
             OpenFault::BadShards => Some(51),
             OpenFault::BadPasses => Some(52),

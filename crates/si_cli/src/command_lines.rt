@@ -141,7 +141,7 @@ fn explain<'a>(alloc: Global) -> Arg<'a>
     Arg::new(alloc, EXPLAIN)
         .long("explain")
         .action(ArgAction::SetTrue)
-        .help("Follows each violation with its evidence")
+        .help("Follows each violation but own with its evidence")
 }
 
 /// The files that are read in place of standard input. The usage line of help shows them.

@@ -25,8 +25,8 @@ use std::thread::Threads;
 const FAULTY: u8 = 2;
 
 /// The whole program: it reads a command line, of which the first word is the program's name, checks the files that it
-/// names or else the input, and answers the exit status. Help goes to `out`, and what went wrong to `err`, whose own failure changes
-/// nothing. All files are opened before anything is read. The hash maps have this secret key, which nothing that is written tells.
+/// names or else the input, and answers the exit status: 0, 10 or 20 by the run, 0 for help and the version, and 2 for a fault. Help
+/// goes to `out`, and what went wrong to `err`, whose own failure changes nothing. All files are opened before anything is read. The hash maps have this secret key, which nothing that is written tells.
 pub fn main_with<
     R: Threads + Wait + Sync,
     F: NamedFiles,
@@ -70,7 +70,8 @@ pub fn main_with<
 }
 
 /// The whole program where no secret key for the hash maps could be drawn: what the words ask for beside a check is told as by
-/// [`main_with`], and so is their fault; a check isn't made, which is told on `err`.
+/// [`main_with`], and so is their fault; a check isn't made, which is told on `err`. The answer is 0 for a text that was asked for, and
+/// else 2.
 pub fn main_without_key<S: AsStr, O: ByteSink, E: ByteSink>(
     alloc: Global,
     words: &[S],

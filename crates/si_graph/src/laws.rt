@@ -24,28 +24,28 @@ pub fn aborted_reads_are_found()
     model_laws();
 }
 
-/// Without an aborted read, G1b is there exactly where a finding is an intermediate read.
+/// Of a well-formed history without an aborted read, G1b is there exactly where a finding is an intermediate read.
 pub fn intermediate_reads_are_found()
     ensures { IntermediateReadsAreFound }
 {
     model_laws();
 }
 
-/// G-SI(a) is there exactly where a finding is a read of the future or an overlap.
+/// Of a well-formed history, G-SI(a) is there exactly where a finding is a read of the future or an overlap.
 pub fn interference_is_found()
     ensures { InterferenceIsFound }
 {
     model_laws();
 }
 
-/// Without G-SI(a), G1c is not there.
+/// Of a well-formed history without G-SI(a), G1c is not there.
 pub fn circular_flow_interferes()
     ensures { CircularFlowInterferes }
 {
     model_laws();
 }
 
-/// Without G-SI(a), G-SI(b) is there exactly where a finding is a stale read.
+/// Of a well-formed history without G-SI(a), G-SI(b) is there exactly where a finding is a stale read.
 pub fn missed_effects_are_found()
     ensures { MissedEffectsAreFound }
 {

@@ -211,7 +211,7 @@ abbrev pub IsStrictJournal : List Edit → Type 0
 IsStrictJournal edits = (before : List Edit) (e : Edit) (rest : List Edit) → edits ≡ before ++ e ∷ rest
     → AsksRightly (present before) e × IsStrictHistory (present (before ++ e ∷ []))
 
--- a journal that is accepted where stamps have to be distinct is accepted
+-- a strict journal is accepted
 abbrev pub StrictJournalsAreAccepted : Type 0
 StrictJournalsAreAccepted = (edits : List Edit) → IsStrictJournal edits → IsAccepted edits
 

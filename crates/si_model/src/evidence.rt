@@ -52,6 +52,7 @@ impl Walk {
         Walk { edges }
     }
 
+    /// The edges, each of which begins where the one before it ends, if it is a walk.
     pub fn as_slice(&self) -> &[Edge]
         ensures { result.now ≡ self.now }
     {

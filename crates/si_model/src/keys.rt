@@ -186,6 +186,7 @@ impl Key {
         })
     }
 
+    /// The key's text, of 1 to 128 bytes.
     pub fn as_str(&self) -> &str
         ensures text { result.now ≡ self.now }
         ensures fits { IsKeyText result.now }

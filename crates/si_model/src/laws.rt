@@ -175,7 +175,8 @@ pub fn acceptance_is_exact()
     ensures { AcceptanceIsExact }
 {}
 
-/// A journal that is accepted where all stamps have to be distinct is accepted.
+/// A journal without set-up values is accepted if each of its edits asked rightly and left a history in which each commit is greater
+/// than its start and equals no start or commit of another transaction.
 pub fn strict_journals_are_accepted()
     ensures { StrictJournalsAreAccepted }
 {}

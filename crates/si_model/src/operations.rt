@@ -20,6 +20,7 @@ pub enum Op {
 }
 
 impl Op {
+    /// The key that it reads or writes.
     pub fn key(&self) -> &Key
         ensures { result.now ≡ key_of self.now }
     {
@@ -119,6 +120,7 @@ impl Ops {
         })
     }
 
+    /// The operations, in the order of the transaction.
     pub fn as_slice(&self) -> &[Op]
         ensures items { result.now ≡ self.now }
         ensures within { length result.now ≤ MOST_OPS }

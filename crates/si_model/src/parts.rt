@@ -100,6 +100,7 @@ impl Accesses {
         Ok(())
     }
 
+    /// The accesses, in the order of the transaction.
     pub fn as_slice(&self) -> &[Placed]
         ensures { result.now ≡ self.now }
     {
@@ -132,12 +133,14 @@ impl Model for Parts {
 }
 
 impl Parts {
+    /// These parts, which aren't copied.
     pub fn from_vec(items: Vec<Part>) -> Self
         ensures { result ≡ items.items }
     {
         Parts { items }
     }
 
+    /// The parts, in their order.
     pub fn as_slice(&self) -> &[Part]
         ensures { result.now ≡ self.now }
     {

@@ -8,7 +8,7 @@ pub struct Options {
     pub shards: usize,
     /// After how many decided items each report on the way comes, at least 1; none comes where it isn't given.
     pub every: Option<u64>,
-    /// Whether a finding is followed by its evidence.
+    /// Whether a finding that has evidence is followed by it.
     pub explain: bool,
     /// The most edits that are accepted, 1 to `MOST_EDITS`.
     pub limit: usize,

@@ -1,7 +1,7 @@
 //! One shard's keys: the findings on them, mended by each edit of the journal in turn.
 //!
 //! It carries the promise that a shard's findings are those of what is present after its stored edits, on its keys. It stands
-//! on `si_model` and `si_judge`, and its proofs on `si_lists`.
+//! on `si_model`, `si_judge`, `si_hashing` and `indexmap`, and its proofs on `si_lists`.
 #![tactic(auto)]
 
 mod applied;

@@ -36,8 +36,9 @@ pub fn print_refusal(
 }
 
 /// Appends a report: the findings, each in its line, and the summary: how many transactions are present, how many findings
-/// there are, and how many items were refused so far. With `explain` each finding that is a violation is followed by the line
-/// of its evidence. The answer is the verdict that the summary tells. If memory is refused, the bytes are as before.
+/// there are, and how many items were refused so far. With `explain` each finding of the kinds 4 to 8, which is a phenomenon, is
+/// followed by the line of its evidence. The answer is the verdict that the summary tells. If memory is refused, the bytes are as
+/// before.
 pub fn print_report(
     alloc: Global,
     out: &mut Vec<u8>,

@@ -1,7 +1,7 @@
 //! The versions of one key.
 //!
 //! It carries the promise that the versions stand in the order of their installers' commit stamps, and that the nearest one
-//! before and after a stamp is found. It stands on `si_model`, and its proofs on `si_lists`.
+//! before and after a stamp is found. It stands on `si_model` and `si_sorted`, and its proofs on `si_lists`.
 #![tactic(auto)]
 
 pub mod timelines;

@@ -169,7 +169,7 @@ fn is_of_order(
 
 /// A run over these texts, in which blank lines are empty, decides all their lines, each once and those of a source in their order,
 /// and writes what one source would give that has them in the order in which they were decided.
-pub fn check_order(rt: &impl Host, texts: &[&str], options: Options) {
+pub(super) fn check_order(rt: &impl Host, texts: &[&str], options: Options) {
     let (out, order) = run_noted(rt, texts, options);
     are_decided(rt, texts, order.as_slice());
     is_of_order(rt, out.as_slice(), texts, options, order.as_slice());
