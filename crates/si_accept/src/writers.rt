@@ -80,7 +80,7 @@ impl Writers {
         }
     }
 
-    /// The transaction writes the pairs that the operations write, from now on. None of them must have a writer yet.
+    /// The transaction writes the pairs that the operations write, from now on. Each of them must be without a writer.
     pub fn add_all(&mut self, ops: &[Op], id: TxnId) -> Result<(), OutOfMemory>
         requires { AreFree ops.now self.old }
         ensures ok { OnOk result (SetsWriters ops.now (Some id) self.old self.new) }

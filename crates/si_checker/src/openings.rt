@@ -43,7 +43,7 @@ impl From<AllocError> for OpenFault {
 }
 
 impl OpenFault {
-    /// The number of the fault, where it has one. The program prints it nowhere, as it opens no checker with numbers of a user's own.
+    /// The number of the fault, where it has one. The program prints it nowhere: its command line lets no such numbers through.
     pub fn code(&self) -> Option<u64>
         ensures { result ≡ open_fault_code self.now }
     {

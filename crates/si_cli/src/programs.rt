@@ -26,7 +26,8 @@ const FAULTY: u8 = 2;
 
 /// The whole program: it reads a command line, of which the first word is the program's name, checks the files that it
 /// names or else the input, and answers the exit status: 0, 10 or 20 by the run, 0 for help and the version, and 2 for a fault. Help
-/// goes to `out`, and what went wrong to `err`, whose own failure changes nothing. All files are opened before anything is read. The hash maps have this secret key, which nothing that is written tells.
+/// goes to `out`, and what went wrong to `err`, whose own failure changes nothing. All files are opened before anything is read. The
+/// hash maps have this secret key, which nothing that is written tells.
 pub fn main_with<
     R: Threads + Wait + Sync,
     F: NamedFiles,

@@ -34,7 +34,7 @@ const ROOM: usize = 64;
 /// is that of some interleaving of the items of the inputs, so of one input it is one function of its bytes, whatever the number of
 /// shards and the secret key of the hash maps. After a fault a beginning of it was written.
 ///
-/// There are 1 to 8 inputs. Options out of their bounds are answered [`RunFault::Open`] before anything is read.
+/// There are 1 to 8 inputs. A number of shards or a limit out of its bounds is answered [`RunFault::Open`], before anything is read.
 ///
 /// The memory of the checker isn't given back: the program ends after it.
 pub fn run<R: Threads + Wait + Sync, S: ByteSource + Send, W: ByteSink>(
