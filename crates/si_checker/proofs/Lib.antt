@@ -2,3 +2,4 @@ pub mod Crossing
 pub mod Machines
 pub mod Storing
 pub mod Fresh
+pub mod Told

@@ -1,5 +1,5 @@
 -- What a shard has stored is a beginning of what it is due, before and after it applies more.
-use Rattle.std.proofs.Common.{◌≡◌, ◌∙◌, ◌≤◌, ◌+◌, ◌-◌, ℕ, zero, suc, List, [], ◌∷◌, ◌++◌, length, take, drop, refl, sym, ap, subst, arith, append_assoc, length-drop}
+use Rattle.std.proofs.Common.{◌≡◌, ◌∙◌, ◌⊎◌, ⊎_elim, ◌<◌, ◌≤◌, ◌+◌, ◌-◌, ℕ, zero, suc, true, List, [], ◌∷◌, ◌++◌, length, take, drop, refl, sym, ap, subst, arith, append_assoc, length-drop}
 use Rattle.std.proofs.Math.Seq.{drop-nil, take-nil}
 use Rattle.std.proofs.lemmas.List.{length-map, length-take-le, take-append-drop}
 use Rattle.si_model.specs.declared.edits.Edit.{Edit}
@@ -77,8 +77,9 @@ length_stored xs n le = (let l = edits_length xs in length-take-le n (edits_of x
 -- a shard that applied n more of what it is due, and published that
 pub bay_applied : (board : Board) (old new : ShardState) (seat : Seated ShardView) (edits : List Edit) (m n p : ℕ) → IsBay board old seat
     → edits ≡ take m (drop seat.view.done (edits_of seat.view.due)) → length edits ≡ m → new.id ≡ old.id → n ≤ m → new.stored ≡ old.stored ++ take n edits → p ≡ length new.stored
+    → (new.spoiled ≡ true → (n < m) ⊎ ((n ≡ 0) × (old.spoiled ≡ true)))
     → IsBay board new (record seat { view = with_done p seat.view })
-bay_applied board old new seat edits m n p is next many id le stored far =
+bay_applied board old new seat edits m n p is next many id le stored far spoils =
     let done = seat.view.done in
     let E = edits_of seat.view.due in
     let long = edits_length seat.view.due in
@@ -94,4 +95,5 @@ bay_applied board old new seat edits m n p is next many id le stored far =
       room = is.room;
       within = omega arith;
       stored = further ∙ ap (λ j. take j E) (sym here);
+      left = λ s. ⊎_elim (λ (less : n < m). (omega arith)) (λ same. (let was = is.left same.1 in let none = same.0 in omega arith)) (spoils s);
     }

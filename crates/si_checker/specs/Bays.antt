@@ -1,5 +1,5 @@
 -- What lies under the lock of one shard. All of it is this project's choice.
-use Rattle.std.specs.Prelude.{◌≡◌, ◌<◌, ◌≤◌, Bool, List, length, take}
+use Rattle.std.specs.Prelude.{◌≡◌, ◌<◌, ◌≤◌, Bool, true, List, length, take}
 use Rattle.si_model.specs.declared.edits.Edit.{Edit}
 use Rattle.si_model.specs.declared.edits.TheConstants.{MOST_EDITS}
 use Rattle.si_model.specs.Journals.{IsAccepted}
@@ -28,3 +28,5 @@ pub record IsBay (board : Board) (shard : ShardState) (seat : Seated ShardView) 
   pub room : length seat.view.due ≤ MOST_EDITS
   pub within : seat.view.done ≤ length seat.view.due
   pub stored : shard.stored ≡ stored_by seat.view
+  -- where it is spoiled, the edit to which memory was refused is left for it
+  pub left : shard.spoiled ≡ true → seat.view.done < length seat.view.due

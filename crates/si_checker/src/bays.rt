@@ -1,5 +1,5 @@
 //! What lies under the lock of one shard, and what calls do there.
-ghost use Rattle.std.specs.Prelude.{◌≡◌, ℕ, ◌+◌, ◌<◌, ◌≤◌, Bool, true, false, IsTrue, ◌↔◌, ◌++◌, length, take, drop, slice_index, IfOk, OnOk, IfErr, OnErr};
+ghost use Rattle.std.specs.Prelude.{◌≡◌, ◌⊎◌, ℕ, ◌+◌, ◌<◌, ◌≤◌, Bool, true, false, IsTrue, ◌↔◌, ◌++◌, length, take, drop, slice_index, IfOk, OnOk, IfErr, OnErr};
 ghost use Rattle.std.specs.Vec.{vec_len};
 ghost use Rattle.si_model.specs.Journals.{IsAccepted, present};
 ghost use Rattle.si_shard.specs.Laws.{shard_id};
@@ -74,9 +74,10 @@ impl<N: Name> Bay<N> {
         self.shard.position()
     }
 
-    /// Whether memory was refused to an edit, and no rebuild came since.
+    /// Whether memory was refused to an edit, which is left then, and no rebuild came since.
     pub fn is_spoiled(&self) -> bool
-        ensures { result ≡ self.now.spoiled }
+        ensures spoiled { result ≡ self.now.spoiled }
+        ensures left { result ≡ true → self.now.seat.done < length self.now.seat.due }
     {
         self.shard.is_spoiled()
     }
@@ -116,6 +117,7 @@ impl<N: Name> Bay<N> {
         requires words { words.now ≡ N.board }
         ensures desk { desk.new ≡ desk.old }
         ensures settled { OnOk result ((self.new.seat ≡ with_done (length desk.old.journal) (with_due desk.old.journal self.old.seat)) × (self.new.spoiled ≡ false)) }
+        ensures whole { OnOk result (self.old.spoiled ≡ false) }
         ensures fault { IfErr result (λ f. f ≡ fault.Spoiled self.old.seat.number) }
         ensures spoiled { OnErr result (self.new ≡ record self.old { seat = with_due desk.old.journal self.old.seat; spoiled = true }) }
     {
@@ -220,7 +222,8 @@ fn store(shard: &mut Shard, edits: Vec<Edit>)
     requires accepted { IsAccepted (shard.old.stored ++ edits.items) }
     requires room { length shard.old.stored + vec_len edits ≤ MOST_EDITS }
     ensures id { shard.new.id ≡ shard.old.id }
-    ensures stored { (n : ℕ) × (n ≤ vec_len edits) × (shard.new.stored ≡ shard.old.stored ++ take n edits.items) × (shard.new.spoiled ≡ false → (n ≡ vec_len edits) × (shard.old.spoiled ≡ false)) }
+    ensures stored { (n : ℕ) × (n ≤ vec_len edits) × (shard.new.stored ≡ shard.old.stored ++ take n edits.items) × (shard.new.spoiled ≡ false → (n ≡ vec_len edits) × (shard.old.spoiled ≡ false))
+        × (shard.new.spoiled ≡ true → (n < vec_len edits) ⊎ ((n ≡ 0) × (shard.old.spoiled ≡ true))) }
 {
     accepted_begins();
     for edit in edits {

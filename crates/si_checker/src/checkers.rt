@@ -13,6 +13,7 @@ ghost use Rattle.si_words.specs.Seats.{new_shards};
 ghost use Rattle.si_shard.specs.declared.shards.TheConstants.{MOST_SHARDS};
 ghost use Rattle.si_words.specs.Views.{pass_closed, with_count, with_mark, with_marks, with_mine, with_seen};
 ghost use Rattle.si_checker.specs.Calls.{IsSubmitted, learning};
+ghost use Rattle.si_checker.specs.declared.reports.ReportFault.TheVariants as fault;
 
 use crate::bays::Bay;
 use crate::desks::Desk;
@@ -23,7 +24,7 @@ use si_accept::Book;
 use si_graph::laws::emptiness_is_exact;
 use si_model::laws::{order_is_strict, present_is_history};
 use si_model::sorting::put_in_order;
-use si_model::{Edit, Finding, Number, OutOfMemory};
+use si_model::{Edit, Finding, MOST_EDITS, Number, OutOfMemory};
 use si_shard::laws::findings_are_of_shards;
 use si_words::{Pass, ShardSeat, Words};
 use std::alloc::{AllocError, Global};
@@ -109,6 +110,7 @@ impl<N: Name> Checker<N> {
     /// What shards have left to apply is applied here. After a fault what was applied stands, and the pass has seen the journal.
     pub fn settled_report<R: Wait>(&self, rt: &R, pass: &mut Pass) -> Result<Report, ReportFault>
         requires { pass.old.table ≡ N.board.table }
+        ensures fault { (j : ℕ) → IfErr result (λ f. f ≡ fault.Spoiled j → j < N.board.shards) }
         ensures number { IfOk result (λ r. r.number ≡ length pass.new.view.seen) }
         ensures present { IfOk result (λ r. r.present.items ≡ (present (edits_of pass.new.view.seen)).txns) }
         ensures initial { IfOk result (λ r. r.initial.items ≡ (present (edits_of pass.new.view.seen)).initial) }
@@ -130,6 +132,7 @@ impl<N: Name> Checker<N> {
 
     /// The findings of the whole journal, and what is present after it.
     fn report_of<R: Wait>(&self, rt: &R, desk: &mut Desk<N>) -> Result<Report, ReportFault>
+        ensures fault { (j : ℕ) → IfErr result (λ f. f ≡ fault.Spoiled j → j < N.board.shards) }
         ensures desk { desk.new ≡ desk.old }
         ensures number { IfOk result (λ r. r.number ≡ length desk.old.journal) }
         ensures present { IfOk result (λ r. r.present.items ≡ (present (edits_of desk.old.journal)).txns) }
@@ -156,6 +159,7 @@ impl<N: Name> Checker<N> {
         pass: &mut Pass,
     ) -> Result<SettledFindings, ReportFault>
         requires { pass.old.table ≡ N.board.table }
+        ensures fault { (j : ℕ) → IfErr result (λ f. f ≡ fault.Spoiled j → j < N.board.shards) }
         ensures number { IfOk result (λ r. r.number ≡ length pass.new.view.seen) }
         ensures count { IfOk result (λ r. r.transactions ≡ length (present (edits_of pass.new.view.seen)).txns) }
         ensures found { IfOk result (λ r. r.findings.items ≡ findings (present (edits_of pass.new.view.seen))) }
@@ -181,6 +185,7 @@ impl<N: Name> Checker<N> {
         rt: &R,
         desk: &mut Desk<N>,
     ) -> Result<SettledFindings, ReportFault>
+        ensures fault { (j : ℕ) → IfErr result (λ f. f ≡ fault.Spoiled j → j < N.board.shards) }
         ensures desk { desk.new ≡ desk.old }
         ensures number { IfOk result (λ r. r.number ≡ length desk.old.journal) }
         ensures count { IfOk result (λ r. r.transactions ≡ length (present (edits_of desk.old.journal)).txns) }
@@ -198,6 +203,7 @@ impl<N: Name> Checker<N> {
 
     /// Each shard applies what it has left of the journal: the findings of all, in order.
     fn settle<R: Wait>(&self, rt: &R, desk: &mut Desk<N>) -> Result<Vec<Finding>, ReportFault>
+        ensures fault { (j : ℕ) → IfErr result (λ f. f ≡ fault.Spoiled j → j < N.board.shards) }
         ensures desk { desk.new ≡ desk.old }
         ensures found { IfOk result (λ found. found.items ≡ findings (present (edits_of desk.old.journal))) }
         ensures empty { IfOk result (λ found. (found.items ≡ []) ↔ (IsWellFormed (present (edits_of desk.old.journal)) × IsPlSi (present (edits_of desk.old.journal)))) }
@@ -224,6 +230,7 @@ impl<N: Name> Checker<N> {
         found: &mut Vec<Finding>,
     ) -> Result<(), ReportFault>
         requires { k < N.board.shards }
+        ensures fault { (j : ℕ) → IfErr result (λ f. f ≡ fault.Spoiled j → j ≡ k) }
         ensures desk { desk.new ≡ desk.old }
         ensures found { OnOk result (found.new.items ≡ found.old.items ++ findings_in (shard_id k N.board.shards) (present (edits_of desk.old.journal))) }
     {
@@ -246,6 +253,7 @@ impl<N: Name> Checker<N> {
     ) -> Result<ShardReport, ReportFault>
         requires own { pass.old.table ≡ N.board.table }
         requires shard { k < N.board.shards }
+        ensures fault { (j : ℕ) → IfErr result (λ f. f ≡ fault.Spoiled j → j ≡ k) }
         ensures position { IfOk result (λ r. slice_index pass.new.view.marks k ≡ r.position) }
         ensures rises { IfOk result (λ r. slice_index pass.old.view.marks k ≤ r.position) }
         ensures within { IfOk result (λ r. r.position ≤ length pass.new.view.seen) }
@@ -306,6 +314,7 @@ impl<N: Name> Checker<N> {
         ensures view { pass.new ≡ record pass.old { view = with_count result pass.old.view } }
         ensures rises { pass.old.view.count ≤ result }
         ensures seen { length pass.old.view.seen ≤ pass.old.view.count }
+        ensures within { result ≤ MOST_EDITS }
     {
         self.words.issued(pass)
     }
@@ -317,6 +326,7 @@ impl<N: Name> Checker<N> {
         ensures view { pass.new ≡ record pass.old { view = with_mark k result pass.old.view } }
         ensures mark { slice_index pass.new.view.marks k ≡ result }
         ensures rises { slice_index pass.old.view.marks k ≤ result }
+        ensures within { result ≤ MOST_EDITS }
     {
         self.words.shard_mark(pass, k)
     }
@@ -329,6 +339,7 @@ impl<N: Name> Checker<N> {
         ensures rises { (k : ℕ) → k < N.board.shards → slice_index pass.old.view.marks k ≤ slice_index pass.new.view.marks k }
         ensures least { (k : ℕ) → k < N.board.shards → result ≤ slice_index pass.new.view.marks k }
         ensures mark { (k : ℕ) × (k < N.board.shards) × (slice_index pass.new.view.marks k ≡ result) }
+        ensures within { result ≤ MOST_EDITS }
     {
         self.words.watermark(pass)
     }

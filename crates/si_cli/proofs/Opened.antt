@@ -1,6 +1,6 @@
 -- What is said of sources holds of the files that they were opened from, as far as these are known.
-use Rattle.std.proofs.Common.{◌≡◌, inl, inr, ℕ, zero, suc, ◌+◌, ◌<◌, ◌≤◌, Bool, List, [], ◌∷◌, ◌++◌, map, length, take, Option, Some, None, All, refl, sym, ap, subst, ◌∙◌, arith}
-use Rattle.std.specs.Prelude.{slice_index_or}
+use Rattle.std.proofs.Common.{◌≡◌, inl, inr, ℕ, zero, suc, ◌+◌, ◌<◌, ◌≤◌, Bool, List, [], ◌∷◌, ◌++◌, map, length, take, Option, Some, None, All, false, refl, sym, ap, subst, ◌∙◌, arith}
+use Rattle.std.specs.Prelude.{Result, Ok, Err, IfOk, OnOk, IfErr, OnErr, slice_index_or}
 use Rattle.std.specs.Option.{option_map}
 use Rattle.std.specs.Io.KnownBytes.{Keeps}
 use Rattle.std.specs.Borrow.{Bor}
@@ -8,14 +8,16 @@ use Rattle.std.proofs.Math.Seq.{take-suc}
 use Rattle.std.proofs.lemmas.List.{map-append}
 use Rattle.std.proofs.lemmas.Option.{none-some}
 use Rattle.si_lists.proofs.Tests.{mapped_some}
+use Rattle.si_run.specs.declared.options.Options.{Options}
 use Rattle.si_run.specs.declared.statuses.ExitStatus.{ExitStatus}
 use Rattle.si_run.specs.declared.faults.RunFault.{RunFault}
 use Rattle.si_run.specs.declared.faults.RunFault.TheVariants as fault
 use Rattle.si_run.specs.Outputs.{Terms}
-use Rattle.si_run.specs.Runs.{BeginsSome, BeginsText, IsTrueDeviceFault, MayBeTooLong, WritesBeginning, WritesOutput, WritesSome, WritesText, all_known}
+use Rattle.si_run.specs.Runs.{BeginsSome, BeginsText, IsRunnable, IsTrueDeviceFault, IsTrueFault, MayBeTooLong, WritesBeginning, WritesOutput, WritesSome, WritesText, all_known, terms_by}
 use Rattle.si_run.specs.Takings.{Device}
+use Rattle.si_run.proofs.InRange.{device_fault}
 use Rattle.si_cli.specs.Openings.{HoldFiles}
-use Rattle.si_cli.specs.Programs.{EndsCheck, EndsFiles, EndsNamed, Files, Input}
+use Rattle.si_cli.specs.Programs.{EndsCheck, EndsFiles, EndsNamed, Files, Input, IsToldOf}
 
 pub as_many : (files lefts : List (Option (List ℕ))) → HoldFiles files lefts → length lefts ≡ length files
 as_many [] [] k = refl
@@ -108,6 +110,16 @@ pub all_mapped : {X : Type 0} (f : X → Bool) (P : Bool → Type 0) (xs : List 
 all_mapped f P [] each k d below = absurd (omega arith)
 all_mapped f P (x ∷ xs) each zero d below = each zero x (omega arith)
 all_mapped f P (x ∷ xs) each (suc k) d below = all_mapped f P xs (λ i e within. each (suc i) e (omega arith)) k d (omega arith)
+
+-- a run whose end is told is a check that ends so
+pub run_told : {S : Type 0} (has_failed : S → Bool) (inputs : List S) (options : Options) (lefts : List (Option (List ℕ))) (out err : Device) (result : ℕ) (ended : Result ExitStatus RunFault)
+    → IsRunnable options → IfOk ended (WritesText (terms_by options) lefts out.before out.after)
+    → OnOk ended (All (λ s. has_failed s ≡ false) inputs × (out.failed ≡ false)) → OnErr ended (BeginsText (terms_by options) lefts out.before out.after)
+    → IfErr ended (IsTrueFault options lefts (map has_failed inputs) out.failed) → IsToldOf ended err result → EndsCheck (terms_by options) lefts (map has_failed inputs) out err result
+run_told has_failed inputs options lefts out err result (Ok status) r text works part true_fault told =
+    inl (status, told.0, text, all_mapped has_failed (λ (f : Bool). f ≡ false) inputs works.0, works.1, told.1)
+run_told has_failed inputs options lefts out err result (Err f) r text works part true_fault told =
+    inr (f, device_fault options lefts (map has_failed inputs) out.failed f r true_fault, part, told)
 
 -- ---- while files are opened
 

@@ -1,5 +1,5 @@
 -- What is known of files that were opened, and why not all were.
-use Rattle.std.specs.Prelude.{◌≡◌, ◌<◌, ℕ, Bool, true, List, [], ◌∷◌, Option, length, slice_index_or, ⊤}
+use Rattle.std.specs.Prelude.{◌≡◌, ◌<◌, ℕ, Bool, true, false, All, List, [], ◌∷◌, Option, length, map, take, slice_index_or, ⊤}
 use Rattle.std.specs.Io.KnownBytes.{Keeps}
 use Rattle.clap.specs.Words.{Text}
 use Rattle.si_cli.specs.declared.programs.NotOpened.{NotOpened}
@@ -12,7 +12,12 @@ HoldFiles [] (left ∷ lefts) = ⊥
 HoldFiles (bytes ∷ files) [] = ⊥
 HoldFiles (bytes ∷ files) (left ∷ lefts) = Keeps bytes left × HoldFiles files lefts
 
--- the file of that place may be one that can't be opened, or memory was refused
-abbrev pub IsNotOpened : (Text → Bool) → List Text → NotOpened → Type 0
-IsNotOpened may_lack names (File place) = (place < length names) × (may_lack (slice_index_or names place []) ≡ true)
-IsNotOpened may_lack names Memory = ⊤
+-- of each of these names a source was opened: each gives the bytes of its file, as far as they are known, and has not failed
+abbrev pub AreOpened : {Source : Type 0} → (Source → Option (List ℕ)) → (Source → Bool) → (Text → Option (List ℕ)) → List Text → Type 0
+AreOpened {Source} left failed bytes names =
+    (sources : List Source) × HoldFiles (map bytes names) (map left sources) × All (λ source. failed source ≡ false) sources
+
+-- the file of that place may be one that can't be opened, and those before it were; or memory was refused
+abbrev pub IsNotOpened : (List Text → Type 0) → (Text → Bool) → List Text → NotOpened → Type 0
+IsNotOpened WereOpened may_lack names (File place) = (place < length names) × (may_lack (slice_index_or names place []) ≡ true) × WereOpened (take place names)
+IsNotOpened WereOpened may_lack names Memory = ⊤

@@ -1,5 +1,5 @@
 -- How the program ends, and what it writes to which device.
-use Rattle.std.specs.Prelude.{◌≡◌, ◌≢◌, ◌<◌, ◌≤◌, ◌⊎◌, ◌++◌, ℕ, Bool, true, false, List, [], ◌∷◌, All, Option, length, map, slice_index_or, codes, decimal}
+use Rattle.std.specs.Prelude.{◌≡◌, ◌≢◌, ◌<◌, ◌≤◌, ◌⊎◌, ◌++◌, ℕ, Bool, true, false, List, [], ◌∷◌, All, Option, Result, Ok, Err, length, map, take, slice_index_or, codes, decimal}
 use Rattle.std.specs.Io.KnownBytes.{Appends}
 use Rattle.clap.specs.declared.error.Error.{Error}
 use Rattle.clap.specs.declared.error.kind.ErrorKind.TheVariants.{DisplayHelp, DisplayVersion, OutOfMemory}
@@ -15,6 +15,7 @@ use Rattle.si_cli.specs.CommandLines.{every_given, explain_given, files_given, r
 use Rattle.si_run.specs.Outputs.{Terms, exit_code}
 use Rattle.si_run.specs.Runs.{AppendsBeginning, BeginsText, IsTrueDeviceFault, WritesText}
 use Rattle.si_run.specs.Takings.{Device}
+use Rattle.si_cli.specs.Openings.{AreOpened}
 
 -- ---- what the program is lent
 
@@ -32,11 +33,19 @@ pub record Files : Type 1 where
   pub bytes : Text → Option (List ℕ)
   -- whether there may be none of that name
   pub may_lack : Text → Bool
+  -- the files of these names were opened
+  pub WereOpened : List Text → Type 0
   -- some source of that kind has failed, or has not
   pub MayBe : Bool → Type 0
 
-abbrev pub files_with : (Text → Option (List ℕ)) → (Text → Bool) → (Bool → Type 0) → Files
-files_with bytes may_lack MayBe = record { bytes = bytes; may_lack = may_lack; MayBe = MayBe }
+-- files that are read by such sources, of which this tells what each has left and whether it has failed
+abbrev pub files_of : {Source : Type 0} → (Source → Option (List ℕ)) → (Source → Bool) → (Text → Option (List ℕ)) → (Text → Bool) → Files
+files_of {Source} left failed bytes may_lack = record {
+  bytes = bytes;
+  may_lack = may_lack;
+  WereOpened = AreOpened left failed bytes;
+  MayBe = λ has_failed. (source : Source) × (failed source ≡ has_failed);
+}
 
 -- ---- what is written
 
@@ -81,6 +90,11 @@ fault_line fault.Memory = memory_line
 abbrev pub Fails : Device → List ℕ → ℕ → Type 0
 Fails err line result = (result ≡ 2) × Tells err line
 
+-- what a run ended with is told: the status of one that came to its end, or else its fault
+abbrev pub IsToldOf : Result ExitStatus RunFault → Device → ℕ → Type 0
+IsToldOf (Ok status) err result = (result ≡ exit_code status) × IsUntouched err
+IsToldOf (Err f) err result = Fails err (fault_line f) result
+
 -- the status is that of a run over these inputs, of which the text was written and no device has failed; or a fault of a device or of memory is told,
 -- which is true, and a beginning of that text was written
 abbrev pub EndsCheck : Terms → List (Option (List ℕ)) → List Bool → Device → Device → ℕ → Type 0
@@ -90,11 +104,11 @@ EndsCheck terms inputs failed out err result =
     ⊎ ((fault : RunFault) × IsTrueDeviceFault inputs failed out.failed fault × BeginsText terms inputs out.before out.after
     × Fails err (fault_line fault) result)
 
--- a file couldn't be opened, which may be, or memory was refused before all were, and nothing was written; or the check of all files ends so, each with a
+-- a file couldn't be opened, which may be, and those before it were, or memory was refused before all were, and nothing was written; or the check of all files ends so, each with a
 -- source that may have failed
 abbrev pub EndsFiles : Terms → Files → List Text → Device → Device → ℕ → Type 0
 EndsFiles terms files names out err result =
-    ((place : ℕ) × (place < length names) × (files.may_lack (slice_index_or names place []) ≡ true) × IsUntouched out × Fails err (open_line place) result)
+    ((place : ℕ) × (place < length names) × (files.may_lack (slice_index_or names place []) ≡ true) × files.WereOpened (take place names) × IsUntouched out × Fails err (open_line place) result)
     ⊎ (IsUntouched out × Fails err memory_line result)
     ⊎ ((failed : List Bool) × (length failed ≡ length names) × All files.MayBe failed × EndsCheck terms (map files.bytes names) failed out err result)
 

@@ -2,14 +2,14 @@ ghost use Rattle.std.specs.Prelude.{◌≡◌, ◌≤◌, ◌<◌, ◌++◌, ◌
 ghost use Rattle.std.specs.Io.KnownBytes.{Appends};
 ghost use Rattle.std.specs.Mem.{FitsInMemory};
 ghost use Rattle.si_cli.specs.declared.settings.TheConstants.{MOST_FILES};
-ghost use Rattle.si_cli.specs.Openings.{HoldFiles, IsNotOpened};
-ghost use Rattle.si_cli.specs.Programs.{EndsCheck, EndsFiles, EndsLine, EndsNamed, EndsProgram, EndsUnsettled, EndsWithoutKey, Fails, fault_line, files_with, input_with, memory_line, output_line, source_line};
+ghost use Rattle.si_cli.specs.Openings.{AreOpened, HoldFiles, IsNotOpened};
+ghost use Rattle.si_cli.specs.Programs.{EndsCheck, EndsFiles, EndsLine, EndsNamed, EndsProgram, EndsUnsettled, EndsWithoutKey, Fails, IsToldOf, fault_line, files_of, input_with, memory_line, output_line, source_line};
 ghost use Rattle.si_run.specs.Runs.{IsRunnable, terms_by};
 ghost use Rattle.si_run.specs.Takings.{device};
 
 use crate::files::NamedFiles;
 use crate::settings::{SettingsFault, settings_of};
-use crate::{Options, RunFault, run};
+use crate::{ExitStatus, Options, RunFault, run};
 use clap::error::ErrorKind;
 use itoa::Buffer;
 use si_run::writing::write_all;
@@ -50,7 +50,7 @@ pub fn main_with<
     requires out { O.failed out.old ≡ false }
     ensures { EndsProgram (map S.text words.now)
         (input_with (I.left input.old) (I.failed input.new))
-        (files_with (F.bytes files.now) (F.may_lack files.now) (λ has_failed. (source : F.Source) × (F.Source.failed source ≡ has_failed)))
+        (files_of F.Source.left F.Source.failed (F.bytes files.now) (F.may_lack files.now))
         (device (O.written out.old) (O.written out.new) (O.failed out.new))
         (device (E.written err.old) (E.written err.new) (E.failed err.new)) result }
 {
@@ -132,7 +132,7 @@ fn check_by<
     requires out { O.failed out.old ≡ false }
     ensures { EndsNamed (terms_by options)
         (input_with (I.left input.old) (I.failed input.new))
-        (files_with (F.bytes files.now) (F.may_lack files.now) (λ has_failed. (source : F.Source) × (F.Source.failed source ≡ has_failed)))
+        (files_of F.Source.left F.Source.failed (F.bytes files.now) (F.may_lack files.now))
         (map (λ name. name.now) names.now)
         (device (O.written out.old) (O.written out.new) (O.failed out.new))
         (device (E.written err.old) (E.written err.new) (E.failed err.new)) result }
@@ -168,7 +168,7 @@ fn check_files<R: Threads + Wait + Sync, F: NamedFiles, O: ByteSink, E: ByteSink
     requires some { (1 ≤ length names.now) × (length names.now ≤ MOST_FILES) }
     requires out { O.failed out.old ≡ false }
     ensures { EndsFiles (terms_by options)
-        (files_with (F.bytes files.now) (F.may_lack files.now) (λ has_failed. (source : F.Source) × (F.Source.failed source ≡ has_failed)))
+        (files_of F.Source.left F.Source.failed (F.bytes files.now) (F.may_lack files.now))
         (map (λ name. name.now) names.now)
         (device (O.written out.old) (O.written out.new) (O.failed out.new))
         (device (E.written err.old) (E.written err.new) (E.failed err.new)) result }
@@ -188,7 +188,7 @@ fn open_all<F: NamedFiles>(
 ) -> Result<Vec<F::Source>, NotOpened>
     ensures kept { IfOk result (λ sources. HoldFiles (map (F.bytes files.now) (map (λ name. name.now) names.now)) (map F.Source.left sources.items)) }
     ensures works { IfOk result (λ sources. All (λ s. F.Source.failed s ≡ false) sources.items) }
-    ensures err { IfErr result (IsNotOpened (F.may_lack files.now) (map (λ name. name.now) names.now)) }
+    ensures err { IfErr result (IsNotOpened (AreOpened F.Source.left F.Source.failed (F.bytes files.now)) (F.may_lack files.now) (map (λ name. name.now) names.now)) }
 {
     let mut sources = Vec::new(alloc);
     'names: for place in 0..names.len() {
@@ -220,7 +220,15 @@ fn check<R: Threads + Wait + Sync, I: ByteSource + Send, O: ByteSink, E: ByteSin
         (device (O.written out.old) (O.written out.new) (O.failed out.new))
         (device (E.written err.old) (E.written err.new) (E.failed err.new)) result }
 {
-    match run(rt, alloc, hash, sources, out, options) {
+    let ended = run(rt, alloc, hash, sources, out, options);
+    tell_end(err, ended)
+}
+
+/// Answers the status of a run that came to its end, and else tells its fault.
+fn tell_end<E: ByteSink>(err: &mut E, ended: Result<ExitStatus, RunFault>) -> u8
+    ensures { IsToldOf ended (device (E.written err.old) (E.written err.new) (E.failed err.new)) result }
+{
+    match ended {
         Ok(status) => status.code(),
         Err(fault) => tell_fault(err, fault),
     }

@@ -1,5 +1,6 @@
-ghost use Rattle.std.specs.Prelude.{fold};
+ghost use Rattle.std.specs.Prelude.{◌≡◌, fold};
 ghost use Rattle.std.specs.Hash as fed;
+ghost use Rattle.si_hashing.specs.Secrets.{drawn, hash_between};
 
 use std::hash::{BuildHasher, FoldHasher, Hasher, RandomState};
 
@@ -17,8 +18,10 @@ pub struct NumberHash {
 }
 
 impl NumberHash {
-    /// The secret is drawn from this one.
-    pub fn new(secret: RandomState) -> Self {
+    /// The two halves of its secret are numbers that this one gives.
+    pub fn new(secret: RandomState) -> Self
+        ensures { result ≡ hash_between (drawn secret 0) (drawn secret 1) }
+    {
         let mut begun = FoldHasher::default();
         begun.write_u64(secret.hash_one(0u64));
         NumberHash {

@@ -1,13 +1,15 @@
 -- What was written for items is a beginning of the text of those and all that follow.
-use Rattle.std.proofs.Common.{◌≡◌, ℕ, ◌+◌, Bool, false, ◌||◌, List, [], ◌∷◌, ◌++◌, Option, refl, sym, ap, subst, ◌∙◌, inl, inr, append_assoc, append-nil}
+use Rattle.std.proofs.Common.{◌≡◌, ℕ, ◌+◌, Bool, false, ◌||◌, List, [], ◌∷◌, ◌++◌, Option, None, refl, sym, ap, subst, ◌∙◌, inl, inr, append_assoc, append-nil}
 use Rattle.std.specs.Io.KnownBytes.{Appends}
 use Rattle.std.proofs.KnownBytes.{Appends-trans, Appends-nil}
 use Rattle.std.proofs.lemmas.List.Elements.{filter_map-append}
 use Rattle.std.proofs.lemmas.List.Folds.{list_any-append}
 use Rattle.si_intake.specs.Ends.{Accepting, AllEnded}
 use Rattle.si_intake.specs.declared.items.Item.{Item as Told}
-use Rattle.si_intake.specs.declared.items.What.TheVariants.{Line, End}
-use Rattle.std.specs.Prelude.{Result, Ok, Err, IfOk, OnOk, IfErr, OnErr}
+use Rattle.si_intake.specs.declared.items.What.{What}
+use Rattle.si_intake.specs.declared.items.What.TheVariants.{Line, ReadFault, NoMemory, End}
+use Rattle.std.specs.Prelude.{Result, Ok, Err, IfOk, OnOk, IfErr}
+use Rattle.std.specs.List.{cons_option}
 use Rattle.si_model.specs.declared.edits.Edit.{Edit}
 use Rattle.si_text.specs.declared.faults.LineFault.{LineFault}
 use Rattle.si_run.specs.declared.statuses.ExitStatus.{ExitStatus}
@@ -15,8 +17,8 @@ use Rattle.si_run.specs.declared.faults.RunFault.{RunFault}
 use Rattle.si_run.specs.declared.faults.RunFault.TheVariants as fault
 use Rattle.si_run.specs.Outputs.{SourcedItem, sourced, Terms, Progress, start, progress_after, progress_through, report_at, item_text, items_text, output_of, status_at, status_of}
 use Rattle.si_run.specs.Readings.{told}
-use Rattle.si_run.specs.Runs.{AppendsBeginning, IsFaultOfWriting}
-use Rattle.si_run.specs.Takings.{IsAccepted, IsBegun, IsCutInReport, IsCutOff, IsDecided, device, IsFinished, IsMetBefore, has_fault, is_fault, line_of, lines_among}
+use Rattle.si_run.specs.Runs.{AppendsBeginning, IsUnwritten}
+use Rattle.si_run.specs.Takings.{IsAccepted, IsBegun, IsCutInReport, IsCutOff, IsDecided, IsMetAt, device, IsFinished, has_fault, is_fault, line_of, line_told, lines_among}
 
 -- ---- the texts of items, one more at the end
 
@@ -140,118 +142,105 @@ stops_in_line terms taken old mid new p source number answer text way part text_
 
 -- ---- at the end
 
-pub finishes : (terms : Terms) (taken : List Told) (old mid new : Option (List ℕ)) (p : Progress) (status : ExitStatus)
-    → IsDecided terms taken old mid p → Appends mid new (report_at terms p) → status ≡ status_at p → IsFinished terms taken old new status
+pub finishes : (terms : Terms) (taken : List Told) (old mid new : Option (List ℕ)) (p q : Progress) (status : ExitStatus)
+    → IsDecided terms taken old mid p → q ≡ p → Appends mid new (report_at terms p) → status ≡ status_at p → IsFinished terms taken old new q status
 unfolding output_of status_of
-finishes terms taken old mid new p status way adds status_is =
+finishes terms taken old mid new p q status way still adds status_is =
     let before = items_text terms start (lines_among taken) in
     record {
       faultless = way.faultless;
       wrote = subst (λ t. Appends old new (before ++ t)) (ap (report_at terms) way.progress) (Appends-trans old mid new before (report_at terms p) way.wrote adds);
+      progress = still ∙ way.progress;
       ends = status_is ∙ ap status_at way.progress;
     }
 
-pub stops_in_report : (terms : Terms) (taken : List Told) (old mid new : Option (List ℕ)) (p : Progress)
-    (writer_failed : Bool) (f : RunFault)
-    → IsDecided terms taken old mid p → AppendsBeginning mid new (report_at terms p) → IsFaultOfWriting writer_failed f → IsCutInReport terms taken old new writer_failed f
-stops_in_report terms taken old mid new p writer_failed f way part met = record {
-  faultless = way.faultless;
-  part = subst (λ (l : List SourcedItem). AppendsBeginning old new (output_of terms l)) (append-nil (lines_among taken))
-      (begun terms old mid new (lines_among taken) [] p (report_at terms p) [] way.wrote way.progress part (sym (append-nil (report_at terms p))));
-  met = met;
-}
+-- ---- what isn't written whole
 
--- ---- which fault was met
+-- a beginning of it was
+pub unwritten_begins : (old new : Option (List ℕ)) (writer_failed : Bool) (text : List ℕ) (f : RunFault) → IsUnwritten old new writer_failed text f → AppendsBeginning old new text
+unwritten_begins old new w text (fault.Input source) m = absurd m
+unwritten_begins old new w text (fault.Open opening) m = absurd m
+unwritten_begins old new w text fault.Output m = (m.1.0, m.1.1, m.1.2, m.1.4)
+unwritten_begins old new w text fault.Memory m = subst (λ (x : Option (List ℕ)). AppendsBeginning old x text) (sym m.1) (nothing old text)
 
-met_before : (next more : List Told) (writer_failed : Bool) (f : RunFault) → IsMetBefore next writer_failed f → IsMetBefore (next ++ more) writer_failed f
-met_before next more w (fault.Input source) m = (m.0, m.1 ++ more, ap (λ (l : List Told). l ++ more) m.2)
-met_before next more w (fault.Open opening) m = m
-met_before next more w fault.Output m = m
-met_before next more w fault.Memory m = m
+-- what was written is a beginning of the text of all lines that were taken until the fault was met, and whatever lines follow
+pub cut_begun : (terms : Terms) (taken : List Told) (old new : Option (List ℕ)) (writer_failed : Bool) (q : Progress) (f : RunFault)
+    → IsCutOff terms taken old new writer_failed q f → IsBegun terms (lines_among taken) old new
+cut_begun terms taken old new w q f cut = subst (λ (l : List Told). IsBegun terms (lines_among l) old new) (sym cut.order) (by cut.last.what cut.met)
+  where
+    source : ℕ
+    source = cut.last.source
 
-pub met_in_writing : (next : List Told) (writer_failed : Bool) (f : RunFault) → IsFaultOfWriting writer_failed f → IsMetBefore next writer_failed f
-met_in_writing next w (fault.Input source) m = absurd m
-met_in_writing next w (fault.Open opening) m = m
-met_in_writing next w fault.Output m = m
-met_in_writing next w fault.Memory m = m
+    -- a source told a fault
+    quiet : (what : What) → line_told source what ≡ None → new ≡ cut.mid → IsBegun terms (lines_among (cut.before ++ told source what ∷ [])) old new
+    quiet what none same =
+        let lines : lines_among (cut.before ++ told source what ∷ []) ≡ lines_among cut.before =
+        filter_map-append line_of cut.before (told source what ∷ [])
+        ∙ ap (λ (o : Option SourcedItem). lines_among cut.before ++ cons_option o []) none
+        ∙ append-nil (lines_among cut.before) in
+        subst (λ (l : List SourcedItem). IsBegun terms l old new) (sym lines)
+        (subst (λ (x : Option (List ℕ)). IsBegun terms (lines_among cut.before) old x) (sym same) (stops terms cut.before old cut.mid cut.p cut.decided))
 
--- the fault was met before this item, which isn't decided
-pub cut_before : (terms : Terms) (taken : List Told) (t : Told) (old new : Option (List ℕ)) (p : Progress) (writer_failed : Bool) (f : RunFault)
-    → IsDecided terms taken old new p → IsMetBefore (t ∷ []) writer_failed f → IsCutOff terms (taken ++ t ∷ []) old new writer_failed f
-cut_before terms taken t old new p writer_failed f way met = record {
-  before = taken;
-  next = t ∷ [];
-  order = refl;
-  faultless = way.faultless;
-  begun = stops terms taken old new p way;
-  met = met;
-}
+    by : (what : What) → IsMetAt terms cut.p source what cut.mid new w q f → IsBegun terms (lines_among (cut.before ++ told source what ∷ [])) old new
+    by (Line number answer) m =
+        let text = item_text terms cut.p (sourced source (number, answer)) in
+        stops_in_line terms cut.before old cut.mid new cut.p source number answer text cut.decided (unwritten_begins cut.mid new w text f m.0) refl
+    by ReadFault m = quiet ReadFault refl m.2
+    by NoMemory m = quiet NoMemory refl m.2
+    by End m = absurd m
 
--- the fault was met at this line, of whose text a part may have been written
-pub cut_in_line : (terms : Terms) (taken : List Told) (source number : ℕ) (answer : Result Edit LineFault) (old new : Option (List ℕ)) (writer_failed : Bool) (f : RunFault)
-    → has_fault taken ≡ false → IsBegun terms (lines_among (taken ++ told source (Line number answer) ∷ [])) old new → IsFaultOfWriting writer_failed f
-    → IsCutOff terms (taken ++ told source (Line number answer) ∷ []) old new writer_failed f
-cut_in_line terms taken source number answer old new writer_failed f faultless begun met = record {
-  before = taken ++ told source (Line number answer) ∷ [];
-  next = [];
-  order = sym (append-nil (taken ++ told source (Line number answer) ∷ []));
-  faultless = no_more_faults taken (told source (Line number answer)) faultless refl;
-  begun = begun;
-  met = met_in_writing [] writer_failed f met;
-}
+-- so it is where more was taken and dropped
+pub stop_begun : (terms : Terms) (taken met dropped : List Told) (old new : Option (List ℕ)) (writer_failed : Bool) (q : Progress) (f : RunFault)
+    → taken ≡ met ++ dropped → IsCutOff terms met old new writer_failed q f → IsBegun terms (lines_among taken) old new
+stop_begun terms taken met dropped old new w q f order cut =
+    more_begun terms (lines_among met) (lines_among taken) (lines_among dropped) old new (ap lines_among order ∙ filter_map-append line_of met dropped) (cut_begun terms met old new w q f cut)
 
--- so what was written is a beginning of the text of all lines that were taken, and whatever lines follow
-pub cut_begun : (terms : Terms) (taken : List Told) (old new : Option (List ℕ)) (writer_failed : Bool) (f : RunFault)
-    → IsCutOff terms taken old new writer_failed f → IsBegun terms (lines_among taken) old new
-cut_begun terms taken old new writer_failed f cut =
-    more_begun terms (lines_among cut.before) (lines_among taken) (lines_among cut.next) old new (ap lines_among cut.order ∙ filter_map-append line_of cut.before cut.next) cut.begun
-
--- what is taken behind it changes nothing
-pub cut_on : (terms : Terms) (taken more : List Told) (old new : Option (List ℕ)) (writer_failed : Bool) (f : RunFault)
-    → IsCutOff terms taken old new writer_failed f → IsCutOff terms (taken ++ more) old new writer_failed f
-cut_on terms taken more old new writer_failed f cut = record {
-  before = cut.before;
-  next = cut.next ++ more;
-  order = ap (λ (l : List Told). l ++ more) cut.order ∙ append_assoc cut.before cut.next more;
-  faultless = cut.faultless;
-  begun = cut.begun;
-  met = met_before cut.next more writer_failed f cut.met;
-}
+-- where the last report wasn't written whole, what was written is a beginning of the text of all lines
+pub report_begun : (terms : Terms) (taken : List Told) (old new : Option (List ℕ)) (writer_failed : Bool) (q : Progress) (f : RunFault)
+    → IsCutInReport terms taken old new writer_failed q f → AppendsBeginning old new (output_of terms (lines_among taken))
+report_begun terms taken old new w q f cut =
+    subst (λ (l : List SourcedItem). AppendsBeginning old new (output_of terms l)) (append-nil (lines_among taken))
+    (begun terms old cut.mid new (lines_among taken) [] q (report_at terms q) [] cut.decided.wrote cut.decided.progress (unwritten_begins cut.mid new w (report_at terms q) f cut.met)
+    (sym (append-nil (report_at terms q))))
 
 -- ---- all was taken
 
--- everything was decided, and then the last report written or begun
-pub reported : (terms at : Terms) (old new : Accepting) (before mid after : Option (List ℕ)) (failed : Bool) (p : Progress) (result : Result ExitStatus RunFault)
-    → at ≡ terms → new ≡ record old { taken = new.taken } → AllEnded new → IsDecided terms new.taken before mid p
+-- everything was decided, and then the last report written, or not the whole of it
+pub reported : (terms at : Terms) (old new : Accepting) (before mid after : Option (List ℕ)) (failed : Bool) (p q : Progress) (result : Result ExitStatus RunFault)
+    → at ≡ terms → new ≡ record old { taken = new.taken } → AllEnded new → IsDecided terms new.taken before mid p → q ≡ p
     → OnOk result (Appends mid after (report_at at p)) → IfOk result (λ status. status ≡ status_at p) → OnOk result (failed ≡ false)
-    → OnErr result (AppendsBeginning mid after (report_at at p)) → IfErr result (IsFaultOfWriting failed)
-    → IsAccepted terms old new (device before after failed) result
-reported terms at old new before mid after failed p (Ok status) is same ended way adds status_is works part fault = record {
+    → IfErr result (IsUnwritten mid after failed (report_at at p))
+    → IsAccepted terms old new (device before after failed) q result
+reported terms at old new before mid after failed p q (Ok status) is same ended way still adds status_is works fault = record {
   same = same;
   ended = ended;
-  ok = finishes terms new.taken before mid after p status way (subst (λ (t : Terms). Appends mid after (report_at t p)) is adds) status_is;
+  ok = finishes terms new.taken before mid after p q status way still (subst (λ (t : Terms). Appends mid after (report_at t p)) is adds) status_is;
   works = works;
   err = tt;
 }
-reported terms at old new before mid after failed p (Err f) is same ended way adds status_is works part fault = record {
+reported terms at old new before mid after failed p q (Err f) is same ended way still adds status_is works fault = record {
   same = same;
   ended = ended;
   ok = tt;
   works = tt;
-  err = inr (stops_in_report terms new.taken before mid after p failed f way (subst (λ (t : Terms). AppendsBeginning mid after (report_at t p)) is part) fault);
+  err = inr (record {
+    mid = mid;
+    decided = subst (IsDecided terms new.taken before mid) (sym still) way;
+    met = subst (λ (r : Progress). IsUnwritten mid after failed (report_at terms r) f) (sym still) (subst (λ (t : Terms). IsUnwritten mid after failed (report_at t p) f) is fault);
+  });
 }
 
 -- a fault was met, and what was left was taken and dropped
-pub dropped : (terms : Terms) (old mid new : Accepting) (more : List Told) (before after : Option (List ℕ)) (failed : Bool) (f : RunFault)
+pub dropped : (terms : Terms) (old mid new : Accepting) (more : List Told) (before after : Option (List ℕ)) (failed : Bool) (q : Progress) (f : RunFault)
     → mid ≡ record old { taken = mid.taken } → new ≡ record mid { taken = mid.taken ++ more } → AllEnded new
-    → IsCutOff terms mid.taken before after failed f
-    → IsAccepted terms old new (device before after failed) (Err f)
-dropped terms old mid new more before after failed f same goes_on ended cut =
+    → IsCutOff terms mid.taken before after failed q f
+    → IsAccepted terms old new (device before after failed) q (Err f)
+dropped terms old mid new more before after failed q f same goes_on ended cut =
     let taken : new.taken ≡ mid.taken ++ more = ap (λ (a : Accepting). a.taken) goes_on in
     record {
       same = goes_on ∙ ap (λ (a : Accepting). record a { taken = mid.taken ++ more }) same ∙ ap (λ (l : List Told). record old { taken = l }) (sym taken);
       ended = ended;
       ok = tt;
       works = tt;
-      err = inl (subst (λ (l : List Told). IsCutOff terms l before after failed f) (sym taken) (cut_on terms mid.taken more before after failed f cut));
+      err = inl (mid.taken, more, taken, cut);
     }

@@ -1,5 +1,5 @@
 -- The ends of a run: those that were opened, and what is known once all is taken.
-use Rattle.std.proofs.Common.{◌≡◌, ℕ, zero, suc, ◌<◌, Bool, false, List, [], ◌∷◌, ◌++◌, map, length, take, drop, Option, Some, All, refl, sym, ap, ◌∙◌, arith, append-nil}
+use Rattle.std.proofs.Common.{◌≡◌, ⊎_elim, ℕ, zero, suc, ◌<◌, Bool, false, List, [], ◌∷◌, ◌++◌, map, length, take, drop, Option, Some, All, refl, sym, ap, subst, ◌∙◌, arith, append-nil}
 use Rattle.std.specs.Prelude.{Result, Ok, Err, IfOk, OnOk, IfErr, OnErr}
 use Rattle.std.proofs.Math.ListN.{get_or-map}
 use Rattle.std.proofs.lemmas.List.{drop_all, length-map, take_all}
@@ -10,11 +10,12 @@ use Rattle.si_intake.specs.Ends.{Accepting, AreAllEndsOf, Putting, all_put, new_
 use Rattle.si_intake.specs.Interleavings.{IsInterleaving as IsIntakeOf}
 use Rattle.si_run.specs.declared.statuses.ExitStatus.{ExitStatus}
 use Rattle.si_run.specs.declared.faults.RunFault.{RunFault}
-use Rattle.si_run.specs.Outputs.{Terms}
+use Rattle.si_run.specs.declared.faults.RunFault.TheVariants as fault
+use Rattle.si_run.specs.Outputs.{Progress, Terms}
 use Rattle.si_run.specs.Readings.{AreRead}
 use Rattle.si_run.specs.Runs.{BeginsText, IsTrueDeviceFault, WritesText}
-use Rattle.si_run.specs.Takings.{Device, IsAccepted}
-use Rattle.si_run.proofs.Interleaved.{AreTaken, all_worked, finished, met, stopped}
+use Rattle.si_run.specs.Takings.{Device, IsNotBegun, IsRunThrough, IsStopped}
+use Rattle.si_run.proofs.Interleaved.{AreTaken, all_worked, finished, met, nothing_begun, stopped}
 
 -- the ends keep their places and numbers while their inputs are read, and so does the accepter
 pub still_all : (old new : Accepting) (lefts : List (Option (List ℕ))) (failed : List Bool) (olds news : List Putting)
@@ -65,25 +66,45 @@ written_over n news olds many same =
 
 -- ---- what the threads did together
 
-pub ran_ok : (terms : Terms) (old new : Accepting) (out : Device) (result : Result ExitStatus RunFault) (lefts : List (Option (List ℕ))) (failed : List Bool) (olds news : List Putting)
-    → AreTaken lefts failed olds news new.taken → IsAccepted terms old new out result → IfOk result (WritesText terms lefts out.before out.after)
-ran_ok terms old new out (Ok status) lefts failed olds news t a = finished terms lefts failed olds news new.taken out.before out.after status t a.ok
-ran_ok terms old new out (Err f) lefts failed olds news t a = tt
+-- where no source has begun, nothing was written, which is a beginning of some text
+unbegun : (terms : Terms) (out : Device) (q : Progress) (f : RunFault) (lefts : List (Option (List ℕ))) → IsNotBegun out q f → BeginsText terms lefts out.before out.after
+unbegun terms out q (fault.Input s) lefts m = absurd m
+unbegun terms out q (fault.Open opening) lefts m = absurd m
+unbegun terms out q fault.Output lefts m = absurd m
+unbegun terms out q fault.Memory lefts m = subst (BeginsText terms lefts out.before) (sym m.0) (nothing_begun terms lefts out.before)
 
-pub ran_works : {S : Type 0} (has_failed : S → Bool) (inputs : List S) (terms : Terms) (old new : Accepting) (out : Device) (result : Result ExitStatus RunFault) (lefts : List (Option (List ℕ))) (olds news : List Putting)
-    → AreTaken lefts (map has_failed inputs) olds news new.taken → IsAccepted terms old new out result → length (map has_failed inputs) ≡ length lefts
-    → OnOk result (All (λ (s : S). has_failed s ≡ false) inputs × (out.failed ≡ false))
-ran_works has_failed inputs terms old new out (Ok status) lefts olds news t a many =
-    let each = all_worked lefts (map has_failed inputs) olds news new.taken t a.ok.faultless many in
-    (λ k d below. sym (get_or-map has_failed inputs k d) ∙ each k (has_failed d) (omega (arith, length-map inputs has_failed)), a.works)
-ran_works has_failed inputs terms old new out (Err f) lefts olds news t a many = tt
+unbegun_true : (out : Device) (q : Progress) (f : RunFault) (lefts : List (Option (List ℕ))) (failed : List Bool) → IsNotBegun out q f → IsTrueDeviceFault lefts failed out.failed f
+unbegun_true out q (fault.Input s) lefts failed m = absurd m
+unbegun_true out q (fault.Open opening) lefts failed m = m
+unbegun_true out q fault.Output lefts failed m = absurd m
+unbegun_true out q fault.Memory lefts failed m = m.1
 
-pub ran_err : (terms : Terms) (old new : Accepting) (out : Device) (result : Result ExitStatus RunFault) (lefts : List (Option (List ℕ))) (failed : List Bool) (olds news : List Putting)
-    → AreTaken lefts failed olds news new.taken → IsAccepted terms old new out result → OnErr result (BeginsText terms lefts out.before out.after)
-ran_err terms old new out (Ok status) lefts failed olds news t a = tt
-ran_err terms old new out (Err f) lefts failed olds news t a = stopped terms lefts failed olds news new.taken out.before out.after out.failed f t a.err
+module _ (terms : Terms) (old new : Accepting) (out : Device) (q : Progress) where
+  pub ran_ok : (result : Result ExitStatus RunFault) (lefts : List (Option (List ℕ))) (failed : List Bool) (olds news : List Putting)
+      → AreTaken lefts failed olds news new.taken → IsRunThrough terms old new out q result → IfOk result (WritesText terms lefts out.before out.after)
+  ran_ok (Ok status) lefts failed olds news t a = finished terms lefts failed olds news new.taken out.before out.after q status t a.ok
+  ran_ok (Err f) lefts failed olds news t a = tt
 
-pub ran_fault : (terms : Terms) (old new : Accepting) (out : Device) (result : Result ExitStatus RunFault) (lefts : List (Option (List ℕ))) (failed : List Bool) (olds news : List Putting)
-    → AreTaken lefts failed olds news new.taken → IsAccepted terms old new out result → IfErr result (IsTrueDeviceFault lefts failed out.failed)
-ran_fault terms old new out (Ok status) lefts failed olds news t a = tt
-ran_fault terms old new out (Err f) lefts failed olds news t a = met terms lefts failed olds news new.taken out.before out.after out.failed f t a.err
+  pub ran_works : {S : Type 0} (has_failed : S → Bool) (inputs : List S) (result : Result ExitStatus RunFault) (lefts : List (Option (List ℕ))) (olds news : List Putting)
+      → AreTaken lefts (map has_failed inputs) olds news new.taken → IsRunThrough terms old new out q result → length (map has_failed inputs) ≡ length lefts
+      → OnOk result (All (λ (s : S). has_failed s ≡ false) inputs × (out.failed ≡ false))
+  ran_works has_failed inputs (Ok status) lefts olds news t a many =
+      let each = all_worked lefts (map has_failed inputs) olds news new.taken t a.ok.faultless many in
+      (λ k d below. sym (get_or-map has_failed inputs k d) ∙ each k (has_failed d) (omega (arith, length-map inputs has_failed)), a.works)
+  ran_works has_failed inputs (Err f) lefts olds news t a many = tt
+
+  pub ran_err : (result : Result ExitStatus RunFault) (lefts : List (Option (List ℕ))) (failed : List Bool) (olds news : List Putting)
+      → AreTaken lefts failed olds news new.taken → IsRunThrough terms old new out q result → OnErr result (BeginsText terms lefts out.before out.after)
+  ran_err (Ok status) lefts failed olds news t a = tt
+  ran_err (Err f) lefts failed olds news t a = ⊎_elim
+      (λ (s : IsStopped terms new.taken out.before out.after out.failed q f). stopped terms lefts failed olds news new.taken out.before out.after out.failed q f t s)
+      (λ (n : IsNotBegun out q f). unbegun terms out q f lefts n)
+      a.err
+
+  pub ran_fault : (result : Result ExitStatus RunFault) (lefts : List (Option (List ℕ))) (failed : List Bool) (olds news : List Putting)
+      → AreTaken lefts failed olds news new.taken → IsRunThrough terms old new out q result → IfErr result (IsTrueDeviceFault lefts failed out.failed)
+  ran_fault (Ok status) lefts failed olds news t a = tt
+  ran_fault (Err f) lefts failed olds news t a = ⊎_elim
+      (λ (s : IsStopped terms new.taken out.before out.after out.failed q f). met terms lefts failed olds news new.taken out.before out.after out.failed q f t s)
+      (λ (n : IsNotBegun out q f). unbegun_true out q f lefts failed n)
+      a.err

@@ -1,15 +1,16 @@
 -- Once all was taken of inputs that were read, the lines that were taken are an interleaving of the inputs' items.
-use Rattle.std.proofs.Common.{◌≡◌, ⊎_elim, ℕ, zero, suc, ◌<◌, Bool, false, List, [], ◌∷◌, ◌++◌, map, length, Option, Some, None, refl, sym, ap, ◌∙◌, subst, arith, append-nil, All, eq-eqb}
+use Rattle.std.proofs.Common.{◌≡◌, ◌⊎◌, ⊎_elim, ℕ, zero, suc, ◌<◌, Bool, true, false, List, [], ◌∷◌, ◌++◌, map, length, Option, Some, None, refl, sym, ap, ◌∙◌, subst, arith, append-nil, All, eq-eqb}
 use Rattle.std.specs.Prelude.{slice_get, slice_index_or}
 use Rattle.std.specs.List.{Contains}
 use Rattle.std.specs.Option.{option_map}
 use Rattle.std.proofs.lemmas.List.{length-map, map-append}
-use Rattle.std.proofs.lemmas.List.Elements.{filter-append, Contains-append_cases, Contains-append_right}
+use Rattle.std.proofs.lemmas.List.Elements.{filter-append, Contains-append_cases, Contains-append_left, Contains-append_right}
 use Rattle.std.proofs.lemmas.Option.{none-some, same_Some, slice_get-get_or, slice_get-map, slice_get_within}
 use Rattle.si_lists.proofs.Members.{Contains-filter, contains_get, get_contains, here}
 use Rattle.si_lists.proofs.Tests.{mapped_some}
 use Rattle.si_intake.specs.declared.items.Item.{Item as Told}
-use Rattle.si_intake.specs.declared.items.What.TheVariants.{ReadFault}
+use Rattle.si_intake.specs.declared.items.What.{What}
+use Rattle.si_intake.specs.declared.items.What.TheVariants.{Line, ReadFault, NoMemory, End}
 use Rattle.si_intake.specs.Ends.{Putting, all_put}
 use Rattle.si_intake.specs.Items.{comes_from as is_of, of_source}
 use Rattle.si_intake.specs.Interleavings.{IsInterleaving as IsIntakeOf}
@@ -17,12 +18,12 @@ use Rattle.si_text.specs.Inputs.{Item, items_of}
 use Rattle.si_run.specs.declared.statuses.ExitStatus.{ExitStatus}
 use Rattle.si_run.specs.declared.faults.RunFault.{RunFault}
 use Rattle.si_run.specs.declared.faults.RunFault.TheVariants as fault
-use Rattle.si_run.specs.Outputs.{SourcedItem, Terms, from_source, output_of}
+use Rattle.si_run.specs.Outputs.{SourcedItem, Terms, Progress, from_source, item_text, output_of, report_at, sourced}
 use Rattle.si_run.specs.Interleavings.{IsInterleaving, comes_from, items_from}
 use Rattle.si_run.specs.Readings.{AreRead, IsRead, told}
-use Rattle.si_run.specs.Runs.{BeginsSome, BeginsText, IsFaultOfWriting, IsTrueDeviceFault, WritesSome, WritesText, all_known}
-use Rattle.si_run.specs.Takings.{IsCutOff, IsFinished, IsMetBefore, IsStopped, has_fault, lines_among}
-use Rattle.si_run.proofs.Beginnings.{cut_begun, nothing}
+use Rattle.si_run.specs.Runs.{BeginsSome, BeginsText, IsTrueDeviceFault, IsUnwritten, MayBeTooLong, WritesSome, WritesText, all_known}
+use Rattle.si_run.specs.Takings.{IsCutInReport, IsCutOff, IsFinished, IsMetAt, IsStopped, has_fault, lines_among}
+use Rattle.si_run.proofs.Beginnings.{nothing, report_begun, stop_begun}
 use Rattle.si_run.proofs.Texts.{text_begun, text_written}
 use Rattle.si_run.proofs.Told.{IsSplit, has_worked, split, told_fault}
 use Rattle.si_run.proofs.TakenLines.{lines_within, own_faults, rests_of, taken_lines}
@@ -191,53 +192,76 @@ nothing_begun terms lefts old = text_begun terms lefts old old (by (all_known le
 
 -- ---- what a run did
 
-pub finished : (terms : Terms) (lefts : List (Option (List ℕ))) (failed : List Bool) (olds news : List Putting) (taken : List Told) (old new : Option (List ℕ)) (status : ExitStatus)
-    → AreTaken lefts failed olds news taken → IsFinished terms taken old new status → WritesText terms lefts old new status
-finished terms lefts failed olds news taken old new status t f = text_written terms lefts old new status (by (all_known lefts) refl)
+pub finished : (terms : Terms) (lefts : List (Option (List ℕ))) (failed : List Bool) (olds news : List Putting) (taken : List Told) (old new : Option (List ℕ)) (q : Progress) (status : ExitStatus)
+    → AreTaken lefts failed olds news taken → IsFinished terms taken old new q status → WritesText terms lefts old new status
+finished terms lefts failed olds news taken old new q status t f = text_written terms lefts old new status (by (all_known lefts) refl)
   where
     by : (known : Option (List (List ℕ))) → all_known lefts ≡ known → WritesSome terms known old new status
     by None e = tt
     by (Some all) e = (lines_among taken, all_lines lefts failed olds news taken all t e f.faultless, f.wrote, f.ends)
 
 pub stopped : (terms : Terms) (lefts : List (Option (List ℕ))) (failed : List Bool) (olds news : List Putting) (taken : List Told) (old new : Option (List ℕ))
-    (writer_failed : Bool) (fault : RunFault) → AreTaken lefts failed olds news taken → IsStopped terms taken old new writer_failed fault → BeginsText terms lefts old new
-stopped terms lefts failed olds news taken old new writer_failed fault t f = text_begun terms lefts old new (by (all_known lefts) refl)
+    (writer_failed : Bool) (q : Progress) (fault : RunFault) → AreTaken lefts failed olds news taken → IsStopped terms taken old new writer_failed q fault → BeginsText terms lefts old new
+stopped terms lefts failed olds news taken old new writer_failed q fault t f = text_begun terms lefts old new (by (all_known lefts) refl)
   where
     by : (known : Option (List (List ℕ))) → all_known lefts ≡ known → BeginsSome terms known old new
     by None e = tt
     by (Some all) e = ⊎_elim
-        (λ (cut : IsCutOff terms taken old new writer_failed fault).
-        let m = lines_and_more lefts failed olds news taken all t e in (lines_among taken ++ m.0, m.1, cut_begun terms taken old new writer_failed fault cut m.0))
-        (λ w. (lines_among taken, all_lines lefts failed olds news taken all t e w.faultless, w.part))
+        (λ (cut : (met : List Told) × (dropped : List Told) × (taken ≡ met ++ dropped) × IsCutOff terms met old new writer_failed q fault).
+        let m = lines_and_more lefts failed olds news taken all t e in
+        (lines_among taken ++ m.0, m.1, stop_begun terms taken cut.0 cut.1 old new writer_failed q fault cut.2 cut.3 m.0))
+        (λ (cut : IsCutInReport terms taken old new writer_failed q fault).
+        (lines_among taken, all_lines lefts failed olds news taken all t e cut.decided.faultless, report_begun terms taken old new writer_failed q fault cut))
         f
 
+-- ---- the fault is true
+
+-- that a text wasn't written whole is the writer's fault, or one of memory
+unwritten_true : (lefts : List (Option (List ℕ))) (failed : List Bool) (old new : Option (List ℕ)) (writer_failed : Bool) (text : List ℕ) (f : RunFault)
+    → IsUnwritten old new writer_failed text f → IsTrueDeviceFault lefts failed writer_failed f
+unwritten_true lefts failed old new w text (fault.Input s) m = absurd m
+unwritten_true lefts failed old new w text (fault.Open opening) m = m
+unwritten_true lefts failed old new w text fault.Output m = m.0
+unwritten_true lefts failed old new w text fault.Memory m = m.0
+
 -- a fault that a source told is true
-met_before : (lefts : List (Option (List ℕ))) (failed : List Bool) (olds news : List Putting) (taken before next : List Told) (writer_failed : Bool) (f : RunFault)
-    → AreTaken lefts failed olds news taken → taken ≡ before ++ next → IsMetBefore next writer_failed f → IsTrueDeviceFault lefts failed writer_failed f
-met_before lefts failed olds news taken before next w (fault.Input s) t order m =
+told_true : (lefts : List (Option (List ℕ))) (failed : List Bool) (olds news : List Putting) (taken : List Told) (s : ℕ)
+    → AreTaken lefts failed olds news taken → Contains taken (told s ReadFault)
+    → (s < length lefts) × ((slice_index_or failed s false ≡ true) ⊎ MayBeTooLong (slice_index_or lefts s None))
+told_true lefts failed olds news taken s t there =
     let it : Told = told s ReadFault in
-    let there : Contains taken it =
-    subst (λ (l : List Told). Contains l it) (sym (order ∙ ap (λ (l : List Told). before ++ l) m.2)) (Contains-append_right before (it ∷ m.1) it (here it m.1)) in
     let below = sources_within lefts failed olds news taken it t there in
     let one = taken_at lefts failed olds news taken s t below in
     let own : Contains (of_source s taken) it = Contains-filter (is_of s) taken it there (eq-eqb s s refl) in
-    (below, m.0, told_fault (slice_index_or lefts s None) (slice_index_or failed s false) one.old one.new s one.read (subst (λ (l : List Told). Contains l it) one.put own))
-met_before lefts failed olds news taken before next w (fault.Open opening) t order m = m
-met_before lefts failed olds news taken before next w fault.Output t order m = m
-met_before lefts failed olds news taken before next w fault.Memory t order m = m
+    (below, told_fault (slice_index_or lefts s None) (slice_index_or failed s false) one.old one.new s one.read (subst (λ (l : List Told). Contains l it) one.put own))
 
-met_in_report : (lefts : List (Option (List ℕ))) (failed : List Bool) (writer_failed : Bool) (f : RunFault) → IsFaultOfWriting writer_failed f → IsTrueDeviceFault lefts failed writer_failed f
-met_in_report lefts failed w (fault.Input s) m = absurd m
-met_in_report lefts failed w (fault.Open opening) m = m
-met_in_report lefts failed w fault.Output m = m
-met_in_report lefts failed w fault.Memory m = m
+cut_true : (terms : Terms) (lefts : List (Option (List ℕ))) (failed : List Bool) (olds news : List Putting) (taken met dropped : List Told) (old new : Option (List ℕ)) (writer_failed : Bool) (q : Progress) (f : RunFault)
+    → AreTaken lefts failed olds news taken → taken ≡ met ++ dropped → IsCutOff terms met old new writer_failed q f → IsTrueDeviceFault lefts failed writer_failed f
+cut_true terms lefts failed olds news taken met dropped old new w q f t order cut = by cut.last.what refl cut.met
+  where
+    source : ℕ
+    source = cut.last.source
 
-pub met : (terms : Terms) (lefts : List (Option (List ℕ))) (failed : List Bool) (olds news : List Putting) (taken : List Told) (old new : Option (List ℕ)) (writer_failed : Bool) (f : RunFault)
-    → AreTaken lefts failed olds news taken → IsStopped terms taken old new writer_failed f → IsTrueDeviceFault lefts failed writer_failed f
-met terms lefts failed olds news taken old new writer_failed f t stop =
+    here_last : Contains taken cut.last
+    here_last =
+        subst (λ (l : List Told). Contains l cut.last) (sym (order ∙ ap (λ (l : List Told). l ++ dropped) cut.order))
+        (Contains-append_left (cut.before ++ cut.last ∷ []) dropped cut.last (Contains-append_right cut.before (cut.last ∷ []) cut.last (here cut.last [])))
+
+    by : (what : What) → cut.last.what ≡ what → IsMetAt terms cut.p source what cut.mid new w q f → IsTrueDeviceFault lefts failed w f
+    by (Line number answer) is m = unwritten_true lefts failed cut.mid new w (item_text terms cut.p (sourced source (number, answer))) f m.0
+    by ReadFault is m =
+        let true_fault = told_true lefts failed olds news taken source t (subst (λ (x : What). Contains taken (told source x)) is here_last) in
+        subst (IsTrueDeviceFault lefts failed w) (sym m.0) (true_fault.0, m.1, true_fault.1)
+    by NoMemory is m = subst (IsTrueDeviceFault lefts failed w) (sym m.0) m.1
+    by End is m = absurd m
+
+pub met : (terms : Terms) (lefts : List (Option (List ℕ))) (failed : List Bool) (olds news : List Putting) (taken : List Told) (old new : Option (List ℕ)) (writer_failed : Bool) (q : Progress) (f : RunFault)
+    → AreTaken lefts failed olds news taken → IsStopped terms taken old new writer_failed q f → IsTrueDeviceFault lefts failed writer_failed f
+met terms lefts failed olds news taken old new writer_failed q f t stop =
     ⊎_elim
-    (λ (cut : IsCutOff terms taken old new writer_failed f). met_before lefts failed olds news taken cut.before cut.next writer_failed f t cut.order cut.met)
-    (λ w. met_in_report lefts failed writer_failed f w.met)
+    (λ (cut : (met : List Told) × (dropped : List Told) × (taken ≡ met ++ dropped) × IsCutOff terms met old new writer_failed q f).
+    cut_true terms lefts failed olds news taken cut.0 cut.1 old new writer_failed q f t cut.2 cut.3)
+    (λ (cut : IsCutInReport terms taken old new writer_failed q f). unwritten_true lefts failed cut.mid new writer_failed (report_at terms q) f cut.met)
     stop
 
 -- where no fault was taken, no input has failed

@@ -7,4 +7,6 @@ pub mod Interleaved
 pub mod PlainOutputs
 pub mod Lone
 pub mod Texts
+pub mod SomeText
 pub mod Gathered
+pub mod InRange

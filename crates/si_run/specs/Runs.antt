@@ -1,5 +1,5 @@
 -- What a run does to its devices.
-use Rattle.std.specs.Prelude.{◌≡◌, ◌⊎◌, ℕ, ◌-◌, ◌^◌, ◌<◌, ◌≤◌, ◌++◌, Bool, true, false, List, [], ◌∷◌, length, map, slice_index_or, Option, Some, None, ⊤}
+use Rattle.std.specs.Prelude.{◌≡◌, ◌≢◌, ◌⊎◌, ℕ, ◌-◌, ◌^◌, ◌<◌, ◌≤◌, ◌++◌, Bool, true, false, List, [], ◌∷◌, length, map, slice_index_or, Option, Some, None, ⊤}
 use Rattle.std.specs.Option.{option_map}
 use Rattle.std.specs.Io.KnownBytes.{Appends}
 use Rattle.si_text.specs.Inputs.{items_of}
@@ -37,6 +37,10 @@ WritesOutput terms (Some bytes) old new status =
 -- as far as the writer tells, what was written is a beginning of that text
 abbrev pub AppendsBeginning : Option (List ℕ) → Option (List ℕ) → List ℕ → Type 0
 AppendsBeginning old new text = (part : List ℕ) × (rest : List ℕ) × (text ≡ part ++ rest) × Appends old new part
+
+-- as far as the writer tells, what was written is a beginning of that text, and not the whole
+abbrev pub AppendsPart : Option (List ℕ) → Option (List ℕ) → List ℕ → Type 0
+AppendsPart old new text = (part : List ℕ) × (rest : List ℕ) × (text ≡ part ++ rest) × (rest ≢ []) × Appends old new part
 
 -- where the input's bytes are known, what was written is a beginning of the text of its items, as far as the writer tells
 abbrev pub WritesBeginning : Terms → Option (List ℕ) → Option (List ℕ) → Option (List ℕ) → Type 0
@@ -113,9 +117,16 @@ IsTrueFault options inputs failed writer_failed (fault.Input source) = IsTrueDev
 IsTrueFault options inputs failed writer_failed fault.Output = IsTrueDeviceFault inputs failed writer_failed fault.Output
 IsTrueFault options inputs failed writer_failed fault.Memory = IsTrueDeviceFault inputs failed writer_failed fault.Memory
 
--- a fault of writing: the writer has failed, or else memory was refused
-abbrev pub IsFaultOfWriting : Bool → RunFault → Type 0
-IsFaultOfWriting writer_failed (fault.Input source) = ⊥
-IsFaultOfWriting writer_failed fault.Output = writer_failed ≡ true
-IsFaultOfWriting writer_failed fault.Memory = writer_failed ≡ false
-IsFaultOfWriting writer_failed (fault.Open o) = ⊥
+-- why a text wasn't written whole: the writer failed behind a part of it, or memory was refused before any of it was written
+abbrev pub IsUnwritten : Option (List ℕ) → Option (List ℕ) → Bool → List ℕ → RunFault → Type 0
+IsUnwritten old new writer_failed text (fault.Input source) = ⊥
+IsUnwritten old new writer_failed text fault.Output = (writer_failed ≡ true) × AppendsPart old new text
+IsUnwritten old new writer_failed text fault.Memory = (writer_failed ≡ false) × (new ≡ old)
+IsUnwritten old new writer_failed text (fault.Open o) = ⊥
+
+-- the fault of an opening is told before anything is written
+abbrev pub IsToldFirst : Option (List ℕ) → Option (List ℕ) → RunFault → Type 0
+IsToldFirst old new (fault.Input source) = ⊤
+IsToldFirst old new (fault.Open o) = new ≡ old
+IsToldFirst old new fault.Output = ⊤
+IsToldFirst old new fault.Memory = ⊤

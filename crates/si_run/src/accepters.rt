@@ -1,11 +1,11 @@
 //! The accepter: it takes what the sources put, decides it, and writes what is written for it.
-ghost use Rattle.std.specs.Prelude.{◌≡◌, ◌<◌, ◌-◌, ◌^◌, ◌++◌, [], false, List, IfOk, IfErr, OnOk, OnErr};
+ghost use Rattle.std.specs.Prelude.{◌≡◌, ◌<◌, ◌-◌, ◌^◌, ◌++◌, [], false, List, IfOk, IfErr, OnOk};
 ghost use Rattle.std.specs.Io.KnownBytes.{Appends};
 ghost use Rattle.si_intake.specs.declared.items.Item.{Item as Told};
 ghost use Rattle.si_intake.specs.Ends.{AllEnded};
 ghost use Rattle.si_run.specs.Outputs.{item_text, progress_after, report_at, sourced, start, status_at};
-ghost use Rattle.si_run.specs.Runs.{AppendsBeginning, IsFaultOfWriting};
-ghost use Rattle.si_run.specs.Takings.{IsAccepted, IsCutOff, IsDecided, device};
+ghost use Rattle.si_run.specs.Runs.{IsUnwritten};
+ghost use Rattle.si_run.specs.Takings.{IsAccepted, IsCutOff, IsDecided, IsUndone, device};
 
 use crate::engines::Engine;
 use crate::sessions::Session;
@@ -31,7 +31,7 @@ pub fn accept_all<N: Name, R: Wait, W: ByteSink, G: Gate>(
     requires fresh { engine.old.progress ≡ start }
     requires untaken { accepter.old.taken ≡ [] }
     requires writer { W.failed writer.old ≡ false }
-    ensures { IsAccepted engine.old.terms accepter.old accepter.new (device (W.written writer.old) (W.written writer.new) (W.failed writer.new)) result }
+    ensures { IsAccepted engine.old.terms accepter.old accepter.new (device (W.written writer.old) (W.written writer.new) (W.failed writer.new)) engine.new.progress result }
 {
     let mut text = Vec::new(session.alloc);
     match decide_all(rt, session, &mut text, engine, accepter, writer) {
@@ -43,7 +43,7 @@ pub fn accept_all<N: Name, R: Wait, W: ByteSink, G: Gate>(
     }
 }
 
-/// Decides what the sources put until each has told its end, and writes what is written for it.
+/// Decides what the sources put until each has told its end, and writes what is written for it. The first fault ends it.
 fn decide_all<N: Name, R: Wait, W: ByteSink, G: Gate>(
     rt: &R,
     session: &Session<'_, N, G>,
@@ -60,7 +60,7 @@ fn decide_all<N: Name, R: Wait, W: ByteSink, G: Gate>(
     ensures ended { OnOk result (AllEnded accepter.new) }
     ensures ok { OnOk result (IsDecided engine.old.terms accepter.new.taken (W.written writer.old) (W.written writer.new) engine.new.progress) }
     ensures works { OnOk result (W.failed writer.new ≡ false) }
-    ensures err { IfErr result (IsCutOff engine.old.terms accepter.new.taken (W.written writer.old) (W.written writer.new) (W.failed writer.new)) }
+    ensures err { IfErr result (IsCutOff engine.old.terms accepter.new.taken (W.written writer.old) (W.written writer.new) (W.failed writer.new) engine.new.progress) }
 {
     'items: for _turn in 0..u64::MAX {
         let Some(Item { source, what }) = accepter.take(rt) else {
@@ -82,7 +82,7 @@ fn decide_all<N: Name, R: Wait, W: ByteSink, G: Gate>(
 
 /// Decides an item of this source, and writes what is written for it.
 ///
-/// At a fault a beginning of that was written.
+/// At a fault the item isn't done with: it wasn't decided, or not all of that was written.
 fn decide_line<N: Name, R: Wait, W: ByteSink, G: Gate>(
     rt: &R,
     session: &Session<'_, N, G>,
@@ -98,8 +98,7 @@ fn decide_line<N: Name, R: Wait, W: ByteSink, G: Gate>(
     ensures progress { OnOk result (engine.new.progress ≡ progress_after engine.old.terms engine.old.progress (sourced source item)) }
     ensures ok { OnOk result (Appends (W.written writer.old) (W.written writer.new) (item_text engine.old.terms engine.old.progress (sourced source item))) }
     ensures works { OnOk result (W.failed writer.new ≡ false) }
-    ensures part { OnErr result (AppendsBeginning (W.written writer.old) (W.written writer.new) (item_text engine.old.terms engine.old.progress (sourced source item))) }
-    ensures err { IfErr result (IsFaultOfWriting (W.failed writer.new)) }
+    ensures err { IfErr result (IsUndone engine.old.terms engine.old.progress (sourced source item) (W.written writer.old) (W.written writer.new) (W.failed writer.new) engine.new.progress) }
 {
     let (line, answer) = item;
     let operations = operations_of(&answer);
@@ -148,8 +147,8 @@ fn finish<N: Name, R: Wait, W: ByteSink>(
     ensures written { OnOk result (Appends (W.written writer.old) (W.written writer.new) (report_at engine.old.terms engine.old.progress)) }
     ensures status { IfOk result (λ status. status ≡ status_at engine.old.progress) }
     ensures works { OnOk result (W.failed writer.new ≡ false) }
-    ensures part { OnErr result (AppendsBeginning (W.written writer.old) (W.written writer.new) (report_at engine.old.terms engine.old.progress)) }
-    ensures fault { IfErr result (IsFaultOfWriting (W.failed writer.new)) }
+    ensures err { IfErr result (IsUnwritten (W.written writer.old) (W.written writer.new) (W.failed writer.new) (report_at engine.old.terms engine.old.progress)) }
+    ensures engine { engine.new ≡ engine.old }
 {
     text.clear();
     let verdict = engine.report(rt, checker, text)?;

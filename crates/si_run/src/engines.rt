@@ -2,13 +2,15 @@
 //!
 //! Every number of shards gives the same text: no clause here names it.
 
-ghost use Rattle.std.specs.Prelude.{◌≡◌, ◌+◌, ◌<◌, ◌-◌, ◌^◌, ◌++◌, [], None, ℕ, length, IfOk, OnOk};
+ghost use Rattle.std.specs.Prelude.{◌≡◌, ◌+◌, ◌<◌, ◌-◌, ◌^◌, ◌++◌, [], None, ℕ, length, true, IfOk, OnOk, OnErr, IsSome};
 ghost use Rattle.si_model.specs.Findings.{findings};
 ghost use Rattle.si_model.specs.Journals.{present};
 ghost use Rattle.si_text.specs.Texts.{verdict_of};
 ghost use Rattle.si_words.specs.Seats.{seated};
 ghost use Rattle.si_words.specs.Views.{new_pass};
+ghost use Rattle.si_run.specs.declared.faults.RunFault.TheVariants.{Memory};
 ghost use Rattle.si_run.specs.Runs.{terms_by};
+ghost use Rattle.si_run.specs.Takings.{IsLeftAt};
 ghost use Rattle.si_run.specs.Outputs.{counted, is_due, item_text, journal_after, progress_after, reason_after, refusal_line, report_at, report_due, sourced, start};
 
 use crate::Options;
@@ -79,6 +81,7 @@ impl<N: Name> Engine<N> {
         ensures progress { OnOk result
             (self.new.progress ≡ progress_after self.old.terms self.old.progress (sourced source item)) }
         ensures terms { self.new.terms ≡ self.old.terms }
+        ensures err { OnErr result (IsLeftAt self.old.terms self.old.progress (sourced source item) self.new.progress Memory) }
     {
         let (line, answer) = item;
         let reason = self.accept(rt, checker, answer)?;
@@ -106,7 +109,8 @@ impl<N: Name> Engine<N> {
         line: u64,
         reason: Option<Reason>,
     ) -> Result<(), OutOfMemory>
-        ensures { OnOk result (text.new.items ≡ text.old.items ++ refusal_line source line reason) }
+        ensures ok { OnOk result (text.new.items ≡ text.old.items ++ refusal_line source line reason) }
+        ensures err { OnErr result (IsSome reason) }
     {
         if let Some(reason) = reason {
             print_refusal(self.alloc, text, source, line, &reason)?;
@@ -123,7 +127,7 @@ impl<N: Name> Engine<N> {
     ) -> Result<Option<Reason>, OutOfMemory>
         ensures reason { IfOk result (λ reason. reason ≡ reason_after self.old.terms.limit self.old.progress.journal answer) }
         ensures ok { OnOk result (self.new ≡ record self.old { progress = record self.old.progress { journal = journal_after self.old.terms.limit self.old.progress.journal answer } }) }
-        ensures terms { self.new.terms ≡ self.old.terms }
+        ensures err { OnErr result ((self.new ≡ self.old) × (reason_after self.old.terms.limit self.old.progress.journal answer ≡ None)) }
     {
         match answer {
             Ok(edit) => self.submit(rt, checker, edit),
@@ -140,7 +144,7 @@ impl<N: Name> Engine<N> {
     ) -> Result<Option<Reason>, OutOfMemory>
         ensures reason { IfOk result (λ reason. reason ≡ reason_after self.old.terms.limit self.old.progress.journal (Ok edit)) }
         ensures ok { OnOk result (self.new ≡ record self.old { progress = record self.old.progress { journal = journal_after self.old.terms.limit self.old.progress.journal (Ok edit) } }) }
-        ensures terms { self.new.terms ≡ self.old.terms }
+        ensures err { OnErr result ((self.new ≡ self.old) × (reason_after self.old.terms.limit self.old.progress.journal (Ok edit) ≡ None)) }
     {
         lone_pass_issues_all();
         edits_append();
@@ -159,6 +163,7 @@ impl<N: Name> Engine<N> {
         text: &mut Vec<u8>,
     ) -> Result<(), OutOfMemory>
         ensures text { OnOk result (text.new.items ≡ text.old.items ++ report_due self.old.terms self.old.progress) }
+        ensures err { OnErr result (is_due self.old.terms.every self.old.progress.decided ≡ true) }
         ensures state { self.new ≡ self.old }
     {
         if is_due(self.every, self.decided) {

@@ -5,11 +5,12 @@ ghost use Rattle.si_intake.specs.declared.items.Item.{Item as Told};
 ghost use Rattle.si_intake.specs.Ends.{AllEnded};
 ghost use Rattle.si_words.specs.Seats.{seated};
 ghost use Rattle.si_words.specs.Views.{new_pass};
+ghost use Rattle.si_checker.specs.declared.openings.OpenFault.{OpenFault};
 ghost use Rattle.si_run.specs.declared.faults.RunFault.TheVariants.{Memory};
 ghost use Rattle.si_run.specs.Outputs.{start};
 ghost use Rattle.si_run.specs.Readings.{AreRead};
-ghost use Rattle.si_run.specs.Runs.{BeginsText, IsTrueDeviceFault, IsTrueFault, WritesText, terms_by};
-ghost use Rattle.si_run.specs.Takings.{IsAccepted, IsTried, device};
+ghost use Rattle.si_run.specs.Runs.{BeginsText, IsOutOfRange, IsToldFirst, IsTrueDeviceFault, IsTrueFault, WritesText, terms_by};
+ghost use Rattle.si_run.specs.Takings.{IsAccepted, IsRunThrough, IsTried, device};
 
 use crate::accepters::{accept_all, drop_all};
 use crate::engines::Engine;
@@ -34,7 +35,8 @@ const ROOM: usize = 64;
 /// is that of some interleaving of the items of the inputs, so of one input it is one function of its bytes, whatever the number of
 /// shards and the secret key of the hash maps. After a fault a beginning of it was written.
 ///
-/// There are 1 to 8 inputs. A number of shards or a limit out of its bounds is answered [`RunFault::Open`], before anything is read.
+/// There are 1 to 8 inputs. A number of shards or a limit out of its bounds, and nothing else, is answered [`RunFault::Open`], before
+/// anything is read or written.
 ///
 /// The memory of the checker isn't given back: the program ends after it.
 pub fn run<R: Threads + Wait + Sync, S: ByteSource + Send, W: ByteSink>(
@@ -52,6 +54,8 @@ pub fn run<R: Threads + Wait + Sync, S: ByteSource + Send, W: ByteSink>(
     ensures works { OnOk result (All (λ s. S.failed s ≡ false) inputs.new × (W.failed writer.new ≡ false)) }
     ensures part { OnErr result (BeginsText (terms_by options) (map S.left inputs.old) (W.written writer.old) (W.written writer.new)) }
     ensures fault { IfErr result (IsTrueFault options (map S.left inputs.old) (map S.failed inputs.new) (W.failed writer.new)) }
+    ensures first { IfErr result (IsToldFirst (W.written writer.old) (W.written writer.new)) }
+    ensures range { (o : OpenFault) → IsOutOfRange options o → result ≡ Err (RunFault.Open o) }
 {
     run_gated(rt, alloc, hash, inputs, writer, options, &Open)
 }
@@ -73,6 +77,8 @@ pub fn run_gated<R: Threads + Wait + Sync, S: ByteSource + Send, W: ByteSink, G:
     ensures works { OnOk result (All (λ s. S.failed s ≡ false) inputs.new × (W.failed writer.new ≡ false)) }
     ensures part { OnErr result (BeginsText (terms_by options) (map S.left inputs.old) (W.written writer.old) (W.written writer.new)) }
     ensures fault { IfErr result (IsTrueFault options (map S.left inputs.old) (map S.failed inputs.new) (W.failed writer.new)) }
+    ensures first { IfErr result (IsToldFirst (W.written writer.old) (W.written writer.new)) }
+    ensures range { (o : OpenFault) → IsOutOfRange options o → result ≡ Err (RunFault.Open o) }
 {
     let (parts, mut passes) = open(alloc, hash, options.shards, 1, options.limit)?;
     let Some(pass) = passes.pop() else {
@@ -213,7 +219,7 @@ fn run_threads<
     requires accepter { accepter.old.taken ≡ [] }
     requires writer { W.failed writer.old ≡ false }
     ensures sources { AreRead (map S.left inputs.old) (map S.failed inputs.new) ends.old ends.new }
-    ensures accepted { IsAccepted engine.old.terms accepter.old accepter.new (device (W.written writer.old) (W.written writer.new) (W.failed writer.new)) result }
+    ensures accepted { IsRunThrough engine.old.terms accepter.old accepter.new (device (W.written writer.old) (W.written writer.new) (W.failed writer.new)) engine.new.progress result }
 {
     let mut sources = ||
         requires { IsSync R.row × IsSync N.row × IsSend N.row × IsSync G.row × IsSend S.row
@@ -223,7 +229,7 @@ fn run_threads<
     let mut others = || -> Option<Result<ExitStatus, RunFault>>
         requires { IsSync R.row × IsSync N.row × IsSend N.row × IsSync G.row
             × (engine.now.progress ≡ start) × (accepter.now.taken ≡ []) × (W.failed writer.now ≡ false) }
-        ensures { IsTried engine.entry.now.terms accepter.entry.now accepter.exit.now (device (W.written writer.entry.now) (W.written writer.exit.now) (W.failed writer.exit.now)) result }
+        ensures { IsTried engine.entry.now.terms accepter.entry.now accepter.exit.now (device (W.written writer.entry.now) (W.written writer.exit.now) (W.failed writer.exit.now)) engine.exit.now.progress result }
     { try_to_accept(rt, session, engine, accepter, writer) };
     let ((), tried) = join_mut(rt, &mut sources, &mut others);
     match tried {
@@ -253,7 +259,7 @@ fn try_to_accept<N: Name + Send + Sync, R: Threads + Wait + Sync, W: ByteSink, G
     requires engine { engine.old.progress ≡ start }
     requires accepter { accepter.old.taken ≡ [] }
     requires writer { W.failed writer.old ≡ false }
-    ensures { IsTried engine.old.terms accepter.old accepter.new (device (W.written writer.old) (W.written writer.new) (W.failed writer.new)) result }
+    ensures { IsTried engine.old.terms accepter.old accepter.new (device (W.written writer.old) (W.written writer.new) (W.failed writer.new)) engine.new.progress result }
 {
     if session.have_sources_begun(rt) {
         Some(work_and_accept(rt, session, engine, accepter, writer))
@@ -273,14 +279,14 @@ fn work_and_accept<N: Name + Send + Sync, R: Threads + Wait + Sync, W: ByteSink,
     requires engine { engine.old.progress ≡ start }
     requires accepter { accepter.old.taken ≡ [] }
     requires writer { W.failed writer.old ≡ false }
-    ensures { IsAccepted engine.old.terms accepter.old accepter.new (device (W.written writer.old) (W.written writer.new) (W.failed writer.new)) result }
+    ensures { IsAccepted engine.old.terms accepter.old accepter.new (device (W.written writer.old) (W.written writer.new) (W.failed writer.new)) engine.new.progress result }
 {
     let mut workers = ||
         requires { IsSync R.row × IsSync N.row × IsSend N.row × IsSync G.row }
     { work_all(rt, session) };
     let mut accept = || -> Result<ExitStatus, RunFault>
         requires { (engine.now.progress ≡ start) × (accepter.now.taken ≡ []) × (W.failed writer.now ≡ false) }
-        ensures { IsAccepted engine.entry.now.terms accepter.entry.now accepter.exit.now (device (W.written writer.entry.now) (W.written writer.exit.now) (W.failed writer.exit.now)) result }
+        ensures { IsAccepted engine.entry.now.terms accepter.entry.now accepter.exit.now (device (W.written writer.entry.now) (W.written writer.exit.now) (W.failed writer.exit.now)) engine.exit.now.progress result }
     { accept_and_close(rt, session, engine, accepter, writer) };
     let ((), ended) = join_mut(rt, &mut workers, &mut accept);
     ended
@@ -297,7 +303,7 @@ fn accept_and_close<N: Name, R: Wait, W: ByteSink, G: Gate>(
     requires engine { engine.old.progress ≡ start }
     requires accepter { accepter.old.taken ≡ [] }
     requires writer { W.failed writer.old ≡ false }
-    ensures { IsAccepted engine.old.terms accepter.old accepter.new (device (W.written writer.old) (W.written writer.new) (W.failed writer.new)) result }
+    ensures { IsAccepted engine.old.terms accepter.old accepter.new (device (W.written writer.old) (W.written writer.new) (W.failed writer.new)) engine.new.progress result }
 {
     let ended = accept_all(rt, session, engine, accepter, writer);
     engine.close(rt, session.checker);

@@ -1,5 +1,5 @@
 //! The sources: each is read to its end by a thread of its own, which puts its items for the accepter.
-ghost use Rattle.std.specs.Prelude.{◌≡◌, [], false, All, List, length, map};
+ghost use Rattle.std.specs.Prelude.{◌≡◌, ◌+◌, ◌-◌, ◌^◌, ◌<◌, ◌≤◌, ◌↔◌, [], false, All, IsTrue, List, length, map, min};
 ghost use Rattle.std.specs.Thread.{IsSend, IsSync};
 ghost use Rattle.si_text.specs.Inputs.{Item as LineRead};
 ghost use Rattle.si_text.specs.LineBuffers.{IsFresh};
@@ -25,7 +25,11 @@ struct KeptKeys {
 }
 
 impl KeptKeys {
-    fn new(alloc: Global, hash: RandomState) -> Self {
+    /// No key is known yet, and nothing is accepted.
+    fn new(alloc: Global, hash: RandomState) -> Self
+        ensures keys { result.keys ≡ [] }
+        ensures most { result.most ≡ MOST_KEYS_BEYOND }
+    {
         KeptKeys {
             keys: KnownKeys::new(alloc, hash),
             most: MOST_KEYS_BEYOND,
@@ -33,13 +37,19 @@ impl KeptKeys {
     }
 
     /// Whether they are more than they may become before the accepter's count is looked at.
-    fn are_many(&self) -> bool {
+    fn are_many(&self) -> bool
+        ensures { IsTrue result ↔ (self.now.most < length self.now.keys) }
+    {
         self.keys.len() as u64 > self.most
     }
 
     /// Forgets all keys where they are many more than the operations that were accepted, so that what refused items bring can't fill
     /// the memory: what is known grows with what is kept.
-    fn keep_within(&mut self, accepted: u64) {
+    fn keep_within(&mut self, accepted: u64)
+        ensures most { self.new.most ≡ min (accepted + MOST_KEYS_BEYOND) (2 ^ 64 - 1) }
+        ensures few { length self.new.keys ≤ self.new.most }
+        ensures kept { length self.old.keys ≤ self.new.most → self.new.keys ≡ self.old.keys }
+    {
         self.most = accepted.saturating_add(MOST_KEYS_BEYOND);
         if self.are_many() {
             self.keys.truncate(0);

@@ -1,13 +1,13 @@
 ghost use Rattle.std.specs.Prelude.{◌≡◌, ◌||◌, ◌++◌, List, ℕ, true, is_err, OnOk, OnErr};
 ghost use Rattle.std.specs.Io.KnownBytes.{Appends};
-ghost use Rattle.si_run.specs.Runs.{AppendsBeginning};
+ghost use Rattle.si_run.specs.Runs.{AppendsPart};
 
 use si_text::{ByteSink, DeviceFailed};
 
-/// Writes all of the bytes, or a beginning of them where the writer fails.
+/// Writes all of the bytes, or a beginning of them, and not the whole, where the writer fails.
 pub fn write_all<W: ByteSink>(writer: &mut W, bytes: &[u8]) -> Result<(), DeviceFailed>
     ensures ok { OnOk result (Appends (W.written writer.old) (W.written writer.new) bytes.now) }
-    ensures err { OnErr result (AppendsBeginning (W.written writer.old) (W.written writer.new) bytes.now) }
+    ensures err { OnErr result (AppendsPart (W.written writer.old) (W.written writer.new) bytes.now) }
     ensures failed { W.failed writer.new ≡ (W.failed writer.old || is_err result) }
 {
     let mut rest = bytes;

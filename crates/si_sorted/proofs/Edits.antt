@@ -8,14 +8,14 @@ use Rattle.std.specs.declared.cmp.Ordering.TheVariants.{Less, Equal, Greater}
 use Rattle.si_sorted.specs.Places.{IsGapFor, IsPlaceOf}
 
 module _ {K X : Type 0} (R : K → K → Ordering) (k : K) where
-  gap_tail : (e : K × X) (es : List (K × X)) (i : ℕ) → IsGapFor R (e ∷ es) k (suc i) → IsGapFor R es k i
+  pub gap_tail : (e : K × X) (es : List (K × X)) (i : ℕ) → IsGapFor R (e ∷ es) k (suc i) → IsGapFor R es k i
   gap_tail e es i gap = record {
     in_range = omega (arith, gap.in_range);
     above = λ j d lt. gap.above (suc j) d (omega (arith, lt));
     below = λ j d le hi. gap.below (suc j) d (omega (arith, le)) (omega (arith, hi));
   }
 
-  place_tail : (e : K × X) (es : List (K × X)) (i : ℕ) → IsPlaceOf R (e ∷ es) k (suc i) → IsPlaceOf R es k i
+  pub place_tail : (e : K × X) (es : List (K × X)) (i : ℕ) → IsPlaceOf R (e ∷ es) k (suc i) → IsPlaceOf R es k i
   place_tail e es i place = record {
     in_range = omega (arith, place.in_range);
     above = λ j d lt. place.above (suc j) d (omega (arith, lt));

@@ -6,3 +6,4 @@ pub mod Rising
 pub mod Search
 pub mod Ends
 pub mod Passing
+pub mod Moves

@@ -1,5 +1,5 @@
--- What stands next to a key among entries in the order of their keys, and the entries of a map in either form.
-use Rattle.std.specs.Prelude.{◌≡◌, false, List, Option, Some, None}
+-- What stands under a key and next to it among entries in the order of their keys, and how many others move where an entry comes or goes.
+use Rattle.std.specs.Prelude.{◌≡◌, ℕ, false, cond, List, Option, Some, None, count_by, is_some}
 use Rattle.std.specs.List.{Contains}
 use Rattle.std.specs.BTreeMap.{is_at}
 use Rattle.std.specs.Map.{lookup, update}
@@ -25,3 +25,15 @@ module _ {K X : Type 0} (cmp : K → K → Ordering) where
   abbrev pub IsFirstAbove : List (K × X) → K → Option (K × X) → Type 0
   IsFirstAbove es k None = (x : K × X) → Contains es x → is_lt (cmp k x.0) ≡ false
   IsFirstAbove es k (Some e) = Contains es e × (cmp k e.0 ≡ Less) × ((x : K × X) → Contains es x → cmp k x.0 ≡ Less → is_gt (cmp e.0 x.0) ≡ false)
+
+  -- how many entries stand above the key
+  abbrev pub count_above : List (K × X) → K → ℕ
+  count_above es k = count_by (λ e. is_lt (cmp k e.0)) es
+
+  -- how many move if an entry comes with the key: those above it, or none where an entry has it already
+  abbrev pub moved_by : List (K × X) → K → ℕ
+  moved_by es k = cond (is_some (value_at es k)) 0 (count_above es k)
+
+  -- how many others move if the entry with the key goes: those above it, or none where no entry has it
+  abbrev pub moved_without : List (K × X) → K → ℕ
+  moved_without es k = cond (is_some (value_at es k)) (count_above es k) 0

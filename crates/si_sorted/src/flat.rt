@@ -4,7 +4,7 @@ ghost use Rattle.std.specs.Prelude.{◌≡◌, ◌≤◌, None, IsTrue, MatchRes
 ghost use Rattle.std.specs.BTreeMap.{insert_entry, is_at};
 ghost use Rattle.std.specs.List.Sorted.{IsStrictlySortedBy};
 ghost use Rattle.std.specs.Map.{keys_of, lookup, remove_entry};
-ghost use Rattle.si_sorted.specs.Entries.{IsFirstAbove, IsLastBelow};
+ghost use Rattle.si_sorted.specs.Entries.{IsFirstAbove, IsLastBelow, moved_by, moved_without};
 ghost use Rattle.si_sorted.specs.Places.{IsAboveAllBefore, IsAboveNoneFrom, IsBelowAllFrom, IsBelowNoneBefore, IsGapFor, IsPlaceOf};
 
 use std::alloc::AllocError;
@@ -43,8 +43,10 @@ fn searched<K: Ord + Copy + Drop, V: Copy + Drop>(
 }
 
 /// How many entries would move if one came with the key.
+#[tactic(auto, using(crate::proofs::Moves::moved_at_gap))]
 pub fn moved_by<K: Ord + Copy + Drop, V: Copy + Drop>(entries: &[(K, V)], key: K) -> usize
     requires { IsStrictlySortedBy K.cmp (keys_of entries.now) }
+    ensures { result ≡ moved_by K.cmp entries.now key }
 {
     match place_of(entries, key) {
         Ok(_) => 0,
@@ -53,11 +55,13 @@ pub fn moved_by<K: Ord + Copy + Drop, V: Copy + Drop>(entries: &[(K, V)], key: K
 }
 
 /// How many entries would move if the key's went.
+#[tactic(auto, using(crate::proofs::Moves::moved_at_place))]
 pub fn moved_without<K: Ord + Copy + Drop, V: Copy + Drop>(entries: &[(K, V)], key: K) -> usize
     requires { IsStrictlySortedBy K.cmp (keys_of entries.now) }
+    ensures { result ≡ moved_without K.cmp entries.now key }
 {
     match place_of(entries, key) {
-        Ok(place) => entries.len() - place,
+        Ok(place) => entries.len() - place - 1,
         Err(_) => 0,
     }
 }

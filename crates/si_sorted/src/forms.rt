@@ -1,6 +1,6 @@
 //! The two forms that a map has.
 
-ghost use Rattle.std.specs.Prelude.{◌≡◌, ◌++◌, None, IfOk, IfSome, OnErr, OnOk, length};
+ghost use Rattle.std.specs.Prelude.{◌≡◌, ◌<◌, ◌≤◌, ◌++◌, None, IfNone, IfOk, IfSome, OnErr, OnOk, length};
 ghost use Rattle.std.specs.BTreeMap.{insert_entry, is_at};
 ghost use Rattle.std.specs.BTreeMap.Range.{IsLeBy, IsLtBy, entries_between};
 ghost use Rattle.std.specs.List.{filter};
@@ -8,7 +8,7 @@ ghost use Rattle.std.specs.Range.Bound.{IsForward};
 ghost use Rattle.std.specs.List.Sorted.{IsStrictlySortedBy};
 ghost use Rattle.std.specs.Map.{keys_of, lookup, remove_entry};
 ghost use Rattle.si_sorted.specs.Entries.{IsFirstAbove, IsLastBelow};
-ghost use Rattle.si_sorted.specs.Forms.{entries_in};
+ghost use Rattle.si_sorted.specs.Forms.{MovesAtMost, StaysTree, entries_in, moved_by_one, moved_without_one};
 
 use crate::flat::{
     entry_after, entry_before, insert_in, moved_by, moved_without, remove_from, value_in,
@@ -31,10 +31,14 @@ pub enum Form<K: Ord, V> {
 }
 
 impl<K: Ord + Copy + Drop, V: Copy + Drop> Form<K, V> {
+    /// Where the entries stay side by side, at most `MOST_MOVED` of them move.
+    #[tactic(auto, using(crate::proofs::Moves::few_move))]
     pub fn insert(&mut self, alloc: Global, key: K, value: V) -> Result<(), AllocError>
         requires { IsStrictlySortedBy K.cmp (keys_of (entries_in self.old)) }
         ensures ok { OnOk result (entries_in self.new ≡ insert_entry K.cmp (entries_in self.old) key value) }
         ensures err { OnErr result (entries_in self.new ≡ entries_in self.old) }
+        ensures moved { OnOk result (MovesAtMost MOST_MOVED self.old self.new) }
+        ensures tree { StaysTree self.old self.new }
         ensures rising { IsStrictlySortedBy K.cmp (keys_of (entries_in self.new)) }
     {
         if let Some(tree) = self.grown(alloc, key, value)? {
@@ -53,7 +57,9 @@ impl<K: Ord + Copy + Drop, V: Copy + Drop> Form<K, V> {
     /// The tree that takes the place of a vector in which the entry would move too many others.
     fn grown(&self, alloc: Global, key: K, value: V) -> Result<Option<BTreeMap<K, V>>, AllocError>
         requires { IsStrictlySortedBy K.cmp (keys_of (entries_in self.now)) }
-        ensures { IfOk result (λ grown. IfSome grown (λ tree. tree.entries ≡ insert_entry K.cmp (entries_in self.now) key value)) }
+        ensures entries { IfOk result (λ grown. IfSome grown (λ tree. tree.entries ≡ insert_entry K.cmp (entries_in self.now) key value)) }
+        ensures many { IfOk result (λ grown. IfSome grown (λ _. MOST_MOVED < moved_by_one K.cmp self.now key)) }
+        ensures few { IfOk result (λ grown. IfNone grown (moved_by_one K.cmp self.now key ≤ MOST_MOVED)) }
     {
         match self {
             Form::Flat(entries) if entries.len() > MOST_MOVED => {
@@ -66,14 +72,16 @@ impl<K: Ord + Copy + Drop, V: Copy + Drop> Form<K, V> {
         }
     }
 
+    /// Where memory is refused for the tree that the entries should go into, they stay side by side, and more of them move.
     pub fn remove(&mut self, alloc: Global, key: K) -> Option<V>
         requires { IsStrictlySortedBy K.cmp (keys_of (entries_in self.old)) }
         ensures value { result ≡ lookup (is_at (K.cmp key)) (entries_in self.old) }
         ensures entries { entries_in self.new ≡ remove_entry (is_at (K.cmp key)) (entries_in self.old) }
         ensures gone { lookup (is_at (K.cmp key)) (entries_in self.new) ≡ None }
+        ensures tree { StaysTree self.old self.new }
         ensures rising { IsStrictlySortedBy K.cmp (keys_of (entries_in self.new)) }
     {
-        if let Some(tree) = self.tree_to_remove_from(alloc, key) {
+        if let Ok(Some(tree)) = self.tree_to_remove_from(alloc, key) {
             *self = Form::Tree(tree);
         }
         match self {
@@ -82,20 +90,25 @@ impl<K: Ord + Copy + Drop, V: Copy + Drop> Form<K, V> {
         }
     }
 
-    /// The tree that takes the place of a vector in which too many would move if the key's entry went. Where memory is refused
-    /// for it there is none, and they move.
-    fn tree_to_remove_from(&self, alloc: Global, key: K) -> Option<BTreeMap<K, V>>
+    /// The tree that takes the place of a vector in which too many would move if the key's entry went.
+    fn tree_to_remove_from(
+        &self,
+        alloc: Global,
+        key: K,
+    ) -> Result<Option<BTreeMap<K, V>>, AllocError>
         requires { IsStrictlySortedBy K.cmp (keys_of (entries_in self.now)) }
-        ensures { IfSome result (λ tree. tree.entries ≡ entries_in self.now) }
+        ensures entries { IfOk result (λ made. IfSome made (λ tree. tree.entries ≡ entries_in self.now)) }
+        ensures many { IfOk result (λ made. IfSome made (λ _. MOST_MOVED < moved_without_one K.cmp self.now key)) }
+        ensures few { IfOk result (λ made. IfNone made (moved_without_one K.cmp self.now key ≤ MOST_MOVED)) }
     {
         match self {
             Form::Flat(entries) if entries.len() > MOST_MOVED => {
                 if moved_without(entries.as_slice(), key) <= MOST_MOVED {
-                    return None;
+                    return Ok(None);
                 }
-                tree_of(alloc, entries.as_slice()).ok()
+                Ok(Some(tree_of(alloc, entries.as_slice())?))
             }
-            _ => None,
+            _ => Ok(None),
         }
     }
 

@@ -48,6 +48,7 @@ impl Words {
         ensures rises { (k : ℕ) → k < self.now.shards → slice_index pass.old.view.marks k ≤ slice_index pass.new.view.marks k }
         ensures least { (k : ℕ) → k < self.now.shards → result ≤ slice_index pass.new.view.marks k }
         ensures mark { (k : ℕ) × (k < self.now.shards) × (slice_index pass.new.view.marks k ≡ result) }
+        ensures within { result ≤ MOST_EDITS }
     {
         let shards = self.shards;
         let mut least = self.shard_mark(pass, 0);

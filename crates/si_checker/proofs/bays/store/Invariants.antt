@@ -1,4 +1,4 @@
-use Rattle.std.proofs.Common.{◌≡◌, ◌++◌, false}
+use Rattle.std.proofs.Common.{◌≡◌, ◌++◌, false, true, length}
 use Rattle.si_checker.proofs.bays.store.Given as goal
 
 abbrev pub invariant-loop-edit : goal.invariant-loop-edit
@@ -7,3 +7,4 @@ invariant-loop-edit l =
     × (l.shard.stored ≡ l.fn.shard.stored ++ l.yielded)
     × (l.fn.edits.items ≡ l.yielded ++ l.edit-iterator.rest.items)
     × (l.shard.spoiled ≡ false → l.fn.shard.spoiled ≡ false)
+    × (l.shard.spoiled ≡ true → (length l.yielded ≡ 0) × (l.fn.shard.spoiled ≡ true))

@@ -1,8 +1,12 @@
-use Rattle.std.proofs.Common.{◌≡◌, inl, refl, Bool, false}
-use Rattle.si_cli.proofs.Opened.{all_mapped}
+use Rattle.std.proofs.Common.{map}
+use Rattle.si_run.specs.Takings.{device}
+use Rattle.si_cli.proofs.Opened.{run_told}
 use Rattle.si_cli.proofs.programs.check.Goals as goal
 
-pub returns-in-Ok : goal.returns-in-Ok
-returns-in-Ok g c =
-    let failed = g.I.ByteSource.failed in
-    inl (c.in-Ok.status, c.code.ensures, c.in-Ok.ensures.output, all_mapped failed (λ (f : Bool). f ≡ false) c.run.new.inputs c.in-Ok.ensures.works.0, c.in-Ok.ensures.works.1, refl)
+pub returns : goal.returns
+returns g c =
+    let ran = c.run-ended in
+    run_told g.I.ByteSource.failed ran.new.inputs c.args.options (map g.I.ByteSource.left c.args.sources.now)
+    (device (g.O.ByteSink.written c.args.out.now) (g.O.ByteSink.written ran.new.writer) (g.O.ByteSink.failed ran.new.writer))
+    (device (g.E.ByteSink.written c.args.err.now) (g.E.ByteSink.written c.tell_end.new.err) (g.E.ByteSink.failed c.tell_end.new.err))
+    c.tell_end.result ran.result c.requires.options ran.ensures.output ran.ensures.works ran.ensures.part ran.ensures.fault c.tell_end.ensures

@@ -2,7 +2,7 @@ use Rattle.std.proofs.Common.{rules, ◌≡◌, ◌≤◌, [], ◌∷◌, map, l
 use Rattle.std.specs.Prelude.{slice_index_or}
 use Rattle.si_run.specs.Runs.{terms_by}
 use Rattle.si_run.specs.Takings.{device}
-use Rattle.si_cli.specs.Programs.{EndsCheck, files_with, input_with}
+use Rattle.si_cli.specs.Programs.{EndsCheck, files_of, input_with}
 use Rattle.si_cli.proofs.Opened.{files_named, none_named, one_image}
 use Rattle.si_cli.proofs.programs.check_by.Goals as goal
 
@@ -13,7 +13,7 @@ returns-then-is_empty g c =
     let slice = c.from_mut.result.now in
     let news = c.check.new.sources in
     let input = input_with (left c.args.input.now) (failed (slice_index_or news 0 c.args.input.now)) in
-    let files = files_with (g.F.NamedFiles.bytes c.args.files.now) (g.F.NamedFiles.may_lack c.args.files.now) (λ has_failed. (source : g.row.F-Source.Denot) × (g.F.Source.ByteSource.failed source ≡ has_failed)) in
+    let files = files_of g.F.Source.ByteSource.left g.F.Source.ByteSource.failed (g.F.NamedFiles.bytes c.args.files.now) (g.F.NamedFiles.may_lack c.args.files.now) in
     let out = device (g.O.ByteSink.written c.args.out.now) (g.O.ByteSink.written c.check.new.out) (g.O.ByteSink.failed c.check.new.out) in
     let err = device (g.E.ByteSink.written c.args.err.now) (g.E.ByteSink.written c.check.new.err) (g.E.ByteSink.failed c.check.new.err) in
     let same : length news ≡ length slice = search rules in
@@ -25,7 +25,7 @@ returns-then-is_empty g c =
 pub returns-else-is_empty : goal.returns-else-is_empty
 returns-else-is_empty g c =
     let input = input_with (g.I.ByteSource.left c.args.input.now) (g.I.ByteSource.failed c.args.input.now) in
-    let files = files_with (g.F.NamedFiles.bytes c.args.files.now) (g.F.NamedFiles.may_lack c.args.files.now) (λ has_failed. (source : g.row.F-Source.Denot) × (g.F.Source.ByteSource.failed source ≡ has_failed)) in
+    let files = files_of g.F.Source.ByteSource.left g.F.Source.ByteSource.failed (g.F.NamedFiles.bytes c.args.files.now) (g.F.NamedFiles.may_lack c.args.files.now) in
     let out = device (g.O.ByteSink.written c.args.out.now) (g.O.ByteSink.written c.check_files.new.out) (g.O.ByteSink.failed c.check_files.new.out) in
     let err = device (g.E.ByteSink.written c.args.err.now) (g.E.ByteSink.written c.check_files.new.err) (g.E.ByteSink.failed c.check_files.new.err) in
     let some : 1 ≤ length c.args.names.now = search rules in

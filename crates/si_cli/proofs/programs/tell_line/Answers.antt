@@ -15,4 +15,5 @@ pub returns : goal.returns
 returns g c =
     let asked : IsAskedFor c.args.error.now = search rules in
     let failed : g.O.ByteSink.failed c.write_all.new.writer ≡ true = c.in-Err.ensures.failed ∙ or_true (g.O.ByteSink.failed c.args.out.now) in
-    inl (asked, c.as_bytes-2.result.now, inr (failed, c.in-Err.ensures.err, c.tell_unwritten.ensures))
+    let part = c.in-Err.ensures.err in
+    inl (asked, c.as_bytes-2.result.now, inr (failed, (part.0, part.1, part.2, part.4), c.tell_unwritten.ensures))

@@ -1,3 +1,5 @@
+use Rattle.std.proofs.Common.{ap}
+use Rattle.si_run.specs.Engines.{EngineState}
 use Rattle.si_run.proofs.Beginnings.{dropped, reported}
 use Rattle.si_run.proofs.accepters.accept_all.Goals as goal
 
@@ -5,13 +7,13 @@ pub returns-in-Ok : goal.returns-in-Ok
 returns-in-Ok g c =
     let written = g.W.ByteSink.written in
     reported c.args.engine.now.terms c.decide_all.new.engine.terms c.args.accepter.now c.decide_all.new.accepter
-    (written c.args.writer.now) (written c.decide_all.new.writer) (written c.finish.new.writer) (g.W.ByteSink.failed c.finish.new.writer) c.decide_all.new.engine.progress c.finish.result
-    c.decide_all.ensures.terms c.decide_all.ensures.same c.in-Ok.ensures.ended c.in-Ok.ensures.ok
-    c.finish.ensures.written c.finish.ensures.status c.finish.ensures.works c.finish.ensures.part c.finish.ensures.fault
+    (written c.args.writer.now) (written c.decide_all.new.writer) (written c.finish.new.writer) (g.W.ByteSink.failed c.finish.new.writer) c.decide_all.new.engine.progress c.finish.new.engine.progress
+    c.finish.result c.decide_all.ensures.terms c.decide_all.ensures.same c.in-Ok.ensures.ended c.in-Ok.ensures.ok (ap (λ (e : EngineState). e.progress) c.finish.ensures.engine)
+    c.finish.ensures.written c.finish.ensures.status c.finish.ensures.works c.finish.ensures.err
 
 pub returns : goal.returns
 returns g c =
     let written = g.W.ByteSink.written in
     dropped c.args.engine.now.terms c.args.accepter.now c.decide_all.new.accepter c.drop_all.new.accepter c.drop_all.ensures.taken.0
-    (written c.args.writer.now) (written c.decide_all.new.writer) (g.W.ByteSink.failed c.decide_all.new.writer) c.in-Err.fault
+    (written c.args.writer.now) (written c.decide_all.new.writer) (g.W.ByteSink.failed c.decide_all.new.writer) c.decide_all.new.engine.progress c.in-Err.fault
     c.decide_all.ensures.same c.drop_all.ensures.taken.1 c.drop_all.ensures.ended c.in-Err.ensures.err

@@ -2,14 +2,13 @@ use Rattle.std.proofs.Common.{rules, ◌≡◌, ◌∙◌, ◌++◌, ◌∷◌, 
 use Rattle.std.proofs.lemmas.Result.{err_from_is_err_and}
 use Rattle.si_intake.specs.Ends.{Accepting}
 use Rattle.si_intake.specs.declared.items.Item.{Item as Told}
-use Rattle.si_intake.specs.declared.items.What.TheVariants.{Line, ReadFault, End}
+use Rattle.si_intake.specs.declared.items.What.TheVariants.{Line, ReadFault, NoMemory, End}
 use Rattle.si_run.specs.Outputs.{Terms, Progress, sourced, item_text, progress_after}
 use Rattle.si_run.specs.Readings.{told}
 use Rattle.si_run.specs.Engines.{EngineState}
-use Rattle.si_run.specs.declared.faults.RunFault.TheVariants as fault
-use Rattle.si_run.specs.Takings.{IsCutOff, IsDecided}
+use Rattle.si_run.specs.Takings.{IsDecided, IsUndone}
 use Rattle.std.specs.Io.KnownBytes.{Appends}
-use Rattle.si_run.proofs.Beginnings.{cut_before, cut_in_line, decided_one, end_decided, line_decided, stops_in_line}
+use Rattle.si_run.proofs.Beginnings.{decided_one, end_decided, line_decided}
 use Rattle.si_run.proofs.accepters.decide_all.Goals.{in-Line+in_ok-decide_line-in-Line, in-End}
 use Rattle.si_run.proofs.accepters.decide_all.Goals as goal
 
@@ -24,40 +23,54 @@ returns-in_err-decide_line-in-Line-clause-err g c =
     let at = c.items.invariant in
     let terms : Terms = c.args.engine.now.terms in
     let p = c.items.engine.progress in
-    let before = c.items.accepter.taken in
+    let q = c.decide_line.new.engine.progress in
     let source = c.in-Some.field-0.source in
-    let line = sourced source (c.in-Line.line, c.in-Line.answer) in
-    let item : c.in-Some.field-0 ≡ told source (Line c.in-Line.line c.in-Line.answer) = search rules in
-    let taken = taken_is c.items.accepter c.take.new.self c.in-Some.field-0 c.in-Some.ensures.taken ∙ ap (λ (t : Told). before ++ t ∷ []) item in
-    let text_is : item_text c.items.engine.terms p line ≡ item_text terms p line = ap (λ (t : Terms). item_text t p line) at.terms in
-    let met = c.in_err-decide_line-in-Line.field-0.0 in
+    let number = c.in-Line.line in
+    let answer = c.in-Line.answer in
+    let line = sourced source (number, answer) in
+    let item : c.in-Some.field-0 ≡ told source (Line number answer) = search rules in
+    let fault = c.in_err-decide_line-in-Line.field-0.0 in
+    let undone = subst (λ (t : Terms). IsUndone t p line (written c.items.writer) (written c.decide_line.new.writer) failed q fault) at.terms c.in_err-decide_line-in-Line.ensures.err in
     let f = err_from_is_err_and c.from_residual.result c.from_residual.ensures.1 in
-    rw f.1 (rw f.2 (subst (λ (l : List Told). IsCutOff terms l (written c.args.writer.now) (written c.decide_line.new.writer) failed met) (sym taken)
-    (cut_in_line terms before source c.in-Line.line c.in-Line.answer (written c.args.writer.now) (written c.decide_line.new.writer) failed met at.way.faultless
-    (stops_in_line terms before (written c.args.writer.now) (written c.items.writer) (written c.decide_line.new.writer) p source c.in-Line.line c.in-Line.answer (item_text c.items.engine.terms p line)
-    at.way c.in_err-decide_line-in-Line.ensures.part text_is) c.in_err-decide_line-in-Line.ensures.err)))
+    rw f.1 (rw f.2 (record {
+      before = c.items.accepter.taken;
+      last = told source (Line number answer);
+      order = taken_is c.items.accepter c.take.new.self c.in-Some.field-0 c.in-Some.ensures.taken ∙ ap (λ (t : Told). c.items.accepter.taken ++ t ∷ []) item;
+      mid = written c.items.writer;
+      p = p;
+      decided = at.way;
+      met = undone;
+    }))
 
 pub returns-in-ReadFault-clause-err : goal.returns-in-ReadFault-clause-err
 returns-in-ReadFault-clause-err g c =
-    let written = g.W.ByteSink.written in
-    let failed = g.W.ByteSink.failed c.items.writer in
     let at = c.items.invariant in
-    let terms : Terms = c.args.engine.now.terms in
     let source = c.in-Some.field-0.source in
     let item : c.in-Some.field-0 ≡ told source ReadFault = search rules in
-    let taken = taken_is c.items.accepter c.take.new.self c.in-Some.field-0 c.in-Some.ensures.taken ∙ ap (λ (t : Told). c.items.accepter.taken ++ t ∷ []) item in
-    subst (λ (l : List Told). IsCutOff terms l (written c.args.writer.now) (written c.items.writer) failed (fault.Input source)) (sym taken)
-    (cut_before terms c.items.accepter.taken (told source ReadFault) (written c.args.writer.now) (written c.items.writer) c.items.engine.progress failed (fault.Input source) at.way (at.works, [], refl))
+    record {
+      before = c.items.accepter.taken;
+      last = told source ReadFault;
+      order = taken_is c.items.accepter c.take.new.self c.in-Some.field-0 c.in-Some.ensures.taken ∙ ap (λ (t : Told). c.items.accepter.taken ++ t ∷ []) item;
+      mid = g.W.ByteSink.written c.items.writer;
+      p = c.items.engine.progress;
+      decided = at.way;
+      met = (refl, at.works, refl, refl);
+    }
 
 pub returns-in-NoMemory-clause-err : goal.returns-in-NoMemory-clause-err
 returns-in-NoMemory-clause-err g c =
-    let written = g.W.ByteSink.written in
-    let failed = g.W.ByteSink.failed c.items.writer in
     let at = c.items.invariant in
-    let terms : Terms = c.args.engine.now.terms in
-    let taken = taken_is c.items.accepter c.take.new.self c.in-Some.field-0 c.in-Some.ensures.taken in
-    subst (λ (l : List Told). IsCutOff terms l (written c.args.writer.now) (written c.items.writer) failed fault.Memory) (sym taken)
-    (cut_before terms c.items.accepter.taken c.in-Some.field-0 (written c.args.writer.now) (written c.items.writer) c.items.engine.progress failed fault.Memory at.way at.works)
+    let source = c.in-Some.field-0.source in
+    let item : c.in-Some.field-0 ≡ told source NoMemory = search rules in
+    record {
+      before = c.items.accepter.taken;
+      last = told source NoMemory;
+      order = taken_is c.items.accepter c.take.new.self c.in-Some.field-0 c.in-Some.ensures.taken ∙ ap (λ (t : Told). c.items.accepter.taken ++ t ∷ []) item;
+      mid = g.W.ByteSink.written c.items.writer;
+      p = c.items.engine.progress;
+      decided = at.way;
+      met = (refl, at.works, refl, refl);
+    }
 
 pub items-preserved : goal.items-preserved
 items-preserved g c =

@@ -62,7 +62,7 @@ pub returns-clause-output : goal.returns-clause-output
 returns-clause-output g c =
     let ran = c.run_threads-ended in
     let out = device (g.W.ByteSink.written c.args.writer.now) (g.W.ByteSink.written ran.new.writer) (g.W.ByteSink.failed ran.new.writer) in
-    ran_ok c.args.engine.now.terms c.in_ok-ends.accepter ran.new.accepter out ran.result (map g.S.ByteSource.left c.args.inputs.now) (map g.S.ByteSource.failed ran.new.inputs)
+    ran_ok c.args.engine.now.terms c.in_ok-ends.accepter ran.new.accepter out ran.new.engine.progress ran.result (map g.S.ByteSource.left c.args.inputs.now) (map g.S.ByteSource.failed ran.new.inputs)
     c.as_mut_slice.result.now ran.new.ends (all_taken g c) ran.ensures.accepted
 
 pub returns-clause-works : goal.returns-clause-works
@@ -71,19 +71,19 @@ returns-clause-works g c =
     let out = device (g.W.ByteSink.written c.args.writer.now) (g.W.ByteSink.written ran.new.writer) (g.W.ByteSink.failed ran.new.writer) in
     let inputs : length ran.new.inputs ≡ length c.args.inputs.now = search rules in
     let many = length-map ran.new.inputs g.S.ByteSource.failed ∙ inputs ∙ sym (length-map c.args.inputs.now g.S.ByteSource.left) in
-    ran_works g.S.ByteSource.failed ran.new.inputs c.args.engine.now.terms c.in_ok-ends.accepter ran.new.accepter out ran.result (map g.S.ByteSource.left c.args.inputs.now)
+    ran_works c.args.engine.now.terms c.in_ok-ends.accepter ran.new.accepter out ran.new.engine.progress g.S.ByteSource.failed ran.new.inputs ran.result (map g.S.ByteSource.left c.args.inputs.now)
     c.as_mut_slice.result.now ran.new.ends (all_taken g c) ran.ensures.accepted many
 
 pub returns-clause-part : goal.returns-clause-part
 returns-clause-part g c =
     let ran = c.run_threads-ended in
     let out = device (g.W.ByteSink.written c.args.writer.now) (g.W.ByteSink.written ran.new.writer) (g.W.ByteSink.failed ran.new.writer) in
-    ran_err c.args.engine.now.terms c.in_ok-ends.accepter ran.new.accepter out ran.result (map g.S.ByteSource.left c.args.inputs.now) (map g.S.ByteSource.failed ran.new.inputs)
+    ran_err c.args.engine.now.terms c.in_ok-ends.accepter ran.new.accepter out ran.new.engine.progress ran.result (map g.S.ByteSource.left c.args.inputs.now) (map g.S.ByteSource.failed ran.new.inputs)
     c.as_mut_slice.result.now ran.new.ends (all_taken g c) ran.ensures.accepted
 
 pub returns-clause-fault : goal.returns-clause-fault
 returns-clause-fault g c =
     let ran = c.run_threads-ended in
     let out = device (g.W.ByteSink.written c.args.writer.now) (g.W.ByteSink.written ran.new.writer) (g.W.ByteSink.failed ran.new.writer) in
-    ran_fault c.args.engine.now.terms c.in_ok-ends.accepter ran.new.accepter out ran.result (map g.S.ByteSource.left c.args.inputs.now) (map g.S.ByteSource.failed ran.new.inputs)
+    ran_fault c.args.engine.now.terms c.in_ok-ends.accepter ran.new.accepter out ran.new.engine.progress ran.result (map g.S.ByteSource.left c.args.inputs.now) (map g.S.ByteSource.failed ran.new.inputs)
     c.as_mut_slice.result.now ran.new.ends (all_taken g c) ran.ensures.accepted

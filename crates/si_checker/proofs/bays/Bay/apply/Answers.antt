@@ -25,4 +25,4 @@ invariant_of-self g c =
     let stored = c.store.ensures.stored in
     subst (λ (s : Seated ShardView). IsBay g.N.Name.board c.store.new.shard s) (sym c.publish.ensures)
     (bay_applied g.N.Name.board c.self.inside.shard c.store.new.shard seat edits.items (vec_len edits) stored.0 c.position.result c.self.invariant next (sym edits.ok.0) c.store.ensures.id stored.1 stored.2
-    c.position.ensures)
+    c.position.ensures stored.4)

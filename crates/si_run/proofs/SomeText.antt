@@ -1,0 +1,53 @@
+-- Texts that aren't empty: that of a refused item, and that of a report.
+use Rattle.std.proofs.Common.{◌≡◌, ◌≢◌, ℕ, Bool, true, true≢false, length, List, [], ◌∷◌, ◌++◌, Option, Some, None, refl, sym, ap, ◌∙◌}
+use Rattle.std.specs.Prelude.{IsSome, codes, decimal, if◌then◌else◌}
+use Rattle.std.specs.List.{flat_map}
+use Rattle.si_model.specs.Findings.{findings}
+use Rattle.si_model.specs.Journals.{present}
+use Rattle.si_text.specs.declared.reasons.Reason.{Reason}
+use Rattle.si_text.specs.declared.verdicts.Verdict.{Verdict}
+use Rattle.si_text.specs.Texts.{code_text, finding_lines, line_end, reason_code, reason_text, summary_text, verdict_of, verdict_text}
+use Rattle.si_run.specs.Outputs.{SourcedItem, Terms, Progress, is_due, item_text, progress_after, reason_after, refusal_line, report_at, report_due}
+
+some_before : (xs ys : List ℕ) → xs ≢ [] → xs ++ ys ≢ []
+some_before [] ys some e = some refl
+some_before (x ∷ xs) ys some e = cc
+
+some_behind : (xs ys : List ℕ) → ys ≢ [] → xs ++ ys ≢ []
+some_behind [] ys some e = some e
+some_behind (x ∷ xs) ys some e = cc
+
+-- a line has its end
+ended : line_end ≢ []
+ended e = cc
+
+refused : (source line : ℕ) (reason : Option Reason) → IsSome reason → refusal_line source line reason ≢ []
+refused source line None some = absurd (true≢false (sym some))
+refused source line (Some reason) some =
+    some_behind (codes "refused source=" ++ decimal source ++ codes " line=" ++ decimal line ++ code_text (reason_code reason) ++ codes " reason=" ++ reason_text reason) line_end ended
+
+summed : (transactions findings refusals : ℕ) (v : Verdict) → summary_text transactions findings refusals v ≢ []
+summed transactions found refusals v =
+    some_behind (codes "transactions=" ++ decimal transactions ++ codes " findings=" ++ decimal found ++ codes " refused=" ++ decimal refusals ++ codes " verdict=" ++ verdict_text v) line_end ended
+
+reported : (terms : Terms) (p : Progress) → report_at terms p ≢ []
+unfolding report_at
+reported terms p =
+    let found = findings (present p.journal) in
+    some_behind (flat_map (finding_lines terms.explain) found) (summary_text (length (present p.journal).txns) (length found) p.refused (verdict_of found))
+    (summed (length (present p.journal).txns) (length found) p.refused (verdict_of found))
+
+-- there is a text for an item that is refused
+pub refused_text_is : (terms : Terms) (p : Progress) (item : SourcedItem) → IsSome (reason_after terms.limit p.journal item.1.1) → item_text terms p item ≢ []
+unfolding item_text
+refused_text_is terms p item some =
+    some_before (refusal_line item.0 item.1.0 (reason_after terms.limit p.journal item.1.1)) (report_due terms (progress_after terms p item))
+    (refused item.0 item.1.0 (reason_after terms.limit p.journal item.1.1) some)
+
+-- there is one for an item behind which a report is due
+pub due_text_is : (terms : Terms) (p : Progress) (item : SourcedItem) → is_due terms.every (progress_after terms p item).decided ≡ true → item_text terms p item ≢ []
+unfolding item_text
+due_text_is terms p item due =
+    let q = progress_after terms p item in
+    let is : report_at terms q ≡ report_due terms q = ap (λ (b : Bool). if b then report_at terms q else []) (sym due) in
+    some_behind (refusal_line item.0 item.1.0 (reason_after terms.limit p.journal item.1.1)) (report_due terms q) (λ e. reported terms q (is ∙ e))
