@@ -5,3 +5,4 @@ pub mod Desks
 pub mod Bays
 pub mod Calls
 pub mod Laws
+pub mod Workers

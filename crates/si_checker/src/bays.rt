@@ -70,6 +70,7 @@ impl<N: Name> Bay<N> {
     pub fn position(&self) -> u64
         ensures position { result ≡ self.now.seat.done }
         ensures within { result ≤ length self.now.seat.due }
+        ensures most { result ≤ MOST_EDITS }
     {
         self.shard.position()
     }

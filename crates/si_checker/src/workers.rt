@@ -1,5 +1,6 @@
 //! What workers do: each shard's edits are applied in batches, with the book's lock held for no more than their copies.
 ghost use Rattle.std.specs.Prelude.{◌<◌};
+ghost use Rattle.si_checker.specs.Workers.{EndsWork, TellsPosition};
 
 use crate::checkers::Checker;
 use crate::gates::{Gate, Place};
@@ -36,6 +37,7 @@ impl<N: Name> Checker<N> {
     /// They are copied under the book's lock, and applied and published after it was let go.
     pub fn work_one<R: Wait, G: Gate>(&self, rt: &R, k: usize, gate: &G) -> Worked
         requires { k < N.board.shards }
+        ensures { TellsPosition result }
     {
         let mut book = self.desk.lock(rt);
         let desk = &mut *book;
@@ -80,6 +82,7 @@ impl<N: Name> Checker<N> {
     /// The shard applies what is left for it, until the checker is closed and nothing is left, or something stands in the way.
     pub fn work<R: Wait, G: Gate>(&self, rt: &R, k: usize, gate: &G) -> Worked
         requires { k < N.board.shards }
+        ensures { EndsWork result }
     {
         for _ in rt.forever() {
             match self.work_one(rt, k, gate) {
