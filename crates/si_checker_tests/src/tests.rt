@@ -9,21 +9,16 @@ mod threads;
 mod turns;
 mod words;
 
-use callers::{Alone, Caller, Row, are_same, assert_report, edit, next, play};
+use callers::{
+    Alone, Caller, Row, are_found, are_same, assert_plain, assert_report, edit, next, play,
+};
 use si_checker::gates::Open;
-use si_checker::{AcceptFault, Checker, Gate, Name, Place, Worked};
-use si_model::{Edit, Kind, Number, Refusal, TxnId};
+use si_checker::{AcceptFault, Checker, Gate, Name, Place, Report, Worked};
+use si_model::{Edit, Number, Refusal, TxnId};
 use std::alloc::AllocGlobal;
 use std::process::Abort;
 use std::sync::Wait;
 use std::thread::{Threads, join};
 
-/// The one finding of a transaction 2 that read nothing where it should have seen what transaction 1 wrote.
-fn stale() -> Kind {
-    Kind::Stale {
-        txn: TxnId(2),
-        op: 0,
-        read: None,
-        missed: TxnId(1),
-    }
-}
+/// The one finding of a transaction 2 that read nothing from `x`, where it should have seen what transaction 1 wrote.
+const STALE: &str = "x Stale { txn: TxnId(2), op: 0, read: None, missed: TxnId(1) }";

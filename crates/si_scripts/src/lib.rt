@@ -16,4 +16,7 @@ pub use edits::{edit_of, key, op_of, ops_of, txn_of};
 pub use faults::ScriptFault;
 pub use histories::{History, present};
 pub use lines::{asked, trimmed};
-pub use rows::{SEVERAL_ROWS, TAKEN, are_of_kinds};
+pub use rows::{
+    OVERLAP_AFTER_WITHDRAWAL, RESOLUTION, RowLine, SEVERAL_ROWS, STALE_READ, VALUE_FREE_AGAIN,
+    WorkedRow, found_text, row_line,
+};

@@ -12,8 +12,8 @@ use super::turns::{elsewhere, turns};
 use si_checker::{
     AcceptFault, Checker, Gate, Name, Parts, Pass, Report, ReportFault, ShardReport, Worked, open,
 };
-use si_model::{Edit, Kind, Number, OutOfMemory};
-use si_scripts::{are_of_kinds, edit_of};
+use si_model::{Edit, Finding, Key, Number, OutOfMemory, Txn, Value, findings_of, is_history};
+use si_scripts::{WorkedRow, edit_of, found_text};
 use std::alloc::AllocGlobal;
 use std::fmt::Debug;
 use std::hash::RandomState;
@@ -56,27 +56,27 @@ impl<'a, N: Name> Caller<'a, N> {
     }
 
     /// The settled report is of so many edits, transactions and set-up values, and finds these.
-    pub(super) fn look<R: Wait + Abort>(
+    pub(super) fn look<R: Wait + Abort + AllocGlobal>(
         &mut self,
         rt: &R,
         counts: (u64, usize, usize),
-        kinds: &[Kind],
+        found: &str,
     ) {
         let report = self.settled(rt).expect(rt, "a report");
-        assert_report(rt, &report, counts, kinds);
+        assert_report(rt, &report, counts, found);
     }
 
     /// The shard's report is of so many edits, and finds these.
-    pub(super) fn look_at_shard<R: Wait + Abort>(
+    pub(super) fn look_at_shard<R: Wait + Abort + AllocGlobal>(
         &mut self,
         rt: &R,
         shard: usize,
         position: u64,
-        kinds: &[Kind],
+        found: &str,
     ) {
         let report = self.of_shard(rt, shard).expect(rt, "a report");
         are_same(rt, report.position, position);
-        assert!(rt; are_of_kinds(&report.findings, kinds));
+        are_found(rt, &report.findings, found);
     }
 
     /// Why there is no settled report, if there is none.
@@ -137,14 +137,38 @@ impl<'a, N: Name> Caller<'a, N> {
 ///
 /// A report is a fat value, and a proof looks at it anew in each call, so this is the one place that compares it.
 pub(super) fn assert_report(
-    rt: &impl Abort,
+    rt: &(impl Abort + AllocGlobal),
     report: &Report,
     counts: (u64, usize, usize),
-    kinds: &[Kind],
+    found: &str,
 ) {
     let shown = (report.number, report.present.len(), report.initial.len());
     are_same(rt, shown, counts);
-    assert!(rt; are_of_kinds(&report.findings, kinds));
+    are_found(rt, &report.findings, found);
+}
+
+/// The findings with their keys are these. Where memory is refused their text is made again.
+pub(super) fn are_found(rt: &(impl Abort + AllocGlobal), findings: &[Finding], wanted: &str) {
+    let text = match found_text(rt, findings) {
+        Ok(text) => text,
+        Err(_) => found_text(rt, findings).expect(rt, "memory"),
+    };
+    are_same(rt, text.as_str(), wanted);
+}
+
+/// The findings are those of the plain program.
+pub(super) fn assert_plain<R: Abort + AllocGlobal>(rt: &R, report: &Report) {
+    let plain = plainly_found(rt, &report.present, &report.initial);
+    assert!(rt; report.findings.as_slice() == plain.as_slice());
+}
+
+fn plainly_found<R: Abort + AllocGlobal>(
+    rt: &R,
+    txns: &[Txn],
+    initial: &[(Key, Value)],
+) -> Vec<Finding> {
+    assert!(rt; is_history(txns, initial));
+    findings_of(rt.alloc(), txns, initial).expect(rt, "memory")
 }
 
 /// The two are the same. They are moved here, so that no other proof sees how they are compared and let go.
@@ -167,8 +191,8 @@ pub(super) enum Row {
 #[derive(Clone, Copy)]
 pub(super) enum Alone {
     Turns,
-    ByReport,
-    ByTurns,
+    ByReport(WorkedRow),
+    ByTurns(WorkedRow),
     ManyEdits,
     ManyReads,
 }
@@ -258,8 +282,8 @@ fn play_alone<N: Name, R: Wait + Abort + AllocGlobal + Print>(
     let mut caller = next(rt, &mut callers);
     match row {
         Alone::Turns => turns(rt, &mut caller),
-        Alone::ByReport => by_report(rt, &mut caller),
-        Alone::ByTurns => by_turns(rt, &mut caller),
+        Alone::ByReport(row) => by_report(rt, &mut caller, row),
+        Alone::ByTurns(row) => by_turns(rt, &mut caller, row),
         Alone::ManyEdits => many_edits(rt, &mut caller),
         Alone::ManyReads => many_reads(rt, &mut caller),
     }

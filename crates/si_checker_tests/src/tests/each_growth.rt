@@ -5,36 +5,33 @@
 //! whatever was refused.
 
 use super::*;
-use si_checker::{Report, ReportFault, ShardReport};
-use si_model::Value;
-use si_scripts::{SEVERAL_ROWS, TAKEN};
-
-/// How many edits of these rows are accepted.
-const COUNT: u64 = 15;
-
-const SHARDS: usize = 2;
+use si_checker::{ReportFault, ShardReport};
+use si_scripts::{
+    OVERLAP_AFTER_WITHDRAWAL, RESOLUTION, RowLine, SEVERAL_ROWS, STALE_READ, VALUE_FREE_AGAIN,
+    WorkedRow, row_line,
+};
+use std::random::RandomSource;
 
 fn told(rt: &(impl Abort + Print), what: &str) {
     println!(rt; "refused: {what}").expect(rt, "output");
 }
 
-/// Submits the edit, before which so many were. Where memory is refused nothing was submitted, and it is submitted again. Answers how
-/// many were submitted then.
+/// Submits the edit, before which so many were, and which is refused where there is a reason. Where memory is refused nothing was
+/// submitted, and it is submitted again. Answers how many were submitted then.
 fn submit_in_the_end<N: Name, R: Wait + Abort + AllocGlobal + Print>(
     rt: &R,
     caller: &mut Caller<'_, N>,
-    line: &str,
+    (words, reason): (&str, Option<Refusal>),
     before: u64,
 ) -> u64 {
-    let words = line.strip_prefix("again ").unwrap_or(line);
     let mut answer = caller.submit(rt, edit(rt, words));
     if answer == Err(AcceptFault::OutOfMemory) {
         told(rt, "a submission");
         are_same(rt, caller.issued(), before);
         answer = caller.submit(rt, edit(rt, words));
     }
-    if words.len() < line.len() {
-        assert!(rt; answer == Err(AcceptFault::Refused(TAKEN)));
+    if let Some(refusal) = reason {
+        assert!(rt; answer == Err(AcceptFault::Refused(refusal)));
         return before;
     }
     let after = before.saturating_add(1);
@@ -80,57 +77,49 @@ fn settle_in_the_end<N: Name, R: Wait + Abort + Print>(
     }
 }
 
-/// The settled report is the one that was worked out by hand.
-fn look_at_end<N: Name, R: Wait + Abort + Print>(rt: &R, caller: &mut Caller<'_, N>) {
+/// The settled report is of so many edits, transactions and set-up values, and finds these. Answers how many.
+fn look_in_the_end<N: Name, R: Wait + Abort + AllocGlobal + Print>(
+    rt: &R,
+    caller: &mut Caller<'_, N>,
+    (submitted, row): (u64, WorkedRow),
+) -> usize {
     let report = settle_in_the_end(rt, caller);
-    let kinds = [unknown(), overlap(), stale(), stale_set_up()];
-    assert_report(rt, &report, (COUNT, 9, 1), &kinds);
+    let (transactions, set_up) = row.present;
+    assert_report(rt, &report, (submitted, transactions, set_up), row.found);
+    report.findings.len()
+}
+
+/// What is found on the way.
+fn look_on_the_way<N: Name, R: Wait + Abort + AllocGlobal + Print>(
+    rt: &R,
+    caller: &mut Caller<'_, N>,
+    found: &str,
+) {
+    let report = settle_in_the_end(rt, caller);
+    are_found(rt, &report.findings, found);
     drop(report);
-}
-
-fn unknown() -> Kind {
-    Kind::Unknown {
-        txn: TxnId(3),
-        op: 1,
-        read: Some(Value(7)),
-    }
-}
-
-fn overlap() -> Kind {
-    Kind::Overlap {
-        first: TxnId(7),
-        second: TxnId(9),
-    }
-}
-
-fn stale_set_up() -> Kind {
-    Kind::Stale {
-        txn: TxnId(6),
-        op: 0,
-        read: Some(Value(5)),
-        missed: TxnId(5),
-    }
 }
 
 /// A report applies all that was submitted, and every shard is rebuilt afterwards.
 pub(super) fn by_report<N: Name, R: Wait + Abort + AllocGlobal + Print>(
     rt: &R,
     caller: &mut Caller<'_, N>,
+    row: WorkedRow,
 ) {
     let mut submitted = 0;
-    for line in SEVERAL_ROWS.trim().lines() {
-        submitted = submit_in_the_end(rt, caller, line.trim(), submitted);
+    for line in row.script.trim().lines() {
+        match row_line(line.trim()).expect(rt, "a line of a row") {
+            RowLine::Edit(words, reason) => {
+                submitted = submit_in_the_end(rt, caller, (words, reason), submitted);
+            }
+            RowLine::Found(found) => look_on_the_way(rt, caller, found),
+        }
     }
-    look_at_end(rt, caller);
-    for shard in 0..SHARDS {
+    look_in_the_end(rt, caller, (submitted, row));
+    for shard in 0..caller.checker().shards() {
         rebuild_in_the_end(rt, caller, shard);
     }
-    look_at_end(rt, caller);
-}
-
-#[test]
-fn each_growth_of_a_report_is_refused(rt: HostRuntime) {
-    play(&rt, (SHARDS, 1, 100), Row::Alone(Alone::ByReport));
+    look_in_the_end(rt, caller, (submitted, row));
 }
 
 /// The shard applies what is left for it, turn after turn. Where memory is refused it has applied as much as before, or is
@@ -152,16 +141,20 @@ fn work_in_the_end<N: Name, R: Wait + Abort + Print>(
     panic!(rt; "the shard has to come to an end");
 }
 
-/// The findings of each shard, which are those of the whole together.
-fn look_at_shards<N: Name, R: Wait + Abort + Print>(rt: &R, caller: &mut Caller<'_, N>) {
+/// How much all shards find together, each after so many edits.
+fn look_at_shards<N: Name, R: Wait + Abort + Print>(
+    rt: &R,
+    caller: &mut Caller<'_, N>,
+    submitted: u64,
+) -> usize {
     let mut found = 0;
-    for shard in 0..SHARDS {
+    for shard in 0..caller.checker().shards() {
         let report = of_shard_in_the_end(rt, caller, shard);
-        are_same(rt, report.position, COUNT);
+        are_same(rt, report.position, submitted);
         found = report.findings.len().saturating_add(found);
         drop(report);
     }
-    are_same(rt, found, 4);
+    found
 }
 
 fn of_shard_in_the_end<N: Name, R: Wait + Abort + Print>(
@@ -179,23 +172,68 @@ fn of_shard_in_the_end<N: Name, R: Wait + Abort + Print>(
     }
 }
 
-/// Workers apply each edit by itself.
+/// Workers apply each edit by itself. What they find together is as much as a report finds in the end.
 pub(super) fn by_turns<N: Name, R: Wait + Abort + AllocGlobal + Print>(
     rt: &R,
     caller: &mut Caller<'_, N>,
+    row: WorkedRow,
 ) {
     let mut submitted = 0;
-    for line in SEVERAL_ROWS.trim().lines() {
-        submitted = submit_in_the_end(rt, caller, line.trim(), submitted);
-        for shard in 0..SHARDS {
-            work_in_the_end(rt, caller, shard);
+    for line in row.script.trim().lines() {
+        match row_line(line.trim()).expect(rt, "a line of a row") {
+            RowLine::Edit(words, reason) => {
+                submitted = submit_in_the_end(rt, caller, (words, reason), submitted);
+                work_all_in_the_end(rt, caller);
+            }
+            RowLine::Found(found) => look_on_the_way(rt, caller, found),
         }
     }
-    look_at_shards(rt, caller);
-    look_at_end(rt, caller);
+    let found = look_at_shards(rt, caller, submitted);
+    are_same(rt, look_in_the_end(rt, caller, (submitted, row)), found);
+}
+
+fn work_all_in_the_end<N: Name, R: Wait + Abort + Print>(rt: &R, caller: &mut Caller<'_, N>) {
+    for shard in 0..caller.checker().shards() {
+        work_in_the_end(rt, caller, shard);
+    }
+}
+
+/// The row on so many shards, by reports and by turns.
+fn plays<R: Threads + Wait + Abort + AllocGlobal + RandomSource + Print + Sync>(
+    rt: &R,
+    shards: usize,
+    row: WorkedRow,
+) {
+    play(rt, (shards, 1, 100), Row::Alone(Alone::ByReport(row)));
+    play(rt, (shards, 1, 100), Row::Alone(Alone::ByTurns(row)));
 }
 
 #[test]
-fn each_growth_of_a_turn_is_refused(rt: HostRuntime) {
-    play(&rt, (SHARDS, 1, 100), Row::Alone(Alone::ByTurns));
+fn each_growth_for_several_rows_is_refused(rt: HostRuntime) {
+    plays(&rt, 2, SEVERAL_ROWS);
+}
+
+#[test]
+fn each_growth_for_a_stale_read_is_refused(rt: HostRuntime) {
+    plays(&rt, 2, STALE_READ);
+}
+
+#[test]
+fn each_growth_for_a_stale_read_in_one_shard_is_refused(rt: HostRuntime) {
+    plays(&rt, 1, STALE_READ);
+}
+
+#[test]
+fn each_growth_for_an_overlap_after_a_withdrawal_is_refused(rt: HostRuntime) {
+    plays(&rt, 2, OVERLAP_AFTER_WITHDRAWAL);
+}
+
+#[test]
+fn each_growth_for_a_resolution_is_refused(rt: HostRuntime) {
+    plays(&rt, 2, RESOLUTION);
+}
+
+#[test]
+fn each_growth_for_a_value_that_is_free_again_is_refused(rt: HostRuntime) {
+    plays(&rt, 2, VALUE_FREE_AGAIN);
 }

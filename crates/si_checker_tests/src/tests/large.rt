@@ -23,14 +23,7 @@ fn link(rt: &(impl Abort + AllocGlobal), id: u64) -> Edit {
 }
 
 /// The last transaction missed the first version of its key, which 50 wrote.
-fn missed() -> Kind {
-    Kind::Stale {
-        txn: TxnId(MANY),
-        op: 0,
-        read: None,
-        missed: TxnId(50),
-    }
-}
+const MISSED: &str = "k0 Stale { txn: TxnId(5000), op: 0, read: None, missed: TxnId(50) }";
 
 /// Many edits are applied, and rebuilt.
 pub(super) fn many_edits<N: Name, R: Wait + Abort + AllocGlobal>(
@@ -40,13 +33,13 @@ pub(super) fn many_edits<N: Name, R: Wait + Abort + AllocGlobal>(
     for id in 1..=MANY {
         caller.submits(rt, link(rt, id), id);
     }
-    caller.look(rt, (MANY, 5_000, 0), &[missed()]);
+    caller.look(rt, (MANY, 5_000, 0), MISSED);
     caller.rebuild(rt, 0).expect(rt, "memory");
-    caller.look(rt, (MANY, 5_000, 0), &[missed()]);
+    caller.look(rt, (MANY, 5_000, 0), MISSED);
     caller.submits(rt, edit(rt, "withdraw 5000"), MANY + 1);
     let worked = caller.work_one(rt, 0, &Open);
     are_same(rt, worked, Worked::Applied(MANY + 1));
-    caller.look(rt, (MANY + 1, 4_999, 0), &[]);
+    caller.look(rt, (MANY + 1, 4_999, 0), "");
 }
 
 #[test]
@@ -65,18 +58,16 @@ fn submit_reads<N: Name, R: Wait + Abort + AllocGlobal>(rt: &R, caller: &mut Cal
 }
 
 /// The stale reads, in order.
-fn stale_reads<R: Abort + AllocGlobal>(rt: &R) -> Vec<Kind> {
-    let mut kinds = Vec::new(rt.alloc());
-    for op in 0..4_000usize {
-        let kind = Kind::Stale {
-            txn: TxnId(2),
-            op,
-            read: None,
-            missed: TxnId(1),
-        };
-        kinds.push(kind).expect(rt, "memory");
+fn stale_reads<R: Abort + AllocGlobal>(rt: &R) -> String {
+    let mut text = String::from_str(rt.alloc(), STALE).expect(rt, "memory");
+    for op in 1..4_000u64 {
+        let read = format!(in rt.alloc();
+            " x Stale {{ txn: TxnId(2), op: {op}, read: None, missed: TxnId(1) }}"
+        );
+        let read = read.expect(rt, "memory");
+        text.push_str(read.as_str()).expect(rt, "memory");
     }
-    kinds
+    text
 }
 
 /// Many reads of one key come and go, and so does what they missed.
@@ -87,14 +78,14 @@ pub(super) fn many_reads<N: Name, R: Wait + Abort + AllocGlobal>(
     let stale = stale_reads(rt);
     caller.submits(rt, edit(rt, "arrive 1 1 2 x=1"), 1);
     submit_reads(rt, caller);
-    caller.look(rt, (2, 2, 0), &stale);
-    caller.look_at_shard(rt, 0, 2, &stale);
+    caller.look(rt, (2, 2, 0), stale.as_str());
+    caller.look_at_shard(rt, 0, 2, stale.as_str());
     caller.submits(rt, edit(rt, "withdraw 1"), 3);
-    caller.look(rt, (3, 1, 0), &[]);
+    caller.look(rt, (3, 1, 0), "");
     caller.submits(rt, edit(rt, "arrive 1 1 2 x=1"), 4);
-    caller.look(rt, (4, 2, 0), &stale);
+    caller.look(rt, (4, 2, 0), stale.as_str());
     caller.submits(rt, edit(rt, "withdraw 2"), 5);
-    caller.look(rt, (5, 1, 0), &[]);
+    caller.look(rt, (5, 1, 0), "");
     drop(stale);
 }
 
@@ -115,7 +106,7 @@ pub(super) fn most_of_all<N: Name, R: Wait + Abort + AllocGlobal>(
         caller.submits(rt, numbered(rt, id), id);
     }
     let mut first = next(rt, &mut callers);
-    first.look(rt, (16, 16, 0), &[]);
+    first.look(rt, (16, 16, 0), "");
     for caller in callers.iter_mut() {
         look_at_words(rt, caller);
     }

@@ -2,8 +2,7 @@
 
 use super::threads::work_all;
 use super::*;
-use si_checker::Report;
-use si_model::{Finding, Key, Txn, Value, findings_of, is_history};
+use si_model::{Finding, Txn};
 use si_scripts::Dice;
 use std::sync::atomic::{AtomicU64, Ordering};
 use std::thread;
@@ -226,21 +225,6 @@ fn submit_each<'a, N: Name + Send + Sync, R: Threads + Wait + Abort + AllocGloba
         );
     }
     submitters
-}
-
-/// The findings are those of the plain program.
-fn assert_plain<R: Abort + AllocGlobal>(rt: &R, report: &Report) {
-    let plain = plainly_found(rt, &report.present, &report.initial);
-    assert!(rt; report.findings.as_slice() == plain.as_slice());
-}
-
-fn plainly_found<R: Abort + AllocGlobal>(
-    rt: &R,
-    txns: &[Txn],
-    initial: &[(Key, Value)],
-) -> Vec<Finding> {
-    assert!(rt; is_history(txns, initial));
-    findings_of(rt.alloc(), txns, initial).expect(rt, "memory")
 }
 
 /// Of each thread ids rise.

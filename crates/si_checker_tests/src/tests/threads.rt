@@ -98,8 +98,8 @@ pub(super) fn held_shard<N: Name + Send + Sync, R: Threads + Wait + Abort + Allo
     let mut second = next(rt, &mut callers);
     hold_first_shard(rt, first);
     // The finding is on a key of the first shard, and each shard has applied all.
-    second.look_at_shard(rt, 0, 3, &[stale()]);
-    second.look_at_shard(rt, 1, 3, &[]);
+    second.look_at_shard(rt, 0, 3, STALE);
+    second.look_at_shard(rt, 1, 3, "");
 }
 
 /// Three edits are submitted and worked off while the first shard's worker is held.
@@ -139,18 +139,30 @@ fn submit_three<N: Name, R: Wait + Abort + AllocGlobal>(rt: &R, caller: &mut Cal
 }
 
 /// Looks while the first shard's worker is held, lets it go, reports and closes. Tells whether the checker is closed then.
-fn look_on<N: Name, R: Wait + Abort>(rt: &R, gate: &Holding, mut caller: Caller<'_, N>) -> bool {
+fn look_on<N: Name, R: Wait + Abort + AllocGlobal>(
+    rt: &R,
+    gate: &Holding,
+    mut caller: Caller<'_, N>,
+) -> bool {
     gate.wait_for(&gate.come, 2);
     are_same(rt, caller.shard_mark(rt, 1), 3);
     are_same(rt, caller.shard_mark(rt, 0), 0);
     are_same(rt, caller.watermark(), 0);
     are_same(rt, caller.issued(), 3);
     gate.is_open.store(1, Ordering::SeqCst);
-    caller.look(rt, (3, 3, 0), &[stale()]);
+    look_at_all(rt, &mut caller);
     are_same(rt, caller.watermark(), 3);
     are_same(rt, caller.is_closed(), false);
     caller.close(rt);
     caller.is_closed()
+}
+
+/// All three are reported with the one finding, which is what the plain program finds.
+fn look_at_all<N: Name, R: Wait + Abort + AllocGlobal>(rt: &R, caller: &mut Caller<'_, N>) {
+    let report = caller.settled(rt).expect(rt, "a report");
+    assert_report(rt, &report, (3, 3, 0), STALE);
+    assert_plain(rt, &report);
+    drop(report);
 }
 
 #[test]

@@ -43,13 +43,13 @@ pub(super) fn elsewhere<N: Name + Send + Sync, R: Threads + Wait + Abort + Alloc
     look_from_here(rt, &mut second);
 }
 
-fn look_from_here<N: Name, R: Wait + Abort>(rt: &R, caller: &mut Caller<'_, N>) {
+fn look_from_here<N: Name, R: Wait + Abort + AllocGlobal>(rt: &R, caller: &mut Caller<'_, N>) {
     are_same(rt, caller.issued(), 1);
     let report = caller.settled(rt).expect(rt, "a report");
     are_same(rt, first_id(&report.present), Some(TxnId(1)));
-    assert_report(rt, &report, (1, 1, 0), &[]);
+    assert_report(rt, &report, (1, 1, 0), "");
     caller.rebuild(rt, 0).expect(rt, "memory");
-    caller.look_at_shard(rt, 0, 1, &[]);
+    caller.look_at_shard(rt, 0, 1, "");
 }
 
 fn first_id(txns: &[Txn]) -> Option<TxnId> {

@@ -7,8 +7,8 @@ mod rows;
 
 use super::*;
 use si_core::{Reply, Step, World, WorldFault};
-use si_model::{Finding, Key, Kind, MOST_EDITS, Txn, Value, findings_of, is_history};
-use si_scripts::{are_of_kinds, asked, edit_of};
+use si_model::{Finding, Key, MOST_EDITS, Txn, Value, findings_of, is_history};
+use si_scripts::{asked, edit_of, found_text};
 use si_shard::MOST_SHARDS;
 use std::hash::RandomState;
 use std::random::RandomSource;

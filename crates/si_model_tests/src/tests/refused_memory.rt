@@ -8,8 +8,13 @@
 use super::book_scripts::{accept, present_in, set_up_in};
 use super::*;
 use si_accept::{AcceptFault, Book};
-use si_model::{Edit, Key, MOST_EDITS, Number, Txn, TxnId, Value};
-use si_scripts::{History, edit_of, present};
+use si_model::{
+    Edit, Finding, Key, MOST_EDITS, Number, Refusal, Txn, TxnId, Value, findings_of, is_history,
+};
+use si_scripts::{
+    History, OVERLAP_AFTER_WITHDRAWAL, RESOLUTION, RowLine, STALE_READ, VALUE_FREE_AGAIN,
+    WorkedRow, edit_of, found_text, present, row_line,
+};
 use std::hash::RandomState;
 use std::random::RandomSource;
 
@@ -248,4 +253,109 @@ fn a_set_up_is_accepted_in_the_end(rt: HostRuntime) {
         set_up: (0, 1),
     };
     accept_in_the_end(&rt, case, "setup x=1");
+}
+
+/// What a book shows.
+fn shown_by(rt: &impl Abort, book: &Book) -> History {
+    History {
+        txns: txns_in(rt, book),
+        initial: values_in(rt, book),
+    }
+}
+
+/// The book shows this, and has a journal of that length.
+fn is_shown(rt: &impl Abort, book: &Book, before: &History, journal: u64) {
+    are_same(rt, book.journal().len() as u64, journal);
+    are_same(rt, values_in(rt, book).len(), before.initial.len());
+    assert_found(rt, book, &before.txns);
+}
+
+/// Gives the book an edit of a row, before which it accepted so many, and which is refused where there is a reason. Where memory is
+/// refused, the book has to be as before and is given the edit again. Answers how many it accepted then.
+fn give_in_turn(
+    rt: &(impl Abort + AllocGlobal + Print),
+    book: &mut Book,
+    (words, reason): (&str, Option<Refusal>),
+    accepted: u64,
+) -> u64 {
+    let before = shown_by(rt, book);
+    let mut answer = accept(book, edit(rt, words));
+    if answer == Err(AcceptFault::OutOfMemory) {
+        println!(rt; "refused").expect(rt, "output");
+        is_shown(rt, book, &before, accepted);
+        answer = accept(book, edit(rt, words));
+    }
+    drop(before);
+    if let Some(refusal) = reason {
+        assert!(rt; answer == Err(AcceptFault::Refused(refusal)));
+        return accepted;
+    }
+    let after = accepted.saturating_add(1);
+    are_same(rt, answer, Ok(Number(after)));
+    after
+}
+
+/// What the plain program finds, which is asked again where memory is refused.
+fn plainly_found(rt: &(impl Abort + AllocGlobal), shown: &History) -> Vec<Finding> {
+    assert!(rt; is_history(&shown.txns, &shown.initial));
+    match findings_of(rt.alloc(), &shown.txns, &shown.initial) {
+        Ok(found) => found,
+        Err(_) => findings_of(rt.alloc(), &shown.txns, &shown.initial).expect(rt, "memory"),
+    }
+}
+
+/// The plain program finds these on what the book shows.
+fn are_found(rt: &(impl Abort + AllocGlobal), shown: &History, wanted: &str) {
+    let found = plainly_found(rt, shown);
+    let text = match found_text(rt, &found) {
+        Ok(text) => text,
+        Err(_) => found_text(rt, &found).expect(rt, "memory"),
+    };
+    are_same(rt, text.as_str(), wanted);
+    drop(text);
+    drop(found);
+}
+
+/// Plays the row on the book.
+fn play_on(rt: &(impl Abort + AllocGlobal + Print), book: &mut Book, row: WorkedRow) {
+    let mut accepted = 0;
+    for line in row.script.trim().lines() {
+        match row_line(line.trim()).expect(rt, "a line of a row") {
+            RowLine::Edit(words, reason) => {
+                accepted = give_in_turn(rt, book, (words, reason), accepted);
+            }
+            RowLine::Found(found) => are_found(rt, &shown_by(rt, book), found),
+        }
+    }
+    let shown = shown_by(rt, book);
+    are_same(rt, (shown.txns.len(), shown.initial.len()), row.present);
+    are_found(rt, &shown, row.found);
+    drop(shown);
+}
+
+fn play(rt: &(impl Abort + AllocGlobal + Print + RandomSource), row: WorkedRow) {
+    let hash = RandomState::new(rt).expect(rt, "random bytes");
+    let mut book = Book::new(rt.alloc(), hash, MOST_EDITS);
+    play_on(rt, &mut book, row);
+    drop(book);
+}
+
+#[test]
+fn a_stale_read_is_accepted_in_the_end(rt: HostRuntime) {
+    play(&rt, STALE_READ);
+}
+
+#[test]
+fn an_overlap_after_a_withdrawal_is_accepted_in_the_end(rt: HostRuntime) {
+    play(&rt, OVERLAP_AFTER_WITHDRAWAL);
+}
+
+#[test]
+fn what_is_read_in_doubt_is_accepted_in_the_end(rt: HostRuntime) {
+    play(&rt, RESOLUTION);
+}
+
+#[test]
+fn a_value_is_free_again_in_the_end(rt: HostRuntime) {
+    play(&rt, VALUE_FREE_AGAIN);
 }

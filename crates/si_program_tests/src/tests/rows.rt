@@ -1,7 +1,11 @@
 //! Inputs with the texts that are written for them.
 
-use super::{Host, PLAIN, check, check_text, repeated};
+use super::{Host, check, is_text, repeated};
+use si_cli::ExitStatus;
 use si_cli::ExitStatus::{Clean, Open, Violation};
+use si_model::{findings_of, is_history};
+use si_scripts::present;
+use si_text::print_finding;
 
 #[test]
 fn clean_histories(rt: HostRuntime) {
@@ -125,19 +129,62 @@ fn keys_with_escapes(rt: HostRuntime) {
     check(&rt, None, input, output, Open);
 }
 
-/// A line that is cut short and a blank one, before one that is too long.
-const BEFORE: &str = "{\"do\":\"txn\",\"id\":1,\n  \n";
+/// A line that is cut short and a blank one, one that is too long, and one whose commit stamp is no greater than its start.
+fn faults(rt: &impl Host) -> String {
+    let long = repeated(rt, "a", 1_048_577);
+    format!(in rt.alloc();
+        "{{\"do\":\"txn\",\"id\":1,\n  \n{long}\n{{\"do\":\"txn\",\"id\":1,\"start\":5,\"status\":\"committed\",\"commit\":5,\"ops\":[[\"w\",\"x\",1]]}}\n"
+    ).expect(rt, "memory")
+}
 
-/// A line that is refused, and the last one, which lacks its line feed.
-const BEHIND: &str =
-    "\n{\"do\":\"txn\",\"id\":1,\"start\":5,\"status\":\"committed\",\"commit\":5,\"ops\":[[\"w\",\"x\",1]]}
-{\"do\":\"txn\",\"id\":1,\"start\":0,\"status\":\"committed\",\"commit\":18446744073709551615,\"ops\":[]}";
+/// What is written of them, where they are the first lines.
+const FAULTS_TEXT: &str =
+    "refused source=0 line=1 code=2 reason=not-json\nrefused source=0 line=3 code=1 reason=too-long\nrefused source=0 line=4 code=15 reason=stamp-order\n";
 
+/// The plain program finds this on these transactions.
+fn is_plainly_found(rt: &impl Host, history: &str, text: &str) {
+    let shown = present(rt, history).expect(rt, "a history");
+    assert!(rt; is_history(&shown.txns, &shown.initial));
+    let found = findings_of(rt.alloc(), &shown.txns, &shown.initial).expect(rt, "memory");
+    let mut printed = Vec::new(rt.alloc());
+    for finding in &found {
+        print_finding(rt.alloc(), &mut printed, finding).expect(rt, "memory");
+    }
+    is_text(rt, printed.as_slice(), text);
+}
+
+/// Faulty lines and these are read. What is found, as the plain program finds it on these transactions, stands between the
+/// refusals and the last line.
+fn check_behind_faults(
+    rt: &impl Host,
+    lines: &str,
+    history: &str,
+    (found, last): (&str, &str),
+    status: ExitStatus,
+) {
+    is_plainly_found(rt, history, found);
+    let faults = faults(rt);
+    let input = format!(in rt.alloc(); "{faults}{lines}").expect(rt, "memory");
+    let output = format!(in rt.alloc(); "{FAULTS_TEXT}{found}{last}").expect(rt, "memory");
+    check(rt, None, input.as_str(), output.as_str(), status);
+}
+
+/// The last line lacks its line feed.
 #[test]
 fn faulty_lines(rt: HostRuntime) {
-    let long = repeated(&rt, "a", 1_048_577);
-    let input = format!(in rt.alloc(); "{BEFORE}{long}{BEHIND}").expect(&rt, "memory");
-    let output =
-        "refused source=0 line=1 code=2 reason=not-json\nrefused source=0 line=3 code=1 reason=too-long\nrefused source=0 line=4 code=15 reason=stamp-order\ntransactions=1 findings=0 refused=3 verdict=clean\n";
-    check_text(&rt, 65536, PLAIN, input.as_str(), output, Open);
+    let lines =
+        "{\"do\":\"txn\",\"id\":1,\"start\":0,\"status\":\"committed\",\"commit\":18446744073709551615,\"ops\":[]}";
+    let last = "transactions=1 findings=0 refused=3 verdict=clean\n";
+    check_behind_faults(&rt, lines, "1 0 18446744073709551615", ("", last), Open);
+}
+
+#[test]
+fn findings_behind_faulty_lines(rt: HostRuntime) {
+    let lines =
+        "{\"do\":\"txn\",\"id\":1,\"start\":1,\"status\":\"committed\",\"commit\":2,\"ops\":[[\"w\",\"x\",1]]}\n{\"do\":\"txn\",\"id\":2,\"start\":3,\"status\":\"committed\",\"commit\":4,\"ops\":[[\"r\",\"x\",null],[\"r\",\"y\",7]]}\n";
+    let history = "1 1 2 x=1\n2 3 4 x?null y?7";
+    let found =
+        "stale key=\"x\" txn=2 op=0 read=initial missed=1\nunknown key=\"y\" txn=2 op=1 read=7\n";
+    let last = "transactions=2 findings=2 refused=3 verdict=violation\n";
+    check_behind_faults(&rt, lines, history, (found, last), Violation);
 }

@@ -1,7 +1,7 @@
 //! More edits than a body that gives up beyond some number would stand.
 
 use super::*;
-use si_model::{Number, TxnId, Value};
+use si_model::Number;
 
 /// The edit is accepted, as the one of this number.
 fn accept(rt: &(impl Abort + AllocGlobal), world: &mut World, words: &str, number: u64) {
@@ -29,14 +29,12 @@ fn sets_up(rt: &impl Abort, world: &World, count: usize) {
 }
 
 /// The one finding is the read of a value that nobody wrote.
-fn finds_unknown(rt: &impl Abort, world: &World) {
+fn finds_unknown(rt: &(impl Abort + AllocGlobal), world: &World) {
     let found = found_in(world).expect(rt, "findings");
-    let unknown = Kind::Unknown {
-        txn: TxnId(1),
-        op: 2,
-        read: Some(Value(7)),
-    };
-    assert!(rt; are_of_kinds(&found, &[unknown]));
+    let text = found_text(rt, &found).expect(rt, "memory");
+    let unknown = "k1999 Unknown { txn: TxnId(1), op: 2, read: Some(Value(7)) }";
+    are_same(rt, text.as_str(), unknown);
+    drop(text);
     drop(found);
 }
 

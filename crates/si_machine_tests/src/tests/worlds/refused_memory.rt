@@ -5,10 +5,11 @@
 //! whatever was refused.
 
 use super::*;
-use si_model::{Number, Refusal, TxnId, Value};
-use si_scripts::{SEVERAL_ROWS, TAKEN};
-
-const SHARDS: usize = 2;
+use si_model::{Number, Refusal};
+use si_scripts::{
+    OVERLAP_AFTER_WITHDRAWAL, RESOLUTION, RowLine, SEVERAL_ROWS, STALE_READ, VALUE_FREE_AGAIN,
+    WorkedRow, row_line,
+};
 
 fn told(rt: &(impl Abort + Print), what: &str) {
     println!(rt; "refused: {what}").expect(rt, "output");
@@ -22,18 +23,24 @@ struct Pressed {
 }
 
 impl Pressed {
-    fn new(rt: &(impl Abort + AllocGlobal + RandomSource)) -> Pressed {
+    fn new(rt: &(impl Abort + AllocGlobal + RandomSource), shards: usize) -> Pressed {
+        assert!(rt; 1 <= shards && shards <= MOST_SHARDS);
         let hash = RandomState::new(rt).expect(rt, "random bytes");
-        let world = match World::new(rt.alloc(), hash, SHARDS, 100) {
+        let world = match World::new(rt.alloc(), hash, shards, 100) {
             Ok(world) => world,
-            Err(_) => World::new(rt.alloc(), hash, SHARDS, 100).expect(rt, "memory"),
+            Err(_) => World::new(rt.alloc(), hash, shards, 100).expect(rt, "memory"),
         };
         Pressed { world, accepted: 0 }
     }
 
-    /// Gives the edit. Where memory is refused it was not accepted, and is given again.
-    fn accept(&mut self, rt: &(impl Abort + AllocGlobal + Print), words: &str) {
-        let (words, wanted) = self.foretold(words);
+    /// Gives the edit, which is refused where there is a reason. Where memory is refused it was not accepted, and is given again.
+    fn accept(
+        &mut self,
+        rt: &(impl Abort + AllocGlobal + Print),
+        words: &str,
+        reason: Option<Refusal>,
+    ) {
+        let wanted = self.foretold(reason);
         let mut reply = stepped(&mut self.world, Step::Accept(edit(rt, words)));
         if reply == Reply::NoMemory {
             told(rt, "an acceptance");
@@ -42,19 +49,13 @@ impl Pressed {
         are_same(rt, reply, wanted);
     }
 
-    fn accept_all(&mut self, rt: &(impl Abort + AllocGlobal + Print)) {
-        for words in SEVERAL_ROWS.trim().lines() {
-            self.accept(rt, words.trim());
-        }
-    }
-
-    /// The words of the edit, and the reply that it should have.
-    fn foretold<'a>(&mut self, words: &'a str) -> (&'a str, Reply) {
-        match words.strip_prefix("again ") {
-            Some(words) => (words, Reply::Refused(TAKEN)),
+    /// The reply that an edit should have, against which there is this reason, or none.
+    fn foretold(&mut self, reason: Option<Refusal>) -> Reply {
+        match reason {
+            Some(refusal) => Reply::Refused(refusal),
             None => {
                 self.accepted = self.accepted.saturating_add(1);
-                (words, Reply::Accepted(Number(self.accepted)))
+                Reply::Accepted(Number(self.accepted))
             }
         }
     }
@@ -71,7 +72,12 @@ impl Pressed {
     fn mend(&mut self, rt: &(impl Abort + AllocGlobal + Print), shard: usize) {
         told(rt, "an application");
         let position = self.world.position(shard);
-        are_same(rt, fault_of(&self.world), Some(WorldFault::Spoiled(shard)));
+        let fault = fault_of(&self.world).expect(rt, "a fault");
+        are_same(
+            rt,
+            (fault, fault.code()),
+            (WorldFault::Spoiled(shard), Some(41)),
+        );
         self.answer_while_spoiled(rt, shard);
         self.rebuild(rt, shard);
         are_same(rt, self.world.position(shard), position);
@@ -83,7 +89,7 @@ impl Pressed {
         are_same(rt, many_applied(rt, &mut self.world, shard, 9), spoiled);
         let refused = stepped(&mut self.world, Step::Accept(edit(rt, "withdraw 77")));
         are_same(rt, refused, Reply::Refused(Refusal::NoSuch));
-        self.accept(rt, "arrive 20 40 aborted");
+        self.accept(rt, "arrive 20 40 aborted", None);
     }
 
     /// The shard applies all that is left, so many edits at a time.
@@ -106,15 +112,18 @@ impl Pressed {
         panic!(rt; "the shard has to come to an end");
     }
 
-    /// One step of its own shard at a time. The shard has nothing left where the last edit was refused.
+    /// One step of its own shard at a time. The shard has nothing left where the last edit was refused, and stays where it was where
+    /// memory is refused.
     fn apply_one(&mut self, rt: &(impl Abort + AllocGlobal + Print), shard: usize) {
+        let position = self.world.position(shard);
         match stepped(&mut self.world, Step::Apply(shard)) {
             Reply::NoMemory => {
                 told(rt, "a copy");
+                are_same(rt, self.world.position(shard), position);
                 self.apply_one_again(rt, shard);
             }
             Reply::Spoiled(spoiled) => {
-                are_same(rt, spoiled, shard);
+                are_same(rt, (spoiled, self.world.position(shard)), (shard, position));
                 self.mend(rt, shard);
                 self.apply_one_again(rt, shard);
             }
@@ -165,14 +174,18 @@ impl Pressed {
         }
     }
 
-    /// The settled machine finds what was worked out by hand, and so it does after a rebuild of each shard.
-    fn look(&mut self, rt: &(impl Abort + AllocGlobal + Print)) {
+    /// The settled machine finds these.
+    fn look(&mut self, rt: &(impl Abort + AllocGlobal + Print), found: &str) {
         self.settle(rt);
-        assert_found(rt, &self.findings(rt));
-        for shard in 0..SHARDS {
+        are_found(rt, &self.findings(rt), found);
+    }
+
+    /// The machine, which is settled, finds these after a rebuild of each shard.
+    fn look_after_rebuilds(&mut self, rt: &(impl Abort + AllocGlobal + Print), found: &str) {
+        for shard in 0..self.world.shards() {
             self.rebuild(rt, shard);
         }
-        assert_found(rt, &self.findings(rt));
+        are_found(rt, &self.findings(rt), found);
     }
 }
 
@@ -182,28 +195,13 @@ fn is_rebuilt(rt: &impl Abort, world: &mut World, shard: usize) -> bool {
     world.rebuild(shard).is_ok()
 }
 
-fn stale(txn: u64, read: Option<Value>, missed: u64) -> Kind {
-    Kind::Stale {
-        txn: TxnId(txn),
-        op: 0,
-        read,
-        missed: TxnId(missed),
-    }
-}
-
-/// The findings, in the order of their keys.
-fn assert_found(rt: &impl Abort, found: &[Finding]) {
-    let unknown = Kind::Unknown {
-        txn: TxnId(3),
-        op: 1,
-        read: Some(Value(7)),
+/// The findings with their keys are these. Where memory is refused their text is made again.
+fn are_found(rt: &(impl Abort + AllocGlobal), findings: &[Finding], wanted: &str) {
+    let text = match found_text(rt, findings) {
+        Ok(text) => text,
+        Err(_) => found_text(rt, findings).expect(rt, "memory"),
     };
-    let overlap = Kind::Overlap {
-        first: TxnId(7),
-        second: TxnId(9),
-    };
-    let (first, second) = (stale(2, None, 1), stale(6, Some(Value(5)), 5));
-    assert!(rt; are_of_kinds(found, &[unknown, overlap, first, second]));
+    are_same(rt, text.as_str(), wanted);
 }
 
 /// How the edits come to be accepted and applied, before all is settled.
@@ -215,54 +213,76 @@ enum Way {
     Runs,
 }
 
-/// Accepts the edits that way, and looks at the end.
+/// Plays the row that way on a machine of so many shards, and looks at the end.
 ///
 /// A machine is a fat value, and a proof that owns one looks at it anew in each call, so this is the one place that does.
-fn play(rt: &(impl Abort + AllocGlobal + RandomSource + Print), way: Way) {
-    let mut pressed = Pressed::new(rt);
-    play_on(rt, &mut pressed, way);
+fn play(
+    rt: &(impl Abort + AllocGlobal + RandomSource + Print),
+    shards: usize,
+    row: WorkedRow,
+    way: Way,
+) {
+    let mut pressed = Pressed::new(rt, shards);
+    play_on(rt, &mut pressed, row, way);
     drop(pressed);
 }
 
-fn play_on(rt: &(impl Abort + AllocGlobal + Print), pressed: &mut Pressed, way: Way) {
-    match way {
-        Way::Steps => step_all(rt, pressed),
-        Way::Together => apply_together(rt, pressed),
-        Way::Settled => pressed.accept_all(rt),
-        Way::Runs => run_all(rt, pressed),
-    }
-    pressed.look(rt);
-}
-
-fn step_all(rt: &(impl Abort + AllocGlobal + Print), pressed: &mut Pressed) {
-    for words in SEVERAL_ROWS.trim().lines() {
-        pressed.accept(rt, words.trim());
-        for shard in 0..SHARDS {
-            pressed.apply_one(rt, shard);
+fn play_on(
+    rt: &(impl Abort + AllocGlobal + Print),
+    pressed: &mut Pressed,
+    row: WorkedRow,
+    way: Way,
+) {
+    for line in row.script.trim().lines() {
+        match row_line(line.trim()).expect(rt, "a line of a row") {
+            RowLine::Edit(words, reason) => give(rt, pressed, way, (words, reason)),
+            RowLine::Found(found) => look_on_the_way(rt, pressed, way, found),
         }
     }
+    look_on_the_way(rt, pressed, way, row.found);
+    pressed.look_after_rebuilds(rt, row.found);
 }
 
-#[test]
-fn steps_are_made_in_the_end(rt: HostRuntime) {
-    play(&rt, Way::Steps);
-}
-
-fn apply_together(rt: &(impl Abort + AllocGlobal + Print), pressed: &mut Pressed) {
-    pressed.accept_all(rt);
-    for shard in 0..SHARDS {
-        pressed.apply(rt, shard, 4);
+/// Gives an edit, which is refused where there is a reason.
+fn give(
+    rt: &(impl Abort + AllocGlobal + Print),
+    pressed: &mut Pressed,
+    way: Way,
+    (words, reason): (&str, Option<Refusal>),
+) {
+    match way {
+        Way::Steps => step_in_the_end(rt, pressed, words, reason),
+        Way::Together | Way::Settled => pressed.accept(rt, words, reason),
+        Way::Runs => run_in_the_end(rt, pressed, words, reason),
     }
 }
 
-#[test]
-fn many_edits_are_applied_in_the_end(rt: HostRuntime) {
-    play(&rt, Way::Together);
+/// These are found, after shards have applied many edits at once where that is the way.
+fn look_on_the_way(
+    rt: &(impl Abort + AllocGlobal + Print),
+    pressed: &mut Pressed,
+    way: Way,
+    found: &str,
+) {
+    if let Way::Together = way {
+        for shard in 0..pressed.world.shards() {
+            pressed.apply(rt, shard, 4);
+        }
+    }
+    pressed.look(rt, found);
 }
 
-#[test]
-fn a_machine_is_settled_in_the_end(rt: HostRuntime) {
-    play(&rt, Way::Settled);
+/// Each shard applies the edit by a step of its own.
+fn step_in_the_end(
+    rt: &(impl Abort + AllocGlobal + Print),
+    pressed: &mut Pressed,
+    words: &str,
+    reason: Option<Refusal>,
+) {
+    pressed.accept(rt, words, reason);
+    for shard in 0..pressed.world.shards() {
+        pressed.apply_one(rt, shard);
+    }
 }
 
 /// The replies to these steps, if there is memory for them.
@@ -286,8 +306,13 @@ fn told_by_run(rt: &(impl Abort + AllocGlobal), world: &mut World, words: &str) 
 }
 
 /// Accepts the edit by a run of one step, which is made again where memory is refused.
-fn run_in_the_end(rt: &(impl Abort + AllocGlobal + Print), pressed: &mut Pressed, words: &str) {
-    let (words, wanted) = pressed.foretold(words);
+fn run_in_the_end(
+    rt: &(impl Abort + AllocGlobal + Print),
+    pressed: &mut Pressed,
+    words: &str,
+    reason: Option<Refusal>,
+) {
+    let wanted = pressed.foretold(reason);
     let mut reply = told_by_run(rt, &mut pressed.world, words);
     if reply.is_none() || reply == Some(Reply::NoMemory) {
         told(rt, "a run");
@@ -296,13 +321,54 @@ fn run_in_the_end(rt: &(impl Abort + AllocGlobal + Print), pressed: &mut Pressed
     are_same(rt, reply, Some(wanted));
 }
 
-fn run_all(rt: &(impl Abort + AllocGlobal + Print), pressed: &mut Pressed) {
-    for words in SEVERAL_ROWS.trim().lines() {
-        run_in_the_end(rt, pressed, words.trim());
-    }
+#[test]
+fn steps_are_made_in_the_end(rt: HostRuntime) {
+    play(&rt, 2, SEVERAL_ROWS, Way::Steps);
+}
+
+#[test]
+fn many_edits_are_applied_in_the_end(rt: HostRuntime) {
+    play(&rt, 2, SEVERAL_ROWS, Way::Together);
+}
+
+#[test]
+fn a_machine_is_settled_in_the_end(rt: HostRuntime) {
+    play(&rt, 2, SEVERAL_ROWS, Way::Settled);
 }
 
 #[test]
 fn runs_are_made_in_the_end(rt: HostRuntime) {
-    play(&rt, Way::Runs);
+    play(&rt, 2, SEVERAL_ROWS, Way::Runs);
+}
+
+/// The row each way.
+fn plays(rt: &(impl Abort + AllocGlobal + RandomSource + Print), shards: usize, row: WorkedRow) {
+    for way in [Way::Steps, Way::Together, Way::Settled, Way::Runs] {
+        play(rt, shards, row, way);
+    }
+}
+
+#[test]
+fn a_stale_read_is_found_in_the_end(rt: HostRuntime) {
+    plays(&rt, 2, STALE_READ);
+}
+
+#[test]
+fn a_stale_read_is_found_in_one_shard_in_the_end(rt: HostRuntime) {
+    plays(&rt, 1, STALE_READ);
+}
+
+#[test]
+fn an_overlap_after_a_withdrawal_is_found_in_the_end(rt: HostRuntime) {
+    plays(&rt, 2, OVERLAP_AFTER_WITHDRAWAL);
+}
+
+#[test]
+fn what_a_resolution_makes_is_found_in_the_end(rt: HostRuntime) {
+    plays(&rt, 2, RESOLUTION);
+}
+
+#[test]
+fn a_value_is_free_again_in_the_end(rt: HostRuntime) {
+    plays(&rt, 2, VALUE_FREE_AGAIN);
 }

@@ -34,18 +34,9 @@ fn many_text(rt: &(impl Abort + AllocGlobal), world: &mut World, words: &str) ->
 /// What is found, or why that isn't had.
 fn findings_text(rt: &(impl Abort + AllocGlobal), world: &World) -> String {
     match found_in(world) {
-        Ok(found) => text_of(rt, &found),
+        Ok(found) => found_text(rt, &found).expect(rt, "memory"),
         Err(fault) => shown_as(rt, fault),
     }
-}
-
-fn text_of(rt: &(impl Abort + AllocGlobal), found: &[Finding]) -> String {
-    let mut text = String::new(rt.alloc());
-    for finding in found {
-        let kind = shown_as(rt, finding.kind);
-        write!(text, "{} {kind} ", finding.key).expect(rt, "memory");
-    }
-    text
 }
 
 /// The ids of what is present, in order.

@@ -1,9 +1,9 @@
 //! Reads and writes that fail at each place.
 
 use super::{
-    DOUBT, Host, PLAIN, RESOLUTION, RESOLVED, RunEnd, UNRESOLVED, are_same, secret_key, source_of,
+    DOUBT, Host, PLAIN, RESOLUTION, RunEnd, are_same, is_resolved_or_not, secret_key, source_of,
 };
-use si_run::{ExitStatus, RunFault, run};
+use si_run::{RunFault, run};
 use si_text::memory::{FailingSink, FailingSource, MemorySink, MemorySource};
 use std::slice;
 
@@ -54,19 +54,22 @@ fn ended_reading(rt: &impl Host, reads: usize) -> RunEnd {
     RunEnd { status, out }
 }
 
-/// The run could not read the second source, and wrote the beginning of one of two texts.
-fn cannot_read(rt: &impl Host, ended: &RunEnd) {
+/// What is written of the resolution where it is decided before the transaction.
+const TOO_EARLY: &[u8] = b"refused source=1 line=1 code=13 reason=no-such\n";
+
+/// The run could not read the second source. It wrote nothing but that the resolution was refused, if it had read all of that.
+fn cannot_read(rt: &impl Host, ended: &RunEnd, is_whole: bool) {
     are_same(rt, ended.status, Err(RunFault::Input(1)));
     let text = ended.out.as_slice();
-    assert!(rt; RESOLVED.as_bytes().starts_with(text) || UNRESOLVED.as_bytes().starts_with(text));
+    assert!(rt; text.is_empty() || (is_whole && text == TOO_EARLY));
 }
 
-/// One read finds the end.
+/// Each read gives a byte, and the one behind them finds the end. The line is whole once its line feed is read.
 #[test]
 fn each_read_of_the_second_source_fails(rt: HostRuntime) {
-    for reads in 0..RESOLUTION.len() {
-        cannot_read(&rt, &ended_reading(&rt, reads));
+    let bytes = RESOLUTION.len();
+    for reads in 0..=bytes {
+        cannot_read(&rt, &ended_reading(&rt, reads), reads == bytes);
     }
-    let status = ended_reading(&rt, 1_000).status;
-    assert!(rt; status == Ok(ExitStatus::Clean) || status == Ok(ExitStatus::Open));
+    is_resolved_or_not(&rt, &ended_reading(&rt, bytes.saturating_add(1)));
 }
