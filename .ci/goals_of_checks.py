@@ -75,9 +75,9 @@ def kind_of(goal):
         return "invariant"
     if re.match(r"(overflow_\w+|nonzero_\w+|bounds|slice_bounds|offset_bounds)-", goal):
         return "safe"
-    if re.search(r"-(init|preserved)(-clause-\w+)?(-\d+)?$", goal) or goal in ("init", "preserved"):
+    if re.search(r"(^|-)(init|preserved)(-|$)", goal):
         return "loop"
-    return "ends" if re.search(r"-smaller(-\d+)?$", goal) else None
+    return "ends" if re.search(r"-smaller(-|$)", goal) else None
 
 
 def clause_of(goal):
