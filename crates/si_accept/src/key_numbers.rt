@@ -4,6 +4,7 @@ ghost use Rattle.std.specs.Prelude.{◌≡◌, [], Some, IfOk, OnOk, OnErr};
 ghost use Rattle.si_accept.specs.KeyNumbers.{number_of, with_key};
 
 use indexmap::IndexSet;
+use si_hashing::KeyHash;
 use si_model::{Key, OutOfMemory};
 use std::alloc::Global;
 use std::hash::RandomState;
@@ -12,7 +13,7 @@ use std::marker::Model;
 /// Keys with numbers in the order in which they were first seen, from 0. A key keeps its number.
 #[derive(Drop)]
 pub struct KeyNumbers {
-    keys: IndexSet<Key, RandomState>,
+    keys: IndexSet<Key, KeyHash>,
 }
 
 impl Model for KeyNumbers {
@@ -28,7 +29,7 @@ impl KeyNumbers {
         ensures { result ≡ [] }
     {
         KeyNumbers {
-            keys: IndexSet::with_hasher(alloc, hash),
+            keys: IndexSet::with_hasher(alloc, KeyHash::new(hash)),
         }
     }
 

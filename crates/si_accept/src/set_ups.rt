@@ -4,6 +4,7 @@ ghost use Rattle.std.specs.Prelude.{◌≡◌, [], ◌∷◌, ◌++◌, None, On
 ghost use Rattle.si_model.specs.Parts.{set_up_value};
 
 use indexmap::IndexMap;
+use si_hashing::KeyHash;
 use si_model::{Key, OutOfMemory, Value};
 use std::alloc::Global;
 use std::hash::RandomState;
@@ -13,7 +14,7 @@ use std::marker::Model;
 #[derive(Drop)]
 pub struct SetUps {
     alloc: Global,
-    values: IndexMap<Key, Value, RandomState>,
+    values: IndexMap<Key, Value, KeyHash>,
 }
 
 impl Model for SetUps {
@@ -30,7 +31,7 @@ impl SetUps {
     {
         SetUps {
             alloc,
-            values: IndexMap::with_hasher(alloc, hash),
+            values: IndexMap::with_hasher(alloc, KeyHash::new(hash)),
         }
     }
 
