@@ -181,6 +181,32 @@ impl<J: Judge + Drop> KeyFindings<J> {
         Ok(found)
     }
 
+    /// Reads how many entries each index has, so that a processor has this near. The number means nothing.
+    pub fn heads(&self) -> u64 {
+        let indexed = self.indexes.timeline.len()
+            ^ self.indexes.writes.len()
+            ^ self.indexes.readers.len();
+        let judged = self.judgements.reads.len() ^ self.judgements.overlaps.len();
+        (indexed ^ judged) as u64
+    }
+
+    /// Reads the last entry of each index, so that a processor has it near: most edits come behind it. The number means nothing.
+    pub fn ends(&self) -> u64 {
+        let version = match self.indexes.timeline.last() {
+            Some((commit, _)) => commit.0,
+            None => 0,
+        };
+        let write = match self.indexes.writes.last() {
+            Some((value, _)) => value.0,
+            None => 0,
+        };
+        let reader = match self.indexes.readers.last() {
+            Some((reader, _)) => reader.start.0,
+            None => 0,
+        };
+        version ^ write ^ reader
+    }
+
     /// How many answers the judge has given, in this time and before it.
     pub fn judged(&self) -> u64
         ensures { result ≡ self.now.judged }

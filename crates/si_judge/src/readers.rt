@@ -1,6 +1,6 @@
 //! The reads of a key's committed transactions, found by what they returned.
 
-ghost use Rattle.std.specs.Prelude.{◌≡◌, ◌↔◌, ◌++◌, None, IsTrue, OnOk, Some};
+ghost use Rattle.std.specs.Prelude.{◌≡◌, ◌↔◌, ◌++◌, ◌-◌, None, IsTrue, OnOk, Some, length, slice_get};
 ghost use Rattle.std.specs.Ordering.{eq_by_cmp};
 ghost use Rattle.si_judge.specs.Maps.{AreInserted, AreTakenOut};
 ghost use Rattle.si_judge.specs.Readers.{AreInOrder, SetsOwn, beyond, is_later, is_reader_of, least_reader, own_at, reader_cmp, readers_among};
@@ -64,6 +64,20 @@ impl Readers {
         ensures { IsTrue result ↔ (self.now ≡ []) }
     {
         self.all.is_empty()
+    }
+
+    /// How many there are.
+    pub fn len(&self) -> usize
+        ensures { result ≡ length self.now }
+    {
+        self.all.len()
+    }
+
+    /// The last one, in their order, with its transaction's own value.
+    pub fn last(&self) -> Option<(Reader, Option<Value>)>
+        ensures { result ≡ slice_get self.now (length self.now - 1) }
+    {
+        self.all.last()
     }
 
     /// Puts the reads in.

@@ -9,6 +9,9 @@ ghost use Rattle.si_sorted.specs.Places.{IsAboveAllBefore, IsAboveNoneFrom, IsBe
 
 use std::alloc::AllocError;
 
+/// For so many entries there is room where there is any.
+const LEAST_ROOM: usize = 4;
+
 /// Where the key is, or where it would go.
 pub fn place_of<K: Ord + Copy + Drop, V: Copy + Drop>(
     entries: &[(K, V)],
@@ -77,6 +80,7 @@ pub fn insert_in<K: Ord + Copy + Drop, V: Copy + Drop>(
     ensures err { OnErr result (entries.new.items ≡ entries.old.items) }
     ensures rising { IsStrictlySortedBy K.cmp (keys_of entries.new.items) }
 {
+    make_room(entries)?;
     let place = place_of(entries.as_slice(), key);
     put_at(entries, place, key, value)
 }
@@ -101,6 +105,20 @@ fn put_at<K: Ord + Copy + Drop, V: Copy + Drop>(
         }
         Err(place) => Ok(entries.insert(place, (key, value))?),
     }
+}
+
+/// Makes room for one more entry where there is none, and then for a quarter as many as there are: maps stand in great numbers, so what
+/// they have room for counts.
+fn make_room<K: Ord + Copy + Drop, V: Copy + Drop>(
+    entries: &mut Vec<(K, V)>,
+) -> Result<(), AllocError>
+    ensures { entries.new.items ≡ entries.old.items }
+{
+    let count = entries.len();
+    if count < entries.capacity() {
+        return Ok(());
+    }
+    entries.reserve_exact(count / 4 + LEAST_ROOM)
 }
 
 /// Takes the value out that stands under the key, if one does.

@@ -1,6 +1,6 @@
 //! The two forms that a map has.
 
-ghost use Rattle.std.specs.Prelude.{◌≡◌, ◌<◌, ◌≤◌, ◌++◌, None, IfNone, IfOk, IfSome, OnErr, OnOk, length};
+ghost use Rattle.std.specs.Prelude.{◌≡◌, ◌<◌, ◌≤◌, ◌++◌, ◌-◌, None, IfNone, IfOk, IfSome, OnErr, OnOk, length, slice_get};
 ghost use Rattle.std.specs.BTreeMap.{insert_entry, is_at};
 ghost use Rattle.std.specs.BTreeMap.Range.{IsLeBy, IsLtBy, entries_between};
 ghost use Rattle.std.specs.List.{filter};
@@ -159,6 +159,21 @@ impl<K: Ord + Copy + Drop, V: Copy + Drop> Form<K, V> {
         match self {
             Form::Flat(entries) => add_from(entries.as_slice(), low, high, test, out),
             Form::Tree(tree) => add_from_tree(tree, low, high, test, out),
+        }
+    }
+
+    pub fn last(&self) -> Option<(K, V)>
+        ensures { result ≡ slice_get (entries_in self.now) (length (entries_in self.now) - 1) }
+    {
+        match self {
+            Form::Flat(entries) => match entries.last() {
+                Some(entry) => Some(*entry),
+                None => None,
+            },
+            Form::Tree(tree) => match tree.last_key_value() {
+                Some((key, value)) => Some((*key, *value)),
+                None => None,
+            },
         }
     }
 

@@ -1,6 +1,6 @@
 //! A map in the order of its keys.
 
-ghost use Rattle.std.specs.Prelude.{◌≡◌, ◌++◌, [], None, Some, IsTrue, OnErr, OnOk, ◌↔◌, length};
+ghost use Rattle.std.specs.Prelude.{◌≡◌, ◌++◌, ◌-◌, [], None, Some, IsTrue, OnErr, OnOk, ◌↔◌, length, slice_get};
 ghost use Rattle.std.specs.BTreeMap.{insert_entry, is_at};
 ghost use Rattle.std.specs.BTreeMap.Range.{IsLeBy, IsLtBy, entries_between};
 ghost use Rattle.std.specs.List.{filter};
@@ -111,6 +111,13 @@ impl<K: Ord + Copy + Drop, V: Copy + Drop> SortedMap<K, V> {
     {
         self.form.add_between(low, high, test, out)?;
         Ok(())
+    }
+
+    /// The entry with the greatest key.
+    pub fn last(&self) -> Option<(K, V)>
+        ensures { result ≡ slice_get self.now (length self.now - 1) }
+    {
+        self.form.last()
     }
 
     /// How many entries there are.

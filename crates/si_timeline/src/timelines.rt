@@ -1,4 +1,4 @@
-ghost use Rattle.std.specs.Prelude.{◌≡◌, ◌==◌, [], length, OnOk, OnErr};
+ghost use Rattle.std.specs.Prelude.{◌≡◌, ◌==◌, ◌-◌, [], length, slice_get, OnOk, OnErr};
 ghost use Rattle.si_timeline.specs.Timelines.{Adds, Has, IsNearestAfter, IsNearestBefore, IsRising, Lacks};
 
 use crate::Version;
@@ -75,6 +75,13 @@ impl Timeline {
         ensures rising { IsRising self.now }
     {
         self.versions.above(stamp)
+    }
+
+    /// The version that was installed last, with its commit stamp.
+    pub fn last(&self) -> Option<(Stamp, Version)>
+        ensures { result ≡ slice_get self.now (length self.now - 1) }
+    {
+        self.versions.last()
     }
 
     /// How many versions there are.
