@@ -2,7 +2,7 @@
 use Rattle.std.proofs.Common.{◌≡◌, ◌≢◌, ◌∙◌, ◌↔◌, ℕ, Bool, true, false, cond, List, Option, Some, None, refl, sym, ap, subst, true≢false}
 use Rattle.std.specs.List.{Contains}
 use Rattle.std.specs.HashMap.{HashMap, get}
-use Rattle.std.specs.declared.random_state.RandomState.{RandomState}
+use Rattle.si_hashing.specs.declared.key_hashes.KeyHash.{KeyHash}
 use Rattle.std.specs.BTreeSet.{contains, Updates as SetUpdates}
 use Rattle.std.specs.Ordering.{nat_cmp}
 use Rattle.std.specs.Cmp.Lexicographic.{slice_cmp, texts_ties}
@@ -89,7 +89,7 @@ module _ (x : List ℕ) (cs : List Change) (old new : KeyStates) (is_bare has_fi
   changed_kept made e = changed_after x cs old new made.kept is_bare has_findings made.key made.shows made.left
       (λ y. made.states.0 y ∙ ap (λ b. cond (same_key x y) (standing b made.kept) (get same_key old.states y)) (sym e)) found_by
 
-  pub changed_dropped : (mid : HashMap (List ℕ) Kept RandomState) → IsChangedIn x cs is_bare has_findings old.states mid → is_bare ≡ true
+  pub changed_dropped : (mid : HashMap (List ℕ) Kept KeyHash) → IsChangedIn x cs is_bare has_findings old.states mid → is_bare ≡ true
       → ((y : List ℕ) → get same_key new.states y ≡ cond (same_key x y) None (get same_key mid y)) → IsChangedAt x cs old new
   changed_dropped mid made e dropped = changed_after x cs old new made.kept is_bare has_findings made.key made.shows made.left (λ y. by y (same_key x y) refl) found_by
     where

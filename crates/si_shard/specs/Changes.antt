@@ -47,8 +47,3 @@ pub record IsChanged (c : Change) (old new : Kept) : Type 0 where
 abbrev pub LeadsTo : List Change → OnKey → OnKey → Type 0
 LeadsTo [] Q R = Q ≡ R
 LeadsTo (c ∷ cs) Q R = CanChange c Q × LeadsTo cs (changed_on c Q) R
-
--- what is kept of a key after its changes: from whatever it showed, it shows that to which they lead
-pub record AreMade (cs : List Change) (old new : Kept) : Type 0 where
-  pub key : new.key ≡ old.key
-  pub shows : (Q R : OnKey) → Shows cases Q old → LeadsTo cs Q R → Shows cases R new

@@ -1,10 +1,12 @@
 -- What an edit is on the keys of a shard, made on each of them by itself. All of it is this project's choice.
-use Rattle.std.specs.Prelude.{◌≡◌, ◌≢◌, ℕ, true, List, [], ◌∷◌}
-use Rattle.std.specs.List.{AllPairs}
+use Rattle.std.specs.Prelude.{◌≡◌, ℕ, true, false, List, [], ◌∷◌}
+use Rattle.std.specs.List.{All, enumerate_from, filter_map}
 use Rattle.si_model.specs.declared.operations.Op.{Op}
 use Rattle.si_model.specs.declared.edits.Edit.{Edit}
 use Rattle.si_model.specs.declared.parts.OnKey.{OnKey}
-use Rattle.si_model.specs.Operations.{key_of}
+use Rattle.si_model.specs.declared.parts.Placed.{Placed}
+use Rattle.si_model.specs.Operations.{key_of, same_key}
+use Rattle.si_model.specs.Parts.{placed_at}
 use Rattle.si_shard.specs.declared.shard_ids.ShardId.{ShardId}
 use Rattle.si_shard.specs.declared.changes.Change.{Change}
 use Rattle.si_shard.specs.declared.keyed.KeyStates.{KeyStates}
@@ -14,9 +16,13 @@ use Rattle.si_shard.specs.Applied.{IsChangeOn}
 use Rattle.si_shard.specs.Changes.{LeadsTo}
 use Rattle.si_shard.specs.Keyed.{IsMadeAt, IsOn, StaysAt}
 
--- no two operations access one key
-abbrev pub AreApart : List Op → Type 0
-AreApart ops = AllPairs (λ a b. key_of a ≢ key_of b) ops
+-- the accesses of the key x by these operations, of which the first has the place i
+abbrev pub accesses_from : List ℕ → ℕ → List Op → List Placed
+accesses_from x i ops = filter_map (placed_at x) (enumerate_from i ops)
+
+-- none of the operations is on the key x
+abbrev pub AreElsewhere : List ℕ → List Op → Type 0
+AreElsewhere x ops = All (λ p. same_key (key_of p) x ≡ false) ops
 
 -- what the edit is on a key of the shard can be made there
 abbrev pub CanBeMadeBy : ShardId → List Op → Head → Edit → KeyStates → Type 0

@@ -7,13 +7,12 @@ ghost use Rattle.si_model.specs.Journals.{IsAccepted, present};
 ghost use Rattle.si_shard.specs.Applied.{AreApplied, SetsArrival, head_for, head_in, no_head, ops_for, ops_in};
 ghost use Rattle.si_shard.specs.Keeping.{AreKept, BeginsWith, Concerns, IsTaken, kept_after};
 ghost use Rattle.si_shard.specs.Shards.{findings_in};
-ghost use Rattle.si_shard.specs.Straight.{AreApart};
 ghost use Rattle.si_shard.specs.Waiting.{AreGatheredTo};
 
 use crate::keyed::KeyStates;
 use crate::past::Stored;
 use crate::shard_ids::ShardId;
-use crate::straight::{are_few_apart, make_each};
+use crate::straight::{are_few, make_each};
 use crate::waiting::{Head, Waiting};
 use si_hashing::NumberHash;
 use si_model::{Edit, Finding, Op, OutOfMemory, Stamp, Status, TxnId};
@@ -67,7 +66,7 @@ impl Applied {
         ensures { IfOk result (λ touches. IsTaken id kept.now edit.now touches (λ edits. AreApplied id edits self.new)) }
     {
         let ops = self.ops_of(kept, edit);
-        if are_few_apart(ops) {
+        if are_few(ops) {
             return self.apply_straight(kept, ops, edit, id);
         }
         self.apply_gathered(kept, edit, id)
@@ -85,7 +84,6 @@ impl Applied {
         requires applied { AreApplied id kept.now self.old }
         requires accepted { Concerns id (present kept.now) edit.now → IsAccepted (kept.now ++ edit.now ∷ []) }
         requires ops { ops.now ≡ ops_for (get nat_eq self.old.arrivals) kept.now edit.now }
-        requires apart { AreApart ops.now }
         ensures { IfOk result (λ touches. IsTaken id kept.now edit.now touches (λ edits. AreApplied id edits self.new)) }
     {
         let head = self.head_of(kept, edit);
@@ -261,6 +259,31 @@ impl Applied {
     {
         self.keys.change_all(waiting.lists)?;
         Ok(())
+    }
+
+    /// Reads what is kept of the keys of these edits, all at once, so that a processor has it near when they are applied. Nothing
+    /// depends on the number, which comes of what was read; `places` is a room for the reading.
+    pub fn look_ahead(
+        &self,
+        kept: &[Edit],
+        edits: &[Edit],
+        id: ShardId,
+        places: &mut Vec<usize>,
+    ) -> u64
+        requires { 0 < id.shards }
+    {
+        places.clear();
+        for edit in edits {
+            let ops = self.ops_of(kept, edit);
+            if are_few(ops) {
+                for op in ops {
+                    if id.has(op.key()) {
+                        self.keys.add_place(op.key(), places);
+                    }
+                }
+            }
+        }
+        self.keys.look_at(places)
     }
 
     /// The findings on the shard's keys, in order.

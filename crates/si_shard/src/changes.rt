@@ -4,7 +4,7 @@ ghost use Rattle.std.specs.Prelude.{◌≡◌, OnErr, OnOk};
 ghost use Rattle.si_model.specs.declared.parts.OnKey.{OnKey};
 ghost use Rattle.si_model.specs.Findings.{cases};
 ghost use Rattle.si_judge.specs.Kept.{Shows};
-ghost use Rattle.si_shard.specs.Changes.{AreMade, CanChange, IsChanged, LeadsTo, with_access};
+ghost use Rattle.si_shard.specs.Changes.{CanChange, IsChanged, with_access};
 
 use si_judge::{Cases, KeyFault, KeyFindings};
 use si_model::{OutOfMemory, Outcome, Part, Placed, Value};
@@ -40,18 +40,8 @@ impl Change {
     }
 }
 
-/// Makes the changes of one key, one after the other. Its findings aren't spoiled, so that it fails only where memory is refused.
-pub fn make_changes(kept: &mut KeyFindings<Cases>, changes: Vec<Change>) -> Result<(), OutOfMemory>
-    requires { (Q : OnKey) × (R : OnKey) × Shows cases Q kept.old × LeadsTo changes.items Q R }
-    ensures { OnOk result (AreMade changes.items kept.old kept.new) }
-{
-    for change in changes {
-        make_change(kept, change)?;
-    }
-    Ok(())
-}
-
-fn make_change(kept: &mut KeyFindings<Cases>, change: Change) -> Result<(), OutOfMemory>
+/// Makes the change of one key. Its findings aren't spoiled, so that it fails only where memory is refused.
+pub fn make_change(kept: &mut KeyFindings<Cases>, change: Change) -> Result<(), OutOfMemory>
     requires { (Q : OnKey) × Shows cases Q kept.old × CanChange change Q }
     ensures { OnOk result (IsChanged change kept.old kept.new) }
 {

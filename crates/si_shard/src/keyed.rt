@@ -14,12 +14,14 @@ ghost use Rattle.si_judge.specs.Kept.{Shows};
 ghost use Rattle.si_shard.specs.Changes.{LeadsTo};
 ghost use Rattle.si_shard.specs.Keyed.{AreChangedAll, AreOn, CanChangeAll, IsChangedAt, IsChangedIn, IsLeft, IsOn, ShowsAt, findings_at};
 
-use crate::changes::{Change, make_changes};
+use crate::changes::{Change, make_change};
 use crate::waiting::Lists;
+use indexmap::IndexMap;
+use si_hashing::KeyHash;
 use si_judge::{Cases, KeyFindings};
 use si_model::{Finding, Key, OutOfMemory};
 use std::alloc::{AllocError, Global};
-use std::collections::{BTreeSet, HashMap};
+use std::collections::BTreeSet;
 use std::hash::RandomState;
 
 /// What is kept of the keys. Of a key nothing is kept where it is bare.
@@ -28,7 +30,7 @@ use std::hash::RandomState;
 #[derive(Drop)]
 pub struct KeyStates {
     alloc: Global,
-    states: HashMap<Key, KeyFindings<Cases>, RandomState>,
+    states: IndexMap<Key, KeyFindings<Cases>, KeyHash>,
     // The keys on which something is found, in order, so that findings cost what is found.
     found: BTreeSet<Key>,
 }
@@ -46,7 +48,7 @@ impl KeyStates {
     {
         KeyStates {
             alloc,
-            states: HashMap::with_hasher(alloc, hash),
+            states: IndexMap::with_hasher(alloc, KeyHash::new(hash)),
             found: BTreeSet::new(alloc),
         }
     }
@@ -57,31 +59,57 @@ impl KeyStates {
         ensures { OnOk result (AreChangedAll lists self.old self.new) }
     {
         for (key, list) in lists {
-            self.change(&key, list.changes)?;
+            self.change_by_list(&key, list.changes)?;
+        }
+        Ok(())
+    }
+
+    /// Makes the changes of the key, one after the other.
+    fn change_by_list(&mut self, key: &Key, changes: Vec<Change>) -> Result<(), OutOfMemory>
+        requires { (Q : OnKey) × (R : OnKey) × IsOn self.old key.now Q × LeadsTo changes.items Q R }
+        ensures { OnOk result (IsChangedAt key.now changes.items self.old self.new) }
+    {
+        for change in changes {
+            self.change(key, change)?;
         }
         Ok(())
     }
 
     /// Makes one change of the key.
-    pub fn change_one(&mut self, key: &Key, change: Change) -> Result<(), OutOfMemory>
+    pub fn change(&mut self, key: &Key, change: Change) -> Result<(), OutOfMemory>
         requires { (Q : OnKey) × (R : OnKey) × IsOn self.old key.now Q × LeadsTo (change ∷ []) Q R }
         ensures { OnOk result (IsChangedAt key.now (change ∷ []) self.old self.new) }
     {
-        let mut changes = Vec::with_capacity(self.alloc, 1)?;
-        changes.push(change)?;
-        self.change(key, changes)
-    }
-
-    fn change(&mut self, key: &Key, changes: Vec<Change>) -> Result<(), OutOfMemory>
-        requires { (Q : OnKey) × (R : OnKey) × IsOn self.old key.now Q × LeadsTo changes.items Q R }
-        ensures { OnOk result (IsChangedAt key.now changes.items self.old self.new) }
-    {
-        let left = change_in(self.alloc, &mut self.states, key, changes)?;
+        let left = change_in(self.alloc, &mut self.states, key, change)?;
         keep_found(&mut self.found, key, left.has_findings)?;
         if left.is_bare {
-            drop(self.states.remove(key));
+            drop(self.states.swap_remove(key));
         }
         Ok(())
+    }
+
+    /// Adds where the state of the key stands, if one does. Where memory is refused it isn't added.
+    pub fn add_place(&self, key: &Key, places: &mut Vec<usize>) {
+        if let Some(place) = self.states.get_index_of(key) {
+            let _added = places.push(place).is_ok();
+        }
+    }
+
+    /// Reads the states at these places, first the heads of all and then the ends of what they hold, so that each is fetched while the
+    /// others are. The number, which comes of what was read, means nothing.
+    pub fn look_at(&self, places: &[usize]) -> u64 {
+        let mut seen = 0;
+        for place in places {
+            if let Some((_, kept)) = self.states.get_index(*place) {
+                seen = seen ^ kept.heads();
+            }
+        }
+        for place in places {
+            if let Some((_, kept)) = self.states.get_index(*place) {
+                seen = seen ^ kept.ends();
+            }
+        }
+        seen
     }
 
     /// The findings on the keys, in order.
@@ -109,23 +137,23 @@ impl KeyStates {
     }
 }
 
-/// Makes the changes in what is kept of the key, which is begun where nothing was.
+/// Makes the change in what is kept of the key, which is begun where nothing was.
 fn change_in(
     alloc: Global,
-    states: &mut HashMap<Key, KeyFindings<Cases>, RandomState>,
+    states: &mut IndexMap<Key, KeyFindings<Cases>, KeyHash>,
     key: &Key,
-    changes: Vec<Change>,
+    change: Change,
 ) -> Result<Left, OutOfMemory>
-    requires { (Q : OnKey) × (R : OnKey) × ShowsAt key.now (get same_key states.old key.now) Q × LeadsTo changes.items Q R }
-    ensures { IfOk result (λ left. IsChangedIn key.now changes.items left.is_bare left.has_findings states.old states.new) }
+    requires { (Q : OnKey) × (R : OnKey) × ShowsAt key.now (get same_key states.old key.now) Q × LeadsTo (change ∷ []) Q R }
+    ensures { IfOk result (λ left. IsChangedIn key.now (change ∷ []) left.is_bare left.has_findings states.old states.new) }
 {
     if let Some(kept) = states.get_mut(key) {
-        make_changes(kept, changes)?;
+        make_change(kept, change)?;
         return Ok(left_on(kept));
     }
     let own = key.try_clone()?;
     let mut kept = KeyFindings::new(alloc, key.try_clone()?, Cases::new());
-    match make_changes(&mut kept, changes) {
+    match make_change(&mut kept, change) {
         Ok(()) => {
             let left = left_on(&kept);
             drop(states.insert(own, kept)?);

@@ -1,54 +1,31 @@
 //! Edits that go straight to the keys of their transactions.
 
-ghost use Rattle.std.specs.Prelude.{◌≡◌, ◌<◌, ◌≢◌, ℕ, List, IsTrue, IfOk, OnOk};
-ghost use Rattle.std.specs.List.{All};
+ghost use Rattle.std.specs.Prelude.{◌≡◌, ◌↔◌, ◌<◌, ◌≤◌, ℕ, List, IsTrue, IfOk, OnOk, drop, length, true};
 ghost use Rattle.si_model.specs.declared.edits.Edit.TheVariants as variant;
 ghost use Rattle.si_model.specs.declared.numbers.Value.{Value as Written};
-ghost use Rattle.si_model.specs.Operations.{key_of};
-ghost use Rattle.si_shard.specs.Straight.{AreApart, CanBeMadeBy, IsMadeBy};
+ghost use Rattle.si_model.specs.Operations.{key_of, same_key};
+ghost use Rattle.si_shard.specs.ShardIds.{is_ours};
+ghost use Rattle.si_shard.specs.Straight.{AreElsewhere, CanBeMadeBy, IsMadeBy, accesses_from};
 ghost use Rattle.si_shard.specs.Waiting.{IsTold};
 
 use crate::changes::Change;
 use crate::keyed::KeyStates;
 use crate::shard_ids::ShardId;
-use crate::waiting::{Head, change_of};
+use crate::waiting::{Head, change_by};
+use si_model::parts::Accesses;
 use si_model::{Edit, Key, Op, OutOfMemory, Placed, Value};
 use std::alloc::Global;
 
 /// A transaction of more operations isn't looked through for keys that come again, which takes the square of their number.
 const MOST_STRAIGHT: usize = 32;
 
-/// Whether the operations are few, and no two access one key. Where two keys have one hash it may say no.
-pub fn are_few_apart(ops: &[Op]) -> bool
-    ensures { IsTrue result → AreApart ops.now }
-{
-    ops.len() <= MOST_STRAIGHT && are_apart(ops)
+/// Whether the operations are few enough to be looked through for keys that come again.
+pub fn are_few(ops: &[Op]) -> bool {
+    ops.len() <= MOST_STRAIGHT
 }
 
-fn are_apart(ops: &[Op]) -> bool
-    ensures { IsTrue result → AreApart ops.now }
-{
-    for place in 0..ops.len() {
-        if !is_apart(&ops[place], &ops[place + 1..]) {
-            return false;
-        }
-    }
-    true
-}
-
-fn is_apart(op: &Op, others: &[Op]) -> bool
-    ensures { IsTrue result → All (λ other. key_of op.now ≢ key_of other) others.now }
-{
-    for other in others {
-        if other.key().shard_hash() == op.key().shard_hash() {
-            return false;
-        }
-    }
-    true
-}
-
-/// Makes what the edit is on each key of the shard, where its transaction is this one with these operations, of which no two access
-/// one key. Answers whether it is anything there.
+/// Makes what the edit is on each key of the shard, where its transaction is this one with these operations. Answers whether it is
+/// anything there.
 pub fn make_each(
     alloc: Global,
     keys: &mut KeyStates,
@@ -58,7 +35,6 @@ pub fn make_each(
     id: ShardId,
 ) -> Result<bool, OutOfMemory>
     requires shards { 0 < id.shards }
-    requires apart { AreApart ops.now }
     requires can { CanBeMadeBy id ops.now head edit.now keys.old }
     ensures made { OnOk result (IsMadeBy id ops.now head edit.now keys.old keys.new) }
     ensures touches { IfOk result (IsTold id ops.now head edit.now) }
@@ -82,7 +58,7 @@ fn make_set_up(
 {
     let ours = id.has(key);
     if ours {
-        keys.change_one(key, Change::SetUp(value))?;
+        keys.change(key, Change::SetUp(value))?;
     }
     Ok(ours)
 }
@@ -96,7 +72,6 @@ fn make_accessed(
     id: ShardId,
 ) -> Result<bool, OutOfMemory>
     requires shards { 0 < id.shards }
-    requires apart { AreApart ops.now }
     requires other { (x : List ℕ) (v : Written) → edit.now ≡ variant.SetUp x v → ⊥ }
     requires can { CanBeMadeBy id ops.now head edit.now keys.old }
     ensures made { OnOk result (IsMadeBy id ops.now head edit.now keys.old keys.new) }
@@ -104,15 +79,57 @@ fn make_accessed(
 {
     let mut touches = false;
     for (index, op) in ops.iter().enumerate() {
-        if id.has(op.key()) {
-            let placed = Placed {
-                place: index,
-                access: op.access(),
-            };
-            let change = change_of(alloc, head, edit, placed)?;
-            keys.change_one(op.key(), change)?;
+        let key = op.key();
+        if begins(&ops[..index], key, id) {
+            let accesses = accesses_from(alloc, key, ops, index)?;
+            keys.change(key, change_by(head, edit, accesses))?;
             touches = true;
         }
     }
     Ok(touches)
+}
+
+/// Whether the key is the shard's, and none of the operations before is on it.
+fn begins(before: &[Op], key: &Key, id: ShardId) -> bool
+    requires { 0 < id.shards }
+    ensures { (result ≡ true) ↔ ((is_ours id key.now ≡ true) × AreElsewhere key.now before.now) }
+{
+    id.has(key) && is_first(before, key)
+}
+
+/// Whether none of the operations before is on the key.
+fn is_first(before: &[Op], key: &Key) -> bool
+    ensures { IsTrue result ↔ AreElsewhere key.now before.now }
+{
+    before.iter().all(|op| !is_on(op, key))
+}
+
+/// Whether the operation is on the key. The hashes of two keys mostly differ where the keys do.
+fn is_on(op: &Op, key: &Key) -> bool
+    ensures { result ≡ same_key (key_of op.now) key.now }
+{
+    op.key().shard_hash() == key.shard_hash() && op.key() == key
+}
+
+/// The accesses of the key from that place on.
+fn accesses_from(
+    alloc: Global,
+    key: &Key,
+    ops: &[Op],
+    first: usize,
+) -> Result<Accesses, OutOfMemory>
+    requires { first ≤ length ops.now }
+    ensures { IfOk result (λ all. all ≡ accesses_from key.now first (drop first ops.now)) }
+{
+    let mut accesses = Accesses::new(alloc);
+    for place in first..ops.len() {
+        let op = &ops[place];
+        if is_on(op, key) {
+            accesses.push(Placed {
+                place,
+                access: op.access(),
+            })?;
+        }
+    }
+    Ok(accesses)
 }

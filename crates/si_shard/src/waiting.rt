@@ -12,6 +12,7 @@ ghost use Rattle.si_shard.specs.Waiting.{AddsAccess, AddsChange, AddsTo, AddsToL
 use crate::changes::Change;
 use crate::shard_ids::ShardId;
 use indexmap::IndexMap;
+use si_hashing::KeyHash;
 use si_model::parts::Accesses;
 use si_model::{Edit, Key, Op, OutOfMemory, Part, Placed, Stamp, Status, TxnId, Value};
 use std::alloc::Global;
@@ -46,7 +47,7 @@ impl Waits {
 }
 
 /// The changes of each key.
-pub type Lists = IndexMap<Key, Waits, RandomState>;
+pub type Lists = IndexMap<Key, Waits, KeyHash>;
 
 /// Changes that wait.
 #[derive(Drop)]
@@ -63,7 +64,7 @@ impl Waiting {
     {
         Waiting {
             alloc,
-            lists: IndexMap::with_hasher(alloc, hash),
+            lists: IndexMap::with_hasher(alloc, KeyHash::new(hash)),
             count: 0,
         }
     }
@@ -229,32 +230,28 @@ fn add_to_last(changes: &mut Vec<Change>, placed: Placed) -> Result<(), OutOfMem
 }
 
 /// What the edit is on a key where its transaction has this access.
-pub fn change_of(
-    alloc: Global,
-    head: Head,
-    edit: &Edit,
-    placed: Placed,
-) -> Result<Change, OutOfMemory>
+fn change_of(alloc: Global, head: Head, edit: &Edit, placed: Placed) -> Result<Change, OutOfMemory>
     ensures { IfOk result (λ change. change ≡ change_by head edit.now (placed ∷ [])) }
-{
-    Ok(match edit {
-        Edit::Arrive(_) => Change::Arrive(part_by(alloc, head, placed)?),
-        Edit::Resolve(_, outcome) => Change::Resolve(part_by(alloc, head, placed)?, *outcome),
-        Edit::Withdraw(_) => Change::Withdraw(part_by(alloc, head, placed)?),
-        Edit::SetUp(_, value) => Change::SetUp(*value),
-    })
-}
-
-/// What the transaction does on a key where it has this access.
-fn part_by(alloc: Global, head: Head, placed: Placed) -> Result<Part, OutOfMemory>
-    ensures { IfOk result (λ part. part ≡ part_by head (placed ∷ [])) }
 {
     let mut accesses = Accesses::new(alloc);
     accesses.push(placed)?;
-    Ok(Part {
+    Ok(change_by(head, edit, accesses))
+}
+
+/// What the edit is on a key where its transaction has these accesses.
+pub fn change_by(head: Head, edit: &Edit, accesses: Accesses) -> Change
+    ensures { result ≡ change_by head edit.now accesses }
+{
+    let part = Part {
         id: head.id,
         start: head.start,
         status: head.status,
         accesses,
-    })
+    };
+    match edit {
+        Edit::Arrive(_) => Change::Arrive(part),
+        Edit::Resolve(_, outcome) => Change::Resolve(part, *outcome),
+        Edit::Withdraw(_) => Change::Withdraw(part),
+        Edit::SetUp(_, value) => Change::SetUp(*value),
+    }
 }

@@ -1,43 +1,46 @@
 use Rattle.std.proofs.Common.{rules, ◌≡◌, ◌∙◌, Some, None, subst}
 use Rattle.std.specs.HashMap.{get}
+use Rattle.si_model.specs.Findings.{cases}
 use Rattle.si_model.specs.Operations.{same_key}
-use Rattle.si_shard.specs.Changes.{AreMade}
+use Rattle.si_judge.specs.Kept.{Shows}
+use Rattle.si_shard.specs.Changes.{IsChanged}
 use Rattle.si_shard.specs.Keyed.{ShowsAt}
 use Rattle.si_shard.proofs.keyed.change_in.Goals as goal
 
-pub make_changes-requires : goal.make_changes-requires
-make_changes-requires c =
+pub make_change-requires : goal.make_change-requires
+make_change-requires c =
     let there : get same_key c.args.states.now c.args.key.now ≡ Some c.in-Some.kept.now = search rules in
     let shown = subst (λ o. ShowsAt c.args.key.now o c.requires.0) there c.requires.2 in
-    (c.requires.0, c.requires.1, shown.1, c.requires.3)
+    (c.requires.0, shown.1, c.requires.3.0)
 
 pub returns-in-Some : goal.returns-in-Some
 returns-in-Some c =
     let there : get same_key c.args.states.now c.args.key.now ≡ Some c.in-Some.kept.now = search rules in
-    let made = c.in_ok-make_changes.ensures in
+    let made = c.in_ok-make_change.ensures in
     let shown = subst (λ o. ShowsAt c.args.key.now o c.requires.0) there c.requires.2 in
     record {
-      kept = c.make_changes.new.kept;
+      kept = c.make_change.new.kept;
       key = made.key ∙ shown.0;
-      shows = λ Q R on leads. made.shows Q R (subst (λ o. ShowsAt c.args.key.now o Q) there on).1 leads;
+      shows = λ Q R on leads. subst (λ N. Shows cases N c.make_change.new.kept) leads.1 (made.shows Q (subst (λ o. ShowsAt c.args.key.now o Q) there on).1 leads.0);
       left = c.left_on.ensures;
       states = search rules;
     }
 
-pub make_changes-requires-2 : goal.make_changes-requires-2
-make_changes-requires-2 c =
+pub make_change-requires-2 : goal.make_change-requires-2
+make_change-requires-2 c =
     let none : get same_key c.args.states.now c.args.key.now ≡ None = search rules in
     let bare = subst (λ o. ShowsAt c.args.key.now o c.requires.0) none c.requires.2 in
-    (c.requires.0, c.requires.1, c.new-kept.ensures.shows c.requires.0 bare.0 bare.1, c.requires.3)
+    (c.requires.0, c.new-kept.ensures.shows c.requires.0 bare.0 bare.1, c.requires.3.0)
 
 pub returns-in_ok-insert-in-Ok : goal.returns-in_ok-insert-in-Ok
 returns-in_ok-insert-in-Ok c =
     let none : get same_key c.args.states.now c.args.key.now ≡ None = search rules in
-    let made : AreMade c.args.changes.items c.new-kept.result c.make_changes-2.new.kept = search rules in
+    let made : IsChanged c.args.change c.new-kept.result c.make_change-2.new.kept = search rules in
     record {
-      kept = c.make_changes-2.new.kept;
+      kept = c.make_change-2.new.kept;
       key = search rules;
-      shows = λ Q R on leads. (let bare = subst (λ o. ShowsAt c.args.key.now o Q) none on in made.shows Q R (c.new-kept.ensures.shows Q bare.0 bare.1) leads);
+      shows = λ Q R on leads. (let bare = subst (λ o. ShowsAt c.args.key.now o Q) none on in
+          subst (λ N. Shows cases N c.make_change-2.new.kept) leads.1 (made.shows Q (c.new-kept.ensures.shows Q bare.0 bare.1) leads.0));
       left = c.left_on-left.ensures;
       states = search rules;
     }

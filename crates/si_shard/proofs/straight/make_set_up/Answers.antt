@@ -4,9 +4,9 @@ use Rattle.si_shard.specs.Applied.{no_head}
 use Rattle.si_shard.proofs.EachKey.{set_up_made}
 use Rattle.si_shard.proofs.straight.make_set_up.Goals as goal
 
-pub change_one-requires : goal.change_one-requires
-change_one-requires c = c.requires.can [] no_head c.args.key.now (change.SetUp c.args.value) (sym c.has-ours.ensures ∙ c.if-ours.true) (refl, refl)
+pub change-requires : goal.change-requires
+change-requires c = c.requires.can [] no_head c.args.key.now (change.SetUp c.args.value) (sym c.has-ours.ensures ∙ c.if-ours.true) (refl, refl)
 
-pub returns-in_ok-change_one-clause-made : goal.returns-in_ok-change_one-clause-made
-returns-in_ok-change_one-clause-made c = λ ops head.
-    set_up_made c.args.id ops head c.args.key.now c.args.value c.args.keys.now c.change_one.new.self (sym c.has-ours.ensures ∙ c.if-ours.true) c.in_ok-change_one.ensures
+pub returns-in_ok-change-clause-made : goal.returns-in_ok-change-clause-made
+returns-in_ok-change-clause-made c = λ ops head.
+    set_up_made c.args.id ops head c.args.key.now c.args.value c.args.keys.now c.change.new.self (sym c.has-ours.ensures ∙ c.if-ours.true) c.in_ok-change.ensures

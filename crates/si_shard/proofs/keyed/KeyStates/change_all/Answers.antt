@@ -6,8 +6,8 @@ use Rattle.si_shard.proofs.keyed.KeyStates.change_all.Goals as goal
 pub loop-key-init : goal.loop-key-init
 loop-key-init c = ([], none_done c.args.self.now, sym c.into_iter-key-iterator.ensures.into_iter_gives.0)
 
-pub change-requires : goal.change-requires
-change-requires c =
+pub change_by_list-requires : goal.change_by_list-requires
+change_by_list-requires c =
     let done = c.loop-key.invariant in
     let split = done.2 ∙ ap (λ l. done.0 ++ l) c.in-Some.ensures.steps in
     next_can c.args.lists c.into_iter-key-iterator.ensures.into_iter_gives.4 done.0 c.next.new.self c.in-Some.key c.in-Some.list split c.args.self.now c.loop-key.self c.requires done.1
@@ -17,15 +17,15 @@ pub loop-key-preserved : goal.loop-key-preserved
 loop-key-preserved c =
     let done = c.loop-key.invariant in
     let split = done.2 ∙ ap (λ l. done.0 ++ l) c.in-Some.ensures.steps in
-    goes_on c.args.lists c.into_iter-key-iterator.ensures.into_iter_gives.4 done.0 c.next.new.self c.in-Some.key c.in-Some.list split c.args.self.now c.loop-key.self c.change.new.self done.1
-    c.in_ok-change.ensures
+    goes_on c.args.lists c.into_iter-key-iterator.ensures.into_iter_gives.4 done.0 c.next.new.self c.in-Some.key c.in-Some.list split c.args.self.now c.loop-key.self c.change_by_list.new.self done.1
+    c.in_ok-change_by_list.ensures
 
-pub loop-key-preserved-in_ok-change : goal.loop-key-preserved-in_ok-change
-loop-key-preserved-in_ok-change c =
+pub loop-key-preserved-in_ok-change_by_list : goal.loop-key-preserved-in_ok-change_by_list
+loop-key-preserved-in_ok-change_by_list c =
     let done = c.loop-key.invariant in
     let split = done.2 ∙ ap (λ l. done.0 ++ l) c.in-Some.ensures.steps in
-    goes_on c.args.lists c.into_iter-key-iterator.ensures.into_iter_gives.4 done.0 c.next.new.self c.in-Some.key c.in-Some.list split c.args.self.now c.loop-key.self c.change.new.self done.1
-    c.in_ok-change.ensures
+    goes_on c.args.lists c.into_iter-key-iterator.ensures.into_iter_gives.4 done.0 c.next.new.self c.in-Some.key c.in-Some.list split c.args.self.now c.loop-key.self c.change_by_list.new.self done.1
+    c.in_ok-change_by_list.ensures
 
 pub returns : goal.returns
 returns c =
