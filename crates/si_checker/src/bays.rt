@@ -227,6 +227,7 @@ fn store(shard: &mut Shard, edits: Vec<Edit>)
         × (shard.new.spoiled ≡ true → (n < vec_len edits) ⊎ ((n ≡ 0) × (shard.old.spoiled ≡ true))) }
 {
     accepted_begins();
+    shard.look_ahead(&edits);
     for edit in edits {
         let number = Number(shard.position() + 1);
         if shard.apply(number, edit).is_err() {

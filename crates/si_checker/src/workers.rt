@@ -1,20 +1,38 @@
 //! What workers do: each shard's edits are applied in batches, with the book's lock held for no more than their copies.
-ghost use Rattle.std.specs.Prelude.{◌<◌};
+ghost use Rattle.std.specs.Prelude.{◌≡◌, ◌<◌};
+ghost use Rattle.si_words.specs.Views.{with_count, with_marks};
 ghost use Rattle.si_checker.specs.Workers.{EndsWork, TellsPosition};
 
 use crate::checkers::Checker;
+use crate::desks::MOST_AT_ONCE;
 use crate::gates::{Gate, Place};
 use crate::names::Name;
 use si_model::Number;
+use si_words::Pass;
 use std::sync::Wait;
 use std::thread;
 use std::time::Duration;
 
-/// How often an idle worker looks for work before it sleeps between two looks.
-const LOOKS_AWAKE: u64 = 16;
+/// How long a worker rests once it has applied less than a whole batch, in microseconds: what comes meanwhile is applied together.
+const REST_MICROS: u64 = 200;
 
-/// How long an idle worker sleeps between two looks, in microseconds.
-const SLEEP_MICROS: u64 = 500;
+/// How long it rests at most, in microseconds. Each rest in which nothing came doubles the next one up to here.
+const MOST_REST_MICROS: u64 = 3_200;
+
+/// How long a caller that waits for workers sleeps between two looks, in microseconds.
+const PAUSE_MICROS: u64 = 30;
+
+/// So many looks of such a caller come without a sleep between them.
+const LOOKS_AWAKE: u64 = 32;
+
+/// After so many looks in which the workers came no further it waits no longer.
+const LOOKS_IN_VAIN: u64 = 400;
+
+/// At every so many looks it wakes the workers that rest.
+const LOOKS_TO_WAKE: u64 = 32;
+
+/// Where no shard has more edits left than this, a caller doesn't wait for workers.
+const FEW_LEFT: u64 = 16;
 
 /// What became of one turn of a worker.
 #[derive(Clone, Copy, Debug, PartialEq, Eq)]
@@ -84,9 +102,15 @@ impl<N: Name> Checker<N> {
         requires { k < N.board.shards }
         ensures { EndsWork result }
     {
+        let mut last = 0;
         for _ in rt.forever() {
             match self.work_one(rt, k, gate) {
-                Worked::Applied(_) => {}
+                Worked::Applied(position) => {
+                    if position.saturating_sub(last) < MOST_AT_ONCE as u64 {
+                        self.rest(rt, REST_MICROS);
+                    }
+                    last = position;
+                }
                 Worked::Idle => self.wait_for_work(rt, k),
                 ended => return ended,
             }
@@ -96,23 +120,61 @@ impl<N: Name> Checker<N> {
 
     /// Returns once more was issued than the shard has applied, or the checker was closed. It takes no lock of the book.
     ///
-    /// It yields between the first looks, since more often comes at once, and sleeps between the others: a submission then wakes
-    /// nobody and costs nothing for it, and what came meanwhile is applied together.
+    /// It rests between its looks, the longer the longer nothing came: a submission then wakes nobody and costs nothing for it, and what
+    /// comes meanwhile is applied together.
     fn wait_for_work<R: Wait>(&self, rt: &R, k: usize)
         requires { k < N.board.shards }
     {
-        for _ in 0..LOOKS_AWAKE {
-            if self.has_work(rt, k) {
-                return;
-            }
-            thread::yield_now();
-        }
+        let mut micros = REST_MICROS;
         for _ in rt.forever() {
+            self.rest(rt, micros);
             if self.has_work(rt, k) {
                 return;
             }
-            self.idle
-                .park_timeout(rt, 0, Duration::from_micros(SLEEP_MICROS));
+            micros = longer(micros);
+        }
+    }
+
+    /// Sleeps so long, or until the checker was closed or a caller waits for the workers.
+    fn rest<R: Wait>(&self, rt: &R, micros: u64) {
+        self.idle
+            .park_timeout(rt, 0, Duration::from_micros(micros));
+    }
+
+    /// Waits until the workers have applied nearly all that was issued, or don't come further: so a report leaves to them, side by side,
+    /// what it would have to apply itself. With one shard nothing is side by side, and it returns at once. It takes no lock, and where
+    /// there are no workers it soon returns.
+    pub fn await_workers<R: Wait>(&self, rt: &R, pass: &mut Pass)
+        requires { pass.old.table ≡ N.board.table }
+        ensures { pass.new ≡ record pass.old { view = with_marks pass.new.view.marks (with_count pass.new.view.count pass.old.view) } }
+    {
+        if self.shards() == 1 {
+            return;
+        }
+        let issued = self.issued(pass);
+        let mut best = 0;
+        let mut in_vain = 0;
+        for look in 0..u64::MAX {
+            let applied = self.watermark(pass);
+            if issued <= applied + FEW_LEFT {
+                return;
+            }
+            if applied > best {
+                best = applied;
+                in_vain = 0;
+            }
+            if in_vain >= LOOKS_IN_VAIN {
+                return;
+            }
+            in_vain += 1;
+            if look % LOOKS_TO_WAKE == 0 {
+                self.idle.wake_all();
+            }
+            if look < LOOKS_AWAKE {
+                thread::yield_now();
+            } else {
+                self.rest(rt, PAUSE_MICROS);
+            }
         }
     }
 
@@ -125,5 +187,14 @@ impl<N: Name> Checker<N> {
         };
         let bay = &mut *guard;
         bay.is_behind(&self.words) || bay.is_closed(&self.words)
+    }
+}
+
+/// How long the next rest is after one in which nothing came.
+fn longer(micros: u64) -> u64 {
+    if micros < MOST_REST_MICROS / 2 {
+        micros * 2
+    } else {
+        MOST_REST_MICROS
     }
 }

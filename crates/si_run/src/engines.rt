@@ -206,6 +206,7 @@ impl<N: Name> Engine<N> {
         ensures state { self.new ≡ self.old }
     {
         lone_pass_issues_all();
+        checker.await_workers(rt, &mut self.pass);
         match checker.settled_findings(rt, &mut self.pass) {
             Ok(settled) => Ok(settled),
             // a spoiled shard was refused memory
