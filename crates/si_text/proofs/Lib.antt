@@ -7,6 +7,8 @@ pub mod LineValues
 pub mod MemoryReads
 pub mod Between
 pub mod LineFeeds
+pub mod Appended
+pub mod PlainTexts
 pub mod InputItems
 pub mod StepwiseLines
 pub mod OpConditions

@@ -1,11 +1,11 @@
 -- Lemmas on the first line feed of a list of bytes, and on lists without one.
-use Rattle.std.proofs.Common.{◌≡◌, ℕ, zero, suc, ◌+◌, ◌<◌, ◌≤◌, List, [], ◌∷◌, ◌++◌, length, take, drop, Bool, true, false, not, ◌||◌, cond, Some, None, unwrap_or, ltb, refl, ap, ◌∙◌, arith}
-use Rattle.std.specs.List.{prefix_len, position}
+use Rattle.std.proofs.Common.{◌≡◌, ℕ, zero, suc, ◌+◌, ◌<◌, List, [], ◌∷◌, ◌++◌, length, take, drop, Bool, true, false, not, ◌||◌, cond, Option, Some, None, unwrap_or, ltb, refl, sym, ap, ◌∙◌, arith}
+use Rattle.std.specs.List.{prefix_len}
 use Rattle.std.proofs.lemmas.Bool.{eqb-true, ltb-true, ltb-false}
 use Rattle.std.proofs.lemmas.List.{drop_all}
 use Rattle.std.specs.Bool.{MatchBool}
-use Rattle.std.proofs.lemmas.Bool.Decides.{nat_tests}
-use Rattle.std.proofs.lemmas.List.Sums.{prefix_len-le-length}
+use Rattle.std.proofs.lemmas.List.Sums.{prefix_len_is}
+use Rattle.memchr.specs.Find.{IsFirstByte, is_byte}
 use Rattle.si_text.specs.Inputs.{is_line_feed, has_line_feed}
 
 abbrev pub is_other : ℕ → Bool
@@ -15,11 +15,16 @@ is_other byte = not (is_line_feed byte)
 abbrev pub before_feed : List ℕ → ℕ
 before_feed bytes = prefix_len is_other bytes
 
-chosen : (n m : ℕ) → n ≤ m → unwrap_or (cond (ltb n m) (Some n) None) m ≡ n
-chosen n m within = grind (arith, nat_tests)
+no_feed : (b : Bool) → ¬ (b ≡ true) → not b ≡ true
+no_feed true other = absurd (other refl)
+no_feed false other = refl
 
-pub position_or_all : (bytes : List ℕ) → unwrap_or (position is_line_feed bytes) (length bytes) ≡ before_feed bytes
-position_or_all bytes = chosen (before_feed bytes) (length bytes) (prefix_len-le-length is_other bytes)
+-- where a search for the first line feed ends
+pub until_feed : (bytes : List ℕ) (found : Option ℕ) → IsFirstByte (is_byte 10) bytes found → unwrap_or found (length bytes) ≡ before_feed bytes
+until_feed bytes None nowhere =
+    sym (prefix_len_is is_other bytes (length bytes) 0 (omega arith) (λ k less. no_feed _ (nowhere k (omega arith) less)) (λ less. absurd (omega arith)))
+until_feed bytes (Some n) first =
+    sym (prefix_len_is is_other bytes n 0 (omega (arith, first.0.high)) (λ k less. no_feed _ (first.0.before k (omega arith) less)) (λ less. ap not first.1))
 
 pub or_false : (a b : Bool) → (a || b) ≡ false → (a ≡ false) × (b ≡ false)
 or_false true b e = cc

@@ -2,6 +2,7 @@ pub mod Faults
 pub mod Lines
 pub mod UsualArrivals
 pub mod Texts
+pub mod Printing
 pub mod Inputs
 pub mod Devices
 pub mod Memory

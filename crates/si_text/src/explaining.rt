@@ -1,45 +1,49 @@
-ghost use Rattle.std.specs.Prelude.{◌≡◌, ◌++◌, OnOk, OnErr, IfOk};
+ghost use Rattle.std.specs.Prelude.{◌≡◌, ◌++◌, OnOk, OnErr};
 ghost use Rattle.std.specs.List.{flat_map};
+ghost use Rattle.si_text.specs.Printing.{Appends};
 ghost use Rattle.si_text.specs.Texts.{edge_text, evidence_text, explanation_text, label_text, read_from_text, shown_text};
 
-use crate::printing::put_number;
+use crate::appending::{put, put_number, whole_or_none};
 use si_model::{Edge, Evidence, Kind, Label, OutOfMemory, TxnId, evidence_of};
 use std::alloc::Global;
 
 /// Appends the line of an evidence. If memory is refused, the bytes are as before.
 pub fn print_evidence(
-    alloc: Global,
+    _alloc: Global,
     out: &mut Vec<u8>,
     evidence: &Evidence,
 ) -> Result<(), OutOfMemory>
     ensures ok { OnOk result (out.new.items ≡ out.old.items ++ evidence_text evidence.now) }
     ensures err { OnErr result (out.new.items ≡ out.old.items) }
 {
-    let line = evidence_line(alloc, evidence)?;
-    out.extend_from_slice(&line)
+    let before = out.len();
+    let appended = put_evidence(out, evidence);
+    whole_or_none(out, before, appended)
 }
 
-/// The line of the evidence for a finding of that kind; nothing where it has none.
-pub(crate) fn explanation_line(alloc: Global, kind: Kind) -> Result<Vec<u8>, OutOfMemory>
-    ensures { IfOk result (λ line. line.items ≡ explanation_text kind) }
+/// Appends the line of the evidence for a finding of that kind; nothing where it has none.
+pub(crate) fn put_explanation(
+    alloc: Global,
+    out: &mut Vec<u8>,
+    kind: Kind,
+) -> Result<(), OutOfMemory>
+    ensures { Appends result out.old.items out.new.items (explanation_text kind) }
 {
     match evidence_of(alloc, kind)? {
-        Some(evidence) => evidence_line(alloc, &evidence),
-        None => Ok(Vec::new(alloc)),
+        Some(evidence) => put_evidence(out, &evidence),
+        None => Ok(()),
     }
 }
 
-fn evidence_line(alloc: Global, evidence: &Evidence) -> Result<Vec<u8>, OutOfMemory>
-    ensures { IfOk result (λ line. line.items ≡ evidence_text evidence.now) }
+fn put_evidence(out: &mut Vec<u8>, evidence: &Evidence) -> Result<(), OutOfMemory>
+    ensures { Appends result out.old.items out.new.items (evidence_text evidence.now) }
 {
-    let mut line = Vec::new(alloc);
-    put_evidence(&mut line, evidence)?;
-    line.extend_from_slice(b"\n")?;
-    Ok(line)
+    put_shown(out, evidence)?;
+    put(out, "\n")
 }
 
-fn put_evidence(out: &mut Vec<u8>, evidence: &Evidence) -> Result<(), OutOfMemory>
-    ensures { OnOk result (out.new.items ≡ out.old.items ++ shown_text evidence.now) }
+fn put_shown(out: &mut Vec<u8>, evidence: &Evidence) -> Result<(), OutOfMemory>
+    ensures { Appends result out.old.items out.new.items (shown_text evidence.now) }
 {
     match evidence {
         Evidence::AbortedRead { reader, op, writer } => {
@@ -49,11 +53,11 @@ fn put_evidence(out: &mut Vec<u8>, evidence: &Evidence) -> Result<(), OutOfMemor
             put_read_from(out, "  G1b reader=", *reader, *op, *writer)
         }
         Evidence::Interference(edge) => {
-            out.extend_from_slice(b"  G-SI(a)")?;
+            put(out, "  G-SI(a)")?;
             put_edge(out, *edge)
         }
         Evidence::Missed(walk) => {
-            out.extend_from_slice(b"  G-SI(b)")?;
+            put(out, "  G-SI(b)")?;
             put_edges(out, walk.as_slice())
         }
     }
@@ -67,8 +71,8 @@ fn put_read_from(
     op: usize,
     writer: TxnId,
 ) -> Result<(), OutOfMemory>
-    ensures { OnOk result
-        (out.new.items ≡ out.old.items ++ read_from_text label.now reader op writer) }
+    ensures { Appends result out.old.items out.new.items
+        (read_from_text label.now reader op writer) }
 {
     put_number(out, label, reader.0)?;
     put_number(out, " op=", op as u64)?;
@@ -76,7 +80,7 @@ fn put_read_from(
 }
 
 fn put_edges(out: &mut Vec<u8>, edges: &[Edge]) -> Result<(), OutOfMemory>
-    ensures { OnOk result (out.new.items ≡ out.old.items ++ flat_map edge_text edges.now) }
+    ensures { Appends result out.old.items out.new.items (flat_map edge_text edges.now) }
 {
     for edge in edges {
         put_edge(out, *edge)?;
@@ -85,7 +89,7 @@ fn put_edges(out: &mut Vec<u8>, edges: &[Edge]) -> Result<(), OutOfMemory>
 }
 
 fn put_edge(out: &mut Vec<u8>, edge: Edge) -> Result<(), OutOfMemory>
-    ensures { OnOk result (out.new.items ≡ out.old.items ++ edge_text edge) }
+    ensures { Appends result out.old.items out.new.items (edge_text edge) }
 {
     put_number(out, " ", edge.from.0)?;
     put_number(out, label_of(edge.label), edge.to.0)

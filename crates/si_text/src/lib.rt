@@ -1,10 +1,12 @@
 //! The texts of the checker: lines in, report lines out, and the devices that carry their bytes.
 //!
 //! It carries the promise that an edit read from a line is what the line says by its definition, and that what is
-//! printed is exactly the text of its definition. It stands on `si_model` for the types and evidence, on `serde_json` for JSON,
-//! on `json` and `fast_float` for the tokens of usual lines, on `indexmap` for keys that came before and on `itoa` for numbers.
+//! printed is exactly the text of its definition. It stands on `si_model` for the types and evidence, on `memchr` for
+//! the ends of lines, on `serde_json` for JSON, on `json` and `fast_float` for the tokens of usual lines, on `indexmap` for keys
+//! that came before and on `itoa` for numbers.
 #![tactic(auto)]
 
+mod appending;
 pub mod devices;
 pub mod explaining;
 pub mod faults;

@@ -1,5 +1,5 @@
 ghost use Rattle.std.specs.Prelude.{◌≡◌, ◌==◌, not, IfOk};
-ghost use Rattle.std.specs.List.{list_all, position, prefix_len};
+ghost use Rattle.std.specs.List.{list_all, prefix_len};
 ghost use Rattle.std.specs.Option.{option_to_list};
 ghost use Rattle.si_text.specs.Inputs.{is_blank, is_line_feed, is_space, item_of};
 
@@ -46,15 +46,9 @@ fn is_all_space(bytes: &[u8]) -> bool
 }
 
 /// How many bytes stand before the first line feed; all where there is none.
-#[tactic(auto, using(crate::proofs::LineFeeds::position_or_all, crate::proofs::InputItems::last_items))]
+#[tactic(auto, using(crate::proofs::LineFeeds::until_feed, crate::proofs::InputItems::last_items))]
 pub(crate) fn length_to_line_feed(bytes: &[u8]) -> usize
     ensures { result ≡ prefix_len (λ byte. not (is_line_feed byte)) bytes.now }
 {
-    first_line_feed(bytes).unwrap_or(bytes.len())
-}
-
-fn first_line_feed(bytes: &[u8]) -> Option<usize>
-    ensures { result ≡ position is_line_feed bytes.now }
-{
-    bytes.iter().position(|byte| *byte == b'\n')
+    memchr::memchr(b'\n', bytes).unwrap_or(bytes.len())
 }

@@ -1,27 +1,33 @@
 ghost use Rattle.std.specs.Prelude.{◌≡◌, ◌++◌, decimal, codes, length, OnOk, OnErr, IfOk};
-ghost use Rattle.std.specs.List.{flat_map};
+ghost use Rattle.std.specs.List.{flat_map, list_all};
+ghost use Rattle.si_text.specs.Printing.{Appends, is_plain};
 ghost use Rattle.si_text.specs.Texts.{code_text, fault_text, finding_lines, finding_text, key_text, kind_text, own_text, read_text, reading_text, reason_text, refusal_text, refused_text, report_text, summary_text, verdict_of};
 
-use crate::explaining::explanation_line;
+use crate::appending::{put, put_number, whole_or_none};
+use crate::explaining::put_explanation;
 use crate::{LineFault, Reason, Verdict};
-use itoa::Buffer;
 use serde_json::Value;
 use si_model::{Finding, Key, Kind, OutOfMemory, Refusal, TxnId};
 use std::alloc::Global;
 
 /// Appends the line of a finding. If memory is refused, the bytes are as before.
-pub fn print_finding(alloc: Global, out: &mut Vec<u8>, finding: &Finding) -> Result<(), OutOfMemory>
+pub fn print_finding(
+    _alloc: Global,
+    out: &mut Vec<u8>,
+    finding: &Finding,
+) -> Result<(), OutOfMemory>
     ensures ok { OnOk result (out.new.items ≡ out.old.items ++ finding_text finding.now) }
     ensures err { OnErr result (out.new.items ≡ out.old.items) }
 {
-    let line = finding_line(alloc, finding)?;
-    out.extend_from_slice(&line)
+    let before = out.len();
+    let appended = put_finding(out, finding);
+    whole_or_none(out, before, appended)
 }
 
 /// Appends the line of a refused item: its source, counted from 0, its line, counted from 1, and why it is refused.
 /// If memory is refused, the bytes are as before.
 pub fn print_refusal(
-    alloc: Global,
+    _alloc: Global,
     out: &mut Vec<u8>,
     source: usize,
     line: u64,
@@ -31,8 +37,9 @@ pub fn print_refusal(
         (out.new.items ≡ out.old.items ++ refused_text source line reason.now) }
     ensures err { OnErr result (out.new.items ≡ out.old.items) }
 {
-    let line = refused_line(alloc, source, line, reason)?;
-    out.extend_from_slice(&line)
+    let before = out.len();
+    let appended = put_refused(out, source, line, reason);
+    whole_or_none(out, before, appended)
 }
 
 /// Appends a report: the findings, each in its line, and the summary: how many transactions are present, how many findings
@@ -52,33 +59,22 @@ pub fn print_report(
         (out.new.items ≡ out.old.items ++ report_text explain transactions found.now refused) }
     ensures err { OnErr result (out.new.items ≡ out.old.items) }
 {
-    let verdict = Verdict::of(found);
-    let report = report_lines(alloc, transactions, found, refused, verdict, explain)?;
-    out.extend_from_slice(&report)?;
-    Ok(verdict)
+    let before = out.len();
+    let appended = put_report(alloc, out, transactions, found, refused, explain);
+    whole_or_none(out, before, appended)
 }
 
 // ---- findings
 
-fn finding_line(alloc: Global, finding: &Finding) -> Result<Vec<u8>, OutOfMemory>
-    ensures { IfOk result (λ line. line.items ≡ finding_text finding.now) }
+fn put_finding(out: &mut Vec<u8>, finding: &Finding) -> Result<(), OutOfMemory>
+    ensures { Appends result out.old.items out.new.items (finding_text finding.now) }
 {
-    let key = key_text(alloc, &finding.key)?;
-    let mut line = Vec::new(alloc);
-    put_kind(&mut line, &key, &finding.kind)?;
-    line.extend_from_slice(b"\n")?;
-    Ok(line)
+    put_kind(out, &finding.key, &finding.kind)?;
+    put(out, "\n")
 }
 
-fn key_text(alloc: Global, key: &Key) -> Result<Vec<u8>, OutOfMemory>
-    ensures { IfOk result (λ text. text.items ≡ key_text key.now) }
-{
-    let text = String::from_str(alloc, key.as_str())?;
-    Value::String(text).to_vec(alloc)
-}
-
-fn put_kind(out: &mut Vec<u8>, key: &[u8], kind: &Kind) -> Result<(), OutOfMemory>
-    ensures { OnOk result (out.new.items ≡ out.old.items ++ kind_text key.now kind.now) }
+fn put_kind(out: &mut Vec<u8>, key: &Key, kind: &Kind) -> Result<(), OutOfMemory>
+    ensures { Appends result out.old.items out.new.items (kind_text (key_text key.now) kind.now) }
 {
     match *kind {
         Kind::Unknown { txn, op, read } => {
@@ -130,19 +126,18 @@ struct Reading {
 fn put_reading(
     out: &mut Vec<u8>,
     kind: &str,
-    key: &[u8],
+    key: &Key,
     reading: Reading,
 ) -> Result<(), OutOfMemory>
-    ensures { OnOk result (out.new.items
-        ≡ out.old.items ++ reading_text kind.now key.now reading.txn reading.op reading.read) }
+    ensures { Appends result out.old.items out.new.items
+        (reading_text kind.now (key_text key.now) reading.txn reading.op reading.read) }
 {
     put_key(out, kind, key)?;
     put_number(out, " txn=", reading.txn.0)?;
     put_number(out, " op=", reading.op as u64)?;
-    out.extend_from_slice(b" read=")?;
     match reading.read {
-        None => out.extend_from_slice(b"initial"),
-        Some(value) => put_number(out, "", value.0),
+        None => put(out, " read=initial"),
+        Some(value) => put_number(out, " read=", value.0),
     }
 }
 
@@ -150,13 +145,13 @@ fn put_reading(
 fn put_source(
     out: &mut Vec<u8>,
     kind: &str,
-    key: &[u8],
+    key: &Key,
     reading: Reading,
     writer: TxnId,
 ) -> Result<(), OutOfMemory>
-    ensures { OnOk result (out.new.items ≡ out.old.items
-        ++ (reading_text kind.now key.now reading.txn reading.op reading.read
-        ++ codes " writer=" ++ decimal writer.0)) }
+    ensures { Appends result out.old.items out.new.items
+        (reading_text kind.now (key_text key.now) reading.txn reading.op reading.read
+        ++ codes " writer=" ++ decimal writer.0) }
 {
     put_reading(out, kind, key, reading)?;
     put_number(out, " writer=", writer.0)
@@ -165,13 +160,13 @@ fn put_source(
 /// A read, and the installer of the next version, which it missed.
 fn put_stale(
     out: &mut Vec<u8>,
-    key: &[u8],
+    key: &Key,
     reading: Reading,
     missed: TxnId,
 ) -> Result<(), OutOfMemory>
-    ensures { OnOk result (out.new.items ≡ out.old.items
-        ++ (reading_text (codes "stale") key.now reading.txn reading.op reading.read
-        ++ codes " missed=" ++ decimal missed.0)) }
+    ensures { Appends result out.old.items out.new.items
+        (reading_text (codes "stale") (key_text key.now) reading.txn reading.op reading.read
+        ++ codes " missed=" ++ decimal missed.0) }
 {
     put_reading(out, "stale", key, reading)?;
     put_number(out, " missed=", missed.0)
@@ -180,77 +175,92 @@ fn put_stale(
 /// A read, and the own value that it should have returned.
 fn put_own(
     out: &mut Vec<u8>,
-    key: &[u8],
+    key: &Key,
     reading: Reading,
     own: Option<si_model::Value>,
 ) -> Result<(), OutOfMemory>
-    ensures { OnOk result (out.new.items ≡ out.old.items
-        ++ (reading_text (codes "own") key.now reading.txn reading.op reading.read
-        ++ codes " own=" ++ own_text own)) }
+    ensures { Appends result out.old.items out.new.items
+        (reading_text (codes "own") (key_text key.now) reading.txn reading.op reading.read
+        ++ codes " own=" ++ own_text own) }
 {
     put_reading(out, "own", key, reading)?;
     match own {
-        None => out.extend_from_slice(b" own=later"),
+        None => put(out, " own=later"),
         Some(value) => put_number(out, " own=", value.0),
     }
 }
 
-fn put_overlap(
-    out: &mut Vec<u8>,
-    key: &[u8],
-    first: TxnId,
-    second: TxnId,
-) -> Result<(), OutOfMemory>
-    ensures { OnOk result (out.new.items ≡ out.old.items
-        ++ (codes "overlap" ++ codes " key=" ++ key.now
-        ++ codes " first=" ++ decimal first.0 ++ codes " second=" ++ decimal second.0)) }
+fn put_overlap(out: &mut Vec<u8>, key: &Key, first: TxnId, second: TxnId) -> Result<(), OutOfMemory>
+    ensures { Appends result out.old.items out.new.items
+        (codes "overlap" ++ codes " key=" ++ key_text key.now
+        ++ codes " first=" ++ decimal first.0 ++ codes " second=" ++ decimal second.0) }
 {
     put_key(out, "overlap", key)?;
     put_number(out, " first=", first.0)?;
     put_number(out, " second=", second.0)
 }
 
-/// The kind of a finding, and the text of its key.
-fn put_key(out: &mut Vec<u8>, kind: &str, key: &[u8]) -> Result<(), OutOfMemory>
-    ensures { OnOk result
-        (out.new.items ≡ out.old.items ++ (kind.now ++ codes " key=" ++ key.now)) }
+/// The kind of a finding, and its key.
+fn put_key(out: &mut Vec<u8>, kind: &str, key: &Key) -> Result<(), OutOfMemory>
+    ensures { Appends result out.old.items out.new.items
+        (kind.now ++ codes " key=" ++ key_text key.now) }
 {
-    out.extend_from_slice(kind.as_bytes())?;
-    out.extend_from_slice(b" key=")?;
-    out.extend_from_slice(key)
+    put(out, kind)?;
+    put(out, " key=")?;
+    put_json(out, key.as_str())
 }
 
-/// Appends a label and a number behind it.
-pub(crate) fn put_number(out: &mut Vec<u8>, label: &str, number: u64) -> Result<(), OutOfMemory>
-    ensures { OnOk result (out.new.items ≡ out.old.items ++ label.now ++ decimal number) }
+/// Appends a text as JSON, which is the text in quotes where no byte of it wants an escape.
+fn put_json(out: &mut Vec<u8>, text: &str) -> Result<(), OutOfMemory>
+    ensures { Appends result out.old.items out.new.items (key_text text.now) }
 {
-    let mut buffer = Buffer::new();
-    out.extend_from_slice(label.as_bytes())?;
-    out.extend_from_slice(buffer.format(number).as_bytes())
+    if is_plain(text.as_bytes()) {
+        return put_quoted(out, text);
+    }
+    let alloc = *out.allocator();
+    let text = String::from_str(alloc, text)?;
+    let json = Value::String(text).to_string(alloc)?;
+    put(out, json.as_str())
+}
+
+fn put_quoted(out: &mut Vec<u8>, text: &str) -> Result<(), OutOfMemory>
+    ensures { Appends result out.old.items out.new.items
+        (codes "\"" ++ text.now ++ codes "\"") }
+{
+    put(out, "\"")?;
+    put(out, text)?;
+    put(out, "\"")
+}
+
+/// Whether a text has no byte that JSON escapes.
+fn is_plain(text: &[u8]) -> bool
+    ensures { result ≡ list_all is_plain text.now }
+{
+    text.iter()
+        .all(|byte| *byte >= b' ' && *byte != b'"' && *byte != b'\\')
 }
 
 // ---- refused items
 
-fn refused_line(
-    alloc: Global,
+fn put_refused(
+    out: &mut Vec<u8>,
     source: usize,
     line: u64,
     reason: &Reason,
-) -> Result<Vec<u8>, OutOfMemory>
-    ensures { IfOk result (λ text. text.items ≡ refused_text source line reason.now) }
+) -> Result<(), OutOfMemory>
+    ensures { Appends result out.old.items out.new.items
+        (refused_text source line reason.now) }
 {
-    let mut text = Vec::new(alloc);
-    put_number(&mut text, "refused source=", source as u64)?;
-    put_number(&mut text, " line=", line)?;
-    put_code(&mut text, reason.code())?;
-    text.extend_from_slice(b" reason=")?;
-    put_reason(&mut text, reason)?;
-    text.extend_from_slice(b"\n")?;
-    Ok(text)
+    put_number(out, "refused source=", source as u64)?;
+    put_number(out, " line=", line)?;
+    put_code(out, reason.code())?;
+    put(out, " reason=")?;
+    put_reason(out, reason)?;
+    put(out, "\n")
 }
 
 fn put_code(out: &mut Vec<u8>, code: Option<u64>) -> Result<(), OutOfMemory>
-    ensures { OnOk result (out.new.items ≡ out.old.items ++ code_text code) }
+    ensures { Appends result out.old.items out.new.items (code_text code) }
 {
     match code {
         None => Ok(()),
@@ -259,7 +269,7 @@ fn put_code(out: &mut Vec<u8>, code: Option<u64>) -> Result<(), OutOfMemory>
 }
 
 fn put_reason(out: &mut Vec<u8>, reason: &Reason) -> Result<(), OutOfMemory>
-    ensures { OnOk result (out.new.items ≡ out.old.items ++ reason_text reason.now) }
+    ensures { Appends result out.old.items out.new.items (reason_text reason.now) }
 {
     match reason {
         Reason::Malformed(fault) => put_fault(out, fault),
@@ -268,33 +278,33 @@ fn put_reason(out: &mut Vec<u8>, reason: &Reason) -> Result<(), OutOfMemory>
 }
 
 fn put_fault(out: &mut Vec<u8>, fault: &LineFault) -> Result<(), OutOfMemory>
-    ensures { OnOk result (out.new.items ≡ out.old.items ++ fault_text fault.now) }
+    ensures { Appends result out.old.items out.new.items (fault_text fault.now) }
 {
     match fault {
-        LineFault::TooLong => out.extend_from_slice(b"too-long"),
-        LineFault::NotJson => out.extend_from_slice(b"not-json"),
-        LineFault::NotObject => out.extend_from_slice(b"not-object"),
-        LineFault::BadKind => out.extend_from_slice(b"bad-kind"),
+        LineFault::TooLong => put(out, "too-long"),
+        LineFault::NotJson => put(out, "not-json"),
+        LineFault::NotObject => put(out, "not-object"),
+        LineFault::BadKind => put(out, "bad-kind"),
         LineFault::BadField(field) => {
-            out.extend_from_slice(b"bad-field field=")?;
-            out.extend_from_slice(field.name().as_bytes())
+            put(out, "bad-field field=")?;
+            put(out, field.name())
         }
-        LineFault::BadStatus => out.extend_from_slice(b"bad-status"),
-        LineFault::TooManyOps => out.extend_from_slice(b"too-many-ops"),
+        LineFault::BadStatus => put(out, "bad-status"),
+        LineFault::TooManyOps => put(out, "too-many-ops"),
         LineFault::BadOp(index) => put_number(out, "bad-op op=", *index as u64),
-        LineFault::OutOfMemory => out.extend_from_slice(b"out-of-memory"),
+        LineFault::OutOfMemory => put(out, "out-of-memory"),
     }
 }
 
 fn put_refusal(out: &mut Vec<u8>, refusal: &Refusal) -> Result<(), OutOfMemory>
-    ensures { OnOk result (out.new.items ≡ out.old.items ++ refusal_text refusal.now) }
+    ensures { Appends result out.old.items out.new.items (refusal_text refusal.now) }
 {
     match *refusal {
-        Refusal::Full => out.extend_from_slice(b"full"),
-        Refusal::IdPresent => out.extend_from_slice(b"id-present"),
-        Refusal::NoSuch => out.extend_from_slice(b"no-such"),
-        Refusal::NotInDoubt => out.extend_from_slice(b"not-in-doubt"),
-        Refusal::StampOrder => out.extend_from_slice(b"stamp-order"),
+        Refusal::Full => put(out, "full"),
+        Refusal::IdPresent => put(out, "id-present"),
+        Refusal::NoSuch => put(out, "no-such"),
+        Refusal::NotInDoubt => put(out, "not-in-doubt"),
+        Refusal::StampOrder => put(out, "stamp-order"),
         Refusal::StampTaken { stamp, holder } => {
             put_held(out, "stamp-taken stamp=", stamp.0, holder)
         }
@@ -302,7 +312,7 @@ fn put_refusal(out: &mut Vec<u8>, refusal: &Refusal) -> Result<(), OutOfMemory>
         Refusal::ValueTaken { op, holder } => {
             put_held(out, "value-taken op=", op as u64, holder)
         }
-        Refusal::SetUpTwice => out.extend_from_slice(b"set-up-twice"),
+        Refusal::SetUpTwice => put(out, "set-up-twice"),
         Refusal::SetUpTaken { holder } => put_number(out, "set-up-taken holder=", holder.0),
         Refusal::ValueSetUp { op } => put_number(out, "value-set-up op=", op as u64),
     }
@@ -310,8 +320,8 @@ fn put_refusal(out: &mut Vec<u8>, refusal: &Refusal) -> Result<(), OutOfMemory>
 
 /// Appends a number behind its label, and who holds what is taken.
 fn put_held(out: &mut Vec<u8>, label: &str, number: u64, holder: TxnId) -> Result<(), OutOfMemory>
-    ensures { OnOk result (out.new.items ≡ out.old.items
-        ++ (label.now ++ decimal number ++ codes " holder=" ++ decimal holder.0)) }
+    ensures { Appends result out.old.items out.new.items
+        (label.now ++ decimal number ++ codes " holder=" ++ decimal holder.0) }
 {
     put_number(out, label, number)?;
     put_number(out, " holder=", holder.0)
@@ -319,66 +329,69 @@ fn put_held(out: &mut Vec<u8>, label: &str, number: u64, holder: TxnId) -> Resul
 
 // ---- reports
 
-fn report_lines(
+fn put_report(
     alloc: Global,
+    out: &mut Vec<u8>,
     transactions: usize,
-    findings: &[Finding],
+    found: &[Finding],
     refused: u64,
-    verdict: Verdict,
     explain: bool,
-) -> Result<Vec<u8>, OutOfMemory>
-    ensures { IfOk result (λ text. text.items ≡ flat_map (finding_lines explain) findings.now
-        ++ summary_text transactions (length findings.now) refused verdict) }
+) -> Result<Verdict, OutOfMemory>
+    ensures verdict { IfOk result (λ verdict. verdict ≡ verdict_of found.now) }
+    ensures text { Appends result out.old.items out.new.items
+        (report_text explain transactions found.now refused) }
 {
-    let mut text = finding_lines(alloc, findings, explain)?;
-    let summary = summary_line(alloc, transactions, findings.len(), refused, verdict)?;
-    text.extend_from_slice(&summary)?;
-    Ok(text)
+    let verdict = Verdict::of(found);
+    put_findings(alloc, out, found, explain)?;
+    put_summary(out, transactions, found.len(), refused, verdict)?;
+    Ok(verdict)
 }
 
-fn finding_lines(alloc: Global, findings: &[Finding], explain: bool) -> Result<Vec<u8>, OutOfMemory>
-    ensures { IfOk result (λ text. text.items ≡ flat_map (finding_lines explain) findings.now) }
+fn put_findings(
+    alloc: Global,
+    out: &mut Vec<u8>,
+    findings: &[Finding],
+    explain: bool,
+) -> Result<(), OutOfMemory>
+    ensures { Appends result out.old.items out.new.items
+        (flat_map (finding_lines explain) findings.now) }
 {
-    let mut text = Vec::new(alloc);
     for finding in findings {
-        put_finding(alloc, &mut text, finding, explain)?;
+        put_lines(alloc, out, finding, explain)?;
     }
-    Ok(text)
+    Ok(())
 }
 
 /// Appends the line of a finding, and of its evidence if that is asked for.
-fn put_finding(
+fn put_lines(
     alloc: Global,
     out: &mut Vec<u8>,
     finding: &Finding,
     explain: bool,
 ) -> Result<(), OutOfMemory>
-    ensures { OnOk result (out.new.items ≡ out.old.items ++ finding_lines explain finding.now) }
+    ensures { Appends result out.old.items out.new.items (finding_lines explain finding.now) }
 {
-    print_finding(alloc, out, finding)?;
+    put_finding(out, finding)?;
     if explain {
-        let line = explanation_line(alloc, finding.kind)?;
-        out.extend_from_slice(&line)?;
+        return put_explanation(alloc, out, finding.kind);
     }
     Ok(())
 }
 
-fn summary_line(
-    alloc: Global,
+fn put_summary(
+    out: &mut Vec<u8>,
     transactions: usize,
     findings: usize,
     refused: u64,
     verdict: Verdict,
-) -> Result<Vec<u8>, OutOfMemory>
-    ensures { IfOk result
-        (λ text. text.items ≡ summary_text transactions findings refused verdict) }
+) -> Result<(), OutOfMemory>
+    ensures { Appends result out.old.items out.new.items
+        (summary_text transactions findings refused verdict) }
 {
-    let mut text = Vec::new(alloc);
-    put_number(&mut text, "transactions=", transactions as u64)?;
-    put_number(&mut text, " findings=", findings as u64)?;
-    put_number(&mut text, " refused=", refused)?;
-    text.extend_from_slice(b" verdict=")?;
-    text.extend_from_slice(verdict.word().as_bytes())?;
-    text.extend_from_slice(b"\n")?;
-    Ok(text)
+    put_number(out, "transactions=", transactions as u64)?;
+    put_number(out, " findings=", findings as u64)?;
+    put_number(out, " refused=", refused)?;
+    put(out, " verdict=")?;
+    put(out, verdict.word())?;
+    put(out, "\n")
 }
