@@ -159,7 +159,7 @@ module _ (laws : ModelLaws) (P : Present) (h : IsHistory P) (form : IsWellFormed
       is = d.installed.3
 
   -- so without interference each edge but an rw edge is a start edge
-  edge_starts : (FindsInterference P → ⊥) → (e : Edge) → IsEdge P e → is_rw_edge e ≡ false → IsStartDependency P e.from e.to
+  pub edge_starts : (FindsInterference P → ⊥) → (e : Edge) → IsEdge P e → is_rw_edge e ≡ false → IsStartDependency P e.from e.to
   edge_starts none e is plain = go e.label plain is.connects
     where
       or_start : IsStartDependency P e.from e.to ⊎ FindsInterference P → IsStartDependency P e.from e.to
@@ -204,7 +204,7 @@ module _ (laws : ModelLaws) (P : Present) (h : IsHistory P) (form : IsWellFormed
       go (e ∷ es) edges deps w closed = no_loop P h w.0 (some_starts P h e es w.0 w.0 (λ f c. edge_starts none f (edges f c) (plain f.label (deps f c))) w.1)
 
   -- an rw edge to a transaction that committed before the reader started is a stale read
-  stale_found : (a b : TxnId) → IsAntiDependency P a b → IsStartDependency P b a → FindsMissedEffects P
+  pub stale_found : (a b : TxnId) → IsAntiDependency P a b → IsStartDependency P b a → FindsMissedEffects P
   stale_found a b d s = by d.returned.0 d.returned.1 d.returned.2
     where
       x : List ℕ

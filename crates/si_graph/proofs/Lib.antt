@@ -11,3 +11,6 @@ pub mod Explained
 pub mod Phenomena
 pub mod Found
 pub mod Emptiness
+pub mod SerialReads
+pub mod SerialFindings
+pub mod CommitChains

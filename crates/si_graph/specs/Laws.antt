@@ -9,7 +9,7 @@ use Rattle.si_model.specs.Findings.{IsFinding}
 use Rattle.si_model.specs.History.{IsHistory}
 use Rattle.si_model.specs.Evidence.{evidence_of}
 use Rattle.si_model.specs.Laws.{FindingsAreExact, FormIsFound, KeysAreOfHistory, PartsAreOfTransactions, AccessesAreOperations, PartsDiffer, TestsDecide}
-use Rattle.si_model.specs.Laws.{LastWriteIsFinal, OwnValueIsLast, LaterIsLater, IdIsFound, InstallIsExact, SourceIsExact, SightIsExact}
+use Rattle.si_model.specs.Laws.{LastWriteIsFinal, OwnValueIsLast, LaterIsLater, IdIsFound, InstallIsExact, NextIsExact, SourceIsExact, SightIsExact}
 use Rattle.si_graph.specs.Walks.{IsClosedWalk, AreDependencies, HasOneRw}
 use Rattle.si_graph.specs.Phenomena.{HasAbortedRead, HasIntermediateRead, HasCircularFlow, HasInterference, HasMissedEffects, IsPlSi}
 use Rattle.si_graph.specs.Shown.{Shows}
@@ -55,5 +55,6 @@ pub record ModelLaws : Type 0 where
   pub later : LaterIsLater
   pub ids : IdIsFound
   pub installs : InstallIsExact
+  pub next : NextIsExact
   pub sources : SourceIsExact
   pub sights : SightIsExact

@@ -5,4 +5,7 @@ pub mod Emptiness
 pub mod Shown
 pub mod Explanations
 pub mod Laws
+pub mod Serial
+pub mod Serializability
+pub mod SerialLaws
 pub mod EvidenceTests

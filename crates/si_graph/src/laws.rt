@@ -3,10 +3,11 @@
 
 ghost use Rattle.si_graph.specs.Emptiness.{AbortedReadsAreFound, CircularFlowInterferes, EmptinessIsExact, InterferenceIsFound, IntermediateReadsAreFound, MissedEffectsAreFound};
 ghost use Rattle.si_graph.specs.Laws.{CircularWalksHaveCycles, MissedWalksHaveCycles, ShownIsThere, NothingIsShown, ExplainedIsShown, ModelLaws};
+ghost use Rattle.si_graph.specs.SerialLaws.{SerialReadsAreClean, SerialIsClean, NoneOverlaps, FutureIsLater, CleanIsSerializable};
 
 use si_model::laws::{
     accesses_are_operations, findings_are_exact, form_is_found, id_is_found, install_is_exact,
-    keys_are_of_history, last_write_is_final, later_is_later, own_value_is_last,
+    keys_are_of_history, last_write_is_final, later_is_later, next_is_exact, own_value_is_last,
     parts_are_of_transactions, parts_differ, sight_is_exact, source_is_exact, tests_decide,
 };
 
@@ -81,6 +82,42 @@ pub fn explained_is_shown()
     model_laws();
 }
 
+/// Of a history in commit order, a read of a committed transaction has no finding exactly where it returned what the serial run
+/// in the order of commits gives it.
+pub fn serial_reads_are_clean()
+    ensures { SerialReadsAreClean }
+{
+    model_laws();
+}
+
+/// A history in commit order has no finding exactly where each of these reads did.
+pub fn serial_is_clean()
+    ensures { SerialIsClean }
+{
+    model_laws();
+}
+
+/// No finding of a history in commit order is an overlap.
+pub fn none_overlaps()
+    ensures { NoneOverlaps }
+{
+    model_laws();
+}
+
+/// In a history in commit order a read of the future is one of a transaction that commits after the reader.
+pub fn future_is_later()
+    ensures { FutureIsLater }
+{
+    model_laws();
+}
+
+/// A history in commit order without a finding has no cycle of ww, wr and rw edges, and is PL-3.
+pub fn clean_is_serializable()
+    ensures { CleanIsSerializable }
+{
+    model_laws();
+}
+
 /// The laws of `si_model` that these rest on.
 pub(crate) fn model_laws()
     ensures { ModelLaws }
@@ -97,6 +134,7 @@ pub(crate) fn model_laws()
     later_is_later();
     id_is_found();
     install_is_exact();
+    next_is_exact();
     source_is_exact();
     sight_is_exact();
 }
