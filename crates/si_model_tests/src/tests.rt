@@ -4,6 +4,7 @@
 mod arrivals;
 mod book_scripts;
 mod books;
+mod commit_order;
 mod devices;
 mod evidence;
 mod findings;
