@@ -12,5 +12,7 @@ pub mod Phenomena
 pub mod Found
 pub mod Emptiness
 pub mod SerialReads
+pub mod SerialRuns
+pub mod SortedRuns
 pub mod SerialFindings
 pub mod CommitChains

@@ -6,6 +6,7 @@ pub mod Shown
 pub mod Explanations
 pub mod Laws
 pub mod Serial
+pub mod SerialRuns
 pub mod Serializability
 pub mod SerialLaws
 pub mod EvidenceTests

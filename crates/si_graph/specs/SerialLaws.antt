@@ -15,6 +15,7 @@ use Rattle.si_graph.specs.Edges.{IsNode}
 use Rattle.si_graph.specs.Walks.{IsCycle}
 use Rattle.si_graph.specs.Emptiness.{HasFinding}
 use Rattle.si_graph.specs.Serial.{Commits, ReadsAt, IsInCommitOrder, Gives, IsSerial}
+use Rattle.si_graph.specs.SerialRuns.{AreInOrder, IsRun}
 use Rattle.si_graph.specs.Serializability.{AreConflicts, IsPl3}
 
 -- the kind is of the read that is the operation i of the transaction u
@@ -36,6 +37,14 @@ SerialReadsAreClean = (P : Present) (T : Txn) (c : Stamp) (i : ℕ) (x : List �
 -- and it has no finding at all exactly where each of these reads did
 abbrev pub SerialIsClean : Type 0
 SerialIsClean = (P : Present) → IsHistory P → IsInCommitOrder P → (findings P ≡ []) ↔ IsSerial P
+
+-- these reads did exactly where the committed transactions run one after another in that order, in whatever order the starts are
+abbrev pub RunsAreSerial : Type 0
+RunsAreSerial = (P : Present) (run : List Txn) → IsHistory P → AreInOrder P run → IsRun P run ↔ IsSerial P
+
+-- so a history in commit order has no finding exactly where its committed transactions run one after another in that order
+abbrev pub CleanIsARun : Type 0
+CleanIsARun = (P : Present) → IsHistory P → IsInCommitOrder P → (findings P ≡ []) ↔ ((run : List Txn) × AreInOrder P run × IsRun P run)
 
 -- no finding of it is an overlap
 abbrev pub NoneOverlaps : Type 0

@@ -3,7 +3,7 @@
 
 ghost use Rattle.si_graph.specs.Emptiness.{AbortedReadsAreFound, CircularFlowInterferes, EmptinessIsExact, InterferenceIsFound, IntermediateReadsAreFound, MissedEffectsAreFound};
 ghost use Rattle.si_graph.specs.Laws.{CircularWalksHaveCycles, MissedWalksHaveCycles, ShownIsThere, NothingIsShown, ExplainedIsShown, ModelLaws};
-ghost use Rattle.si_graph.specs.SerialLaws.{SerialReadsAreClean, SerialIsClean, NoneOverlaps, FutureIsLater, CleanIsSerializable};
+ghost use Rattle.si_graph.specs.SerialLaws.{SerialReadsAreClean, SerialIsClean, RunsAreSerial, CleanIsARun, NoneOverlaps, FutureIsLater, CleanIsSerializable};
 
 use si_model::laws::{
     accesses_are_operations, findings_are_exact, form_is_found, id_is_found, install_is_exact,
@@ -93,6 +93,20 @@ pub fn serial_reads_are_clean()
 /// A history in commit order has no finding exactly where each of these reads did.
 pub fn serial_is_clean()
     ensures { SerialIsClean }
+{
+    model_laws();
+}
+
+/// Each of these reads did exactly where the committed transactions run one after another in the order of their commits.
+pub fn runs_are_serial()
+    ensures { RunsAreSerial }
+{
+    model_laws();
+}
+
+/// So a history in commit order has no finding exactly where its committed transactions run one after another in that order.
+pub fn clean_is_a_run()
+    ensures { CleanIsARun }
 {
     model_laws();
 }
