@@ -2,8 +2,9 @@
 //! and the evidence that a finding stands for one of them.
 //!
 //! It carries the promise that each finding that breaks snapshot isolation is explained by an evidence, that an evidence is
-//! checked by itself and without memory, and that a checked one is a phenomenon. It stands on `si_model` and `thiserror`,
-//! and its proofs on `si_lists`.
+//! checked by itself and without memory, and that a checked one is a phenomenon; and that a history in commit order has none
+//! exactly where its committed transactions run one after another in that order. It stands on `si_model` and `thiserror`, and
+//! its proofs on `si_lists`.
 #![tactic(auto)]
 
 pub mod checks;
