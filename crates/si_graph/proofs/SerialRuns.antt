@@ -56,7 +56,7 @@ runs_held s (p ∷ ps) = let rest = runs_held (after_op s p) ps in (to rest.0, �
     to rest r zero x v e = of_first p r.0 x v (same_some e)
     to rest r (suc i) x v e = rest r.1 i x v e
 
--- the operation j writes v to x, and none after it and before i writes to x
+-- of the operations before i, the last that writes x writes v
 record IsLastIn (ps : List Op) (i : ℕ) (x : List ℕ) (v : Value) : Type 0 where
   place : ℕ
   before : place < i

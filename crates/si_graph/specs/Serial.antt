@@ -1,6 +1,6 @@
--- Histories in commit order, and the serial run of their committed transactions in the order of their commit stamps. Nothing here
--- speaks of snapshots, versions or findings. A serial execution is a notion of Adya's thesis, chapter 2; that its order is that of
--- the commit stamps, and that stamps tell a history in commit order, is this project's choice.
+-- Histories in commit order, and what the serial run of their committed transactions in the order of their commit stamps gives each
+-- read. Nothing here speaks of snapshots, versions or findings. `SerialRuns` has the run itself, operation by operation. That the run is
+-- in the order of commit stamps, and that stamps tell a history in commit order, is this project's choice.
 use Rattle.std.specs.Prelude.{◌≡◌, ◌≢◌, ◌⊎◌, ℕ, ◌<◌, ◌≤◌, List, Some, Option, slice_get}
 use Rattle.std.specs.List.{Contains}
 use Rattle.si_model.specs.declared.numbers.Stamp.{Stamp}

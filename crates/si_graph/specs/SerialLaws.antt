@@ -34,11 +34,11 @@ abbrev pub SerialReadsAreClean : Type 0
 SerialReadsAreClean = (P : Present) (T : Txn) (c : Stamp) (i : ℕ) (x : List ℕ) (v : Option Value) → IsHistory P → IsInCommitOrder P
     → Commits P T c → ReadsAt T i x v → ((f : Finding) → IsFinding P f → IsOfReadAt T.id i f.kind → ⊥) ↔ Gives P T c i x v
 
--- and it has no finding at all exactly where each of these reads did
+-- it has no finding at all exactly where each read of a committed transaction returned what the serial run gives it
 abbrev pub SerialIsClean : Type 0
 SerialIsClean = (P : Present) → IsHistory P → IsInCommitOrder P → (findings P ≡ []) ↔ IsSerial P
 
--- these reads did exactly where the committed transactions run one after another in that order, in whatever order the starts are
+-- of any history: each of these reads returned that exactly where the committed transactions run one after another in that order
 abbrev pub RunsAreSerial : Type 0
 RunsAreSerial = (P : Present) (run : List Txn) → IsHistory P → AreInOrder P run → IsRun P run ↔ IsSerial P
 

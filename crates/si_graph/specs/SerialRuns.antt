@@ -1,5 +1,5 @@
--- The serial run as a run: what each key holds, and operations that read and change it, one after another. It says the same as
--- `Serial`, by a law. All of it is this project's choice.
+-- The serial run itself: what each key holds, and the operations of the committed transactions, one transaction after another, which
+-- read and change it. A law says that it gives each read what `Serial` says. All of it is this project's choice.
 use Rattle.std.specs.Prelude.{◌≡◌, ◌≢◌, ℕ, ◌≤◌, if◌then◌else◌, List, [], ◌∷◌, Some, Option, ⊤}
 use Rattle.std.specs.List.{Contains, AllPairs, flat_map}
 use Rattle.si_model.specs.declared.numbers.Stamp.{Stamp}

@@ -90,14 +90,15 @@ pub fn serial_reads_are_clean()
     model_laws();
 }
 
-/// A history in commit order has no finding exactly where each of these reads did.
+/// A history in commit order has no finding exactly where each read of a committed transaction returned what the serial run gives it.
 pub fn serial_is_clean()
     ensures { SerialIsClean }
 {
     model_laws();
 }
 
-/// Each of these reads did exactly where the committed transactions run one after another in the order of their commits.
+/// Of any history, each of these reads returned that exactly where the committed transactions run one after another in the order of
+/// their commits.
 pub fn runs_are_serial()
     ensures { RunsAreSerial }
 {
