@@ -137,8 +137,7 @@ impl<N: Name> Checker<N> {
 
     /// Sleeps so long, or until the checker was closed or a caller waits for the workers.
     fn rest<R: Wait>(&self, rt: &R, micros: u64) {
-        self.idle
-            .park_timeout(rt, 0, Duration::from_micros(micros));
+        self.idle.park_timeout(rt, 0, Duration::from_micros(micros));
     }
 
     /// Waits until the workers have applied nearly all that was issued, or don't come further: so a report leaves to them, side by side,
