@@ -1,0 +1,108 @@
+"""The commands of the package: `python3 -m sicheck json|count|page|in-commit-order`."""
+import argparse
+import os
+import signal
+import sys
+from typing import Iterable, Iterator, List, Optional
+
+from .faults import CheckFailed
+from .places import Files
+from .reports import Report, reports_in
+
+NAME = "python3 -m sicheck"
+
+
+def parser() -> argparse.ArgumentParser:
+    """The command line."""
+    words = argparse.ArgumentParser(prog=NAME, description="Reads what `sicheck check` wrote, and logs.",
+                                    epilog="The check itself is the program's: `sicheck check --help`. docs/LOGGING.md tells more.")
+    commands = words.add_subparsers(dest="command", required=True, metavar="COMMAND")
+    told = commands.add_parser("json", help="an answer as a line of JSON for each finding, refused line and summary",
+                               description="Reads an answer on standard input, and writes a line of JSON for each finding, each refused line "
+                                           "and each summary, with the file and line of each transaction that they name where LOG is given.")
+    told.add_argument("logs", metavar="LOG", nargs="*", help="the files of the log, in the order of the check")
+    told.add_argument("--last", action="store_true", help="only the last report, and all refused lines")
+    counted = commands.add_parser("count", help="how many findings an answer has by kind and key",
+                                  description="Reads an answer on standard input, and counts the findings of its last report: a line for each "
+                                              "kind, one for each kind and key, and the summary.")
+    counted.add_argument("--kinds", action="store_true", help="by kind alone")
+    commands.add_parser("page", add_help=False, help="a page for a browser that shows the findings of an answer beside the log")
+    ordered = commands.add_parser("in-commit-order", help="a log of snapshots as one in commit order",
+                                  description="Turns a finished log of snapshots, of the files or of standard input, into one in commit order.")
+    ordered.add_argument("logs", metavar="LOG", nargs="*", help="the files of the log")
+    return words
+
+
+def print_all(lines: Iterable[str]) -> None:
+    for line in lines:
+        sys.stdout.buffer.write((line + "\n").encode("utf-8"))
+    sys.stdout.flush()
+
+
+def as_json(logs: List[str], only_last: bool) -> Iterator[str]:
+    """The answer on standard input as lines of JSON."""
+    from .telling import json_lines
+    files = Files(logs) if logs else None
+    before: Optional[Report] = None
+    number, refused = 0, 0
+    for report in reports_in(sys.stdin.buffer.read(), files):
+        if before is not None and not only_last:
+            yield from json_lines(number, before, refused, files, False)
+            refused = len(before.refusals)
+        before, number = report, number + 1
+    if before is not None:
+        yield from json_lines(number, before, refused, files, True)
+
+
+def counts(only_kinds: bool) -> Iterator[str]:
+    """The counts of the answer on standard input."""
+    from .telling import count_lines
+    last = None
+    for last in reports_in(sys.stdin.buffer.read()):
+        pass
+    if last is not None:
+        yield from count_lines(last, not only_kinds)
+        yield f"transactions={last.transactions} findings={last.found} refused={last.refused} verdict={last.verdict}"
+
+
+def in_order(names: List[str]) -> None:
+    """Writes the log in commit order, as it is read."""
+    from .commit_order import in_commit_order
+
+    def lines() -> Iterator[bytes]:
+        if not names:
+            yield from sys.stdin.buffer
+        for name in names:
+            with open(name, "rb") as file:
+                yield from file
+    for line in in_commit_order(lines()):
+        sys.stdout.buffer.write(line)
+    sys.stdout.flush()
+
+
+def main(words: List[str]) -> int:
+    """Does what the words ask for, and returns the status: 0, or 2 where it couldn't be done; a page has statuses of its own."""
+    if words[:1] == ["page"]:
+        from .page.command import main as page
+        page(words[1:], f"{NAME} page")
+    signal.signal(signal.SIGPIPE, signal.SIG_DFL)  # as for other commands in a pipe, whose reader may end early
+    chosen = parser().parse_args(words)
+    try:
+        if chosen.command == "json":
+            missing = [name for name in chosen.logs if not os.path.exists(name)]
+            if missing:
+                raise FileNotFoundError(2, "No such file or directory", missing[0])
+            print_all(as_json(chosen.logs, chosen.last))
+        elif chosen.command == "count":
+            print_all(counts(chosen.kinds))
+        else:
+            in_order(chosen.logs)
+    except (CheckFailed, OSError) as fault:
+        what = f"cannot read {fault.filename}: {fault.strerror}" if isinstance(fault, OSError) and fault.filename else str(fault)
+        sys.stderr.write(f"sicheck {chosen.command}: {what}\n")
+        return 2
+    return 0
+
+
+if __name__ == "__main__":
+    sys.exit(main(sys.argv[1:]))

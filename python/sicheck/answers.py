@@ -1,0 +1,227 @@
+"""An answer of `sicheck check`: its refused lines, and the findings and the summary of its last report."""
+import json
+import re
+from typing import NamedTuple, Optional, Union
+
+from .log_lines import Place
+
+UNKNOWN, DOUBT, OWN, ABORTED_READ, INTERMEDIATE, FUTURE, STALE, OVERLAP = range(1, 9)
+KINDS = {UNKNOWN: "unknown", DOUBT: "doubt", OWN: "own", ABORTED_READ: "aborted", INTERMEDIATE: "intermediate",
+         FUTURE: "future", STALE: "stale", OVERLAP: "overlap"}
+NUMBERS = {word: number for number, word in KINDS.items()}
+# The last field of a read's finding, by its kind; `unknown` has none.
+FIELDS = {DOUBT: "writer", OWN: "own", ABORTED_READ: "writer", INTERMEDIATE: "writer", FUTURE: "writer", STALE: "missed"}
+LATER = "later"
+FORM = (UNKNOWN, DOUBT, OWN)  # kinds without evidence
+
+
+class AnswerFault(Exception):
+    """The text is no whole answer."""
+
+
+class Finding(NamedTuple):
+    """A finding with the fields of its line. Of an overlap `first` and `second` are the transactions; of a read `first` is
+    the reader and `second` the operation, and `detail` is the writer, the own value or the missed writer."""
+    kind: int
+    key: str
+    first: int
+    second: int
+    read: Optional[int] = None
+    detail: Union[int, str, None] = None
+
+    def order(self):
+        return self.key.encode("utf-8"), self.kind, self.first, self.second
+
+    def text(self):
+        """The line of the finding."""
+        head = f"{KINDS[self.kind]} key={json_text(self.key)} "
+        if self.kind == OVERLAP:
+            return f"{head}first={self.first} second={self.second}"
+        read = "initial" if self.read is None else self.read
+        tail = f" {FIELDS[self.kind]}={self.detail}" if self.kind in FIELDS else ""
+        return f"{head}txn={self.first} op={self.second} read={read}{tail}"
+
+    def evidence(self):
+        """The line of its evidence, or None for a kind that has none."""
+        reader, place, other = self.first, self.second, self.detail
+        if self.kind in FORM:
+            return None
+        return {ABORTED_READ: f"  G1a reader={reader} op={place} writer={other}",
+                INTERMEDIATE: f"  G1b reader={reader} op={place} writer={other}",
+                FUTURE: f"  G-SI(a) {other}-wr->{reader}",
+                STALE: f"  G-SI(b) {reader}-rw->{other} {other}-st->{reader}",
+                OVERLAP: f"  G-SI(a) {self.first}-ww->{self.second}"}[self.kind]
+
+    def names(self):
+        """The ids of the transactions that the line names."""
+        if self.kind == OVERLAP:
+            return [self.first, self.second]
+        return [self.first, self.detail] if self.kind in FIELDS and self.kind != OWN else [self.first]
+
+
+class Refusal(NamedTuple):
+    """A refused line: where it stands, its code, and its reason with the details as they are written."""
+    place: Place
+    code: int
+    reason: str
+
+
+class Summary(NamedTuple):
+    transactions: int
+    findings: int
+    refused: int
+    verdict: str
+
+
+class Shortage(NamedTuple):
+    """What the run is short of what was expected: committed transactions, or settled ones. Of those in doubt at most 20 ids are told."""
+    committed: int
+    expected: int
+    in_doubt: int
+    ids: list
+
+
+class Answer(NamedTuple):
+    """What an answer says at its end. `lines` are the numbers of the findings' lines in it."""
+    refusals: dict
+    findings: list
+    lines: list
+    summary: Summary
+    is_explained: bool
+    shortage: Optional[Shortage] = None
+
+
+SUMMARY = re.compile(r"transactions=(\d+) findings=(\d+) refused=(\d+) verdict=(clean|open|violation)")
+SHORT = re.compile(r"short committed=(\d+) expected=(\d+) indoubt=(\d+)(?: ids=(\d+(?:,\d+)*))?")
+# What a report on the way says is there no more.
+GONE = "gone "
+REFUSAL = re.compile(r"refused source=(\d+) line=(\d+) code=(\d+) reason=(.+)")
+HEAD = re.compile(r"(\w+) key=")
+FIELD = re.compile(r" (\w+)=(\w+)")
+READER = json.JSONDecoder()
+
+
+def json_text(text):
+    """The text in JSON, as the program writes keys: characters that needn't be escaped stand as they are."""
+    return json.dumps(text, ensure_ascii=False)
+
+
+def finding_of(line):
+    """The finding that the line tells, or None where it is no line of a finding."""
+    head = HEAD.match(line)
+    if head is None or head[1] not in NUMBERS:
+        return None
+    try:
+        key, end = READER.raw_decode(line, head.end())
+        fields = {name: value for name, value in FIELD.findall(line, end)}
+        finding = finding_with(NUMBERS[head[1]], key, fields)
+        return finding if type(key) is str and finding.text() == line else None
+    except (ValueError, KeyError, AttributeError):
+        return None
+
+
+def finding_with(kind, key, fields):
+    if kind == OVERLAP:
+        return Finding(kind, key, int(fields["first"]), int(fields["second"]))
+    read = None if fields["read"] == "initial" else int(fields["read"])
+    detail = fields[FIELDS[kind]] if kind in FIELDS else None
+    if detail not in (None, LATER):
+        detail = int(detail)
+    return Finding(kind, key, int(fields["txn"]), int(fields["op"]), read, detail)
+
+
+def refusal_of(line):
+    parts = REFUSAL.fullmatch(line)
+    return parts and Refusal(Place(int(parts[1]), int(parts[2])), int(parts[3]), parts[4])
+
+
+def shortage_of(line):
+    parts = SHORT.fullmatch(line)
+    ids = [int(id) for id in parts[4].split(",")] if parts and parts[4] else []
+    return parts and Shortage(int(parts[1]), int(parts[2]), int(parts[3]), ids)
+
+
+def summary_of(line):
+    parts = SUMMARY.fullmatch(line)
+    return parts and Summary(int(parts[1]), int(parts[2]), int(parts[3]), parts[4])
+
+
+def refusals_in(lines):
+    """The refused lines by their places, of the whole answer; reports before the last one are passed over."""
+    refusals = {}
+    for number, line in enumerate(lines, 1):
+        refusal = refusal_of(line)
+        if refusal:
+            if refusal.place in refusals:
+                raise AnswerFault(f"line {number} of the answer refuses a line that was refused before it")
+            refusals[refusal.place] = refusal
+        elif not (line.startswith("  G") or HEAD.match(line.removeprefix(GONE)) or SUMMARY.fullmatch(line) or SHORT.fullmatch(line)):
+            raise AnswerFault(f"line {number} of the answer is none that `sicheck check` writes")
+    return refusals
+
+
+def last_report(lines):
+    """The place of the first line of the last report: behind the summary or the refused line before it."""
+    place = len(lines) - 1
+    while place > 0 and not (summary_of(lines[place - 1]) or refusal_of(lines[place - 1])):
+        place -= 1
+    return place
+
+
+def report_of(lines, begins):
+    """The findings of the last report, the numbers of their lines, and how many of them are explained."""
+    findings, numbers, explained = [], [], 0
+    for place in range(begins, len(lines) - 1):
+        line = lines[place]
+        if line.startswith("  "):
+            if not findings or numbers[-1] != place or line != findings[-1].evidence():
+                raise AnswerFault(f"line {place + 1} of the answer isn't the evidence of the finding before it")
+            explained += 1
+            continue
+        finding = finding_of(line)
+        if finding is None:
+            raise AnswerFault(f"line {place + 1} of the answer is no finding")
+        findings.append(finding)
+        numbers.append(place + 1)
+    return findings, numbers, explained
+
+
+def verdict_of(findings):
+    if not findings:
+        return "clean"
+    return "violation" if any(finding.kind >= OWN for finding in findings) else "open"
+
+
+def check_report(answer, explained):
+    """Whether the summary counts what stands before it. An answer that lost lines doesn't keep this."""
+    summary = answer.summary
+    told = summary.findings, summary.refused, summary.verdict
+    counted = len(answer.findings), len(answer.refusals), verdict_of(answer.findings)
+    if told != counted:
+        raise AnswerFault("the last line of the answer says findings={} refused={} verdict={}, and the lines before it "
+                          "are findings={} refused={} verdict={}: lines are missing".format(*told, *counted))
+    orders = [finding.order() for finding in answer.findings]
+    if any(next_one <= one for one, next_one in zip(orders, orders[1:])):
+        raise AnswerFault("the findings of the last report aren't in their order: the answer was changed")
+    if explained not in (0, sum(finding.kind not in FORM for finding in answer.findings)):
+        raise AnswerFault("some findings of the last report have their evidence and some don't: lines are missing")
+
+
+def answer_of(data):
+    """The answer that the bytes are."""
+    try:
+        text = data.decode("utf-8")
+    except UnicodeDecodeError:
+        raise AnswerFault("the answer isn't UTF-8") from None
+    # Keys may hold characters at which `splitlines` would part a line, so lines end at line feeds alone.
+    lines = [line.removesuffix("\r") for line in text.removesuffix("\n").split("\n")]
+    summary = summary_of(lines[-1])
+    if summary is None:
+        raise AnswerFault("the answer has no report at its end: the run broke off, or its text was cut")
+    shortage = shortage_of(lines[-2]) if len(lines) > 1 else None
+    # The line of a shortage stands right before the summary.
+    report = lines[:-2] + lines[-1:] if shortage else lines
+    findings, numbers, explained = report_of(report, last_report(report))
+    answer = Answer(refusals_in(lines), findings, numbers, summary, explained > 0, shortage)
+    check_report(answer, explained)
+    return answer

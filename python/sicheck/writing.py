@@ -1,0 +1,124 @@
+"""Lines that don't mix: each is one write, or stands under a lock."""
+import fcntl
+import io
+import os
+import stat
+import threading
+from typing import Any, Dict, Set, Tuple, Union
+
+ONE_WRITE = 4_096  # so many bytes a pipe takes at once, whoever else writes to it
+
+Target = Union[str, "os.PathLike[str]", Any]
+
+# The files that this process has open for its logs: how many logs write to each, the lock of each, and which of them end within a line.
+_open_files: Dict[Tuple[int, int], int] = {}
+_locks: Dict[Tuple[int, int], threading.Lock] = {}
+_torn: Set[Tuple[int, int]] = set()
+_guard = threading.Lock()
+_others = threading.Lock()  # for what has no descriptor
+
+
+def _forget() -> None:
+    """A child that was forked while a lock was held would wait for it for ever."""
+    global _guard, _others
+    _guard, _others = threading.Lock(), threading.Lock()
+    _locks.clear()
+    _open_files.clear()
+
+
+os.register_at_fork(after_in_child=_forget)
+
+
+class LineWriter:
+    """Writes whole lines to a path, or to a file that is open. Writers of one file in one process take turns. To a pipe a line of at most
+    4,096 bytes is one write, which no other mixes with; a longer one is written while the writers of other processes wait, which have
+    opened the pipe by its name. (What a process has inherited open it shares, and its lock too.)"""
+
+    def __init__(self, target: Target) -> None:
+        self._file: Any = None
+        self._own = isinstance(target, (str, os.PathLike))
+        if isinstance(target, (str, os.PathLike)):
+            self._fd = os.open(target, os.O_WRONLY | os.O_APPEND | os.O_CREAT | os.O_CLOEXEC, 0o666)
+        else:
+            self._file, self._fd = target, _descriptor_of(target)
+        self._is_pipe, self._is_closed = False, False
+        if self._fd >= 0:
+            found = os.fstat(self._fd)
+            self._is_pipe = stat.S_ISFIFO(found.st_mode)
+            self._key = found.st_dev, found.st_ino
+            with _guard:
+                _open_files[self._key] = _open_files.get(self._key, 0) + 1
+
+    def write(self, line: bytes) -> None:
+        """Writes the line, which ends with its line feed. Where it can't, the error says so; a line that was cut off is closed before
+        the next one, so that this stands alone."""
+        if self._is_closed:
+            raise ValueError("the log is closed")
+        if self._fd < 0:
+            with _others:
+                self._file.write(line.decode("utf-8") if isinstance(self._file, io.TextIOBase) else line)
+                self._file.flush()
+            return
+        with _guard:
+            lock = _locks.setdefault(self._key, threading.Lock())
+        with lock:
+            if self._file is not None:
+                self._file.flush()
+            self._write_in_turn(b"\n" + line if self._key in _torn else line)
+
+    def _write_in_turn(self, line: bytes) -> None:
+        if not self._is_pipe:
+            self._write_all(line)
+            return
+        fcntl.flock(self._fd, fcntl.LOCK_SH if len(line) <= ONE_WRITE else fcntl.LOCK_EX)
+        try:
+            self._write_all(line)
+        finally:
+            fcntl.flock(self._fd, fcntl.LOCK_UN)
+
+    def _write_all(self, line: bytes) -> None:
+        left = memoryview(line)
+        while left:
+            try:
+                left = left[os.write(self._fd, left):]
+            except OSError:
+                if len(left) < len(line):
+                    _torn.add(self._key)
+                raise
+        _torn.discard(self._key)
+
+    def end_line(self) -> None:
+        """The file ends within a line, which the next line has to close first."""
+        _torn.add(self._key)
+
+    def close(self) -> None:
+        """Ends the writing; a file that was given stays open."""
+        if self._is_closed:
+            return
+        self._is_closed = True
+        if self._fd >= 0:
+            with _guard:
+                left = _open_files.get(self._key, 1) - 1
+                _open_files[self._key] = left
+                if left <= 0:
+                    del _open_files[self._key]
+                    _torn.discard(self._key)
+        if self._own:
+            os.close(self._fd)
+
+
+def _descriptor_of(file: Any) -> int:
+    """The descriptor of an open file, or -1 where it has none, as one in memory."""
+    try:
+        return int(file.fileno())
+    except (AttributeError, OSError):
+        return -1
+
+
+def is_open_here(path: Target) -> bool:
+    """Whether a log of this process writes to the file already."""
+    try:
+        found = os.stat(path)
+    except OSError:
+        return False
+    return _open_files.get((found.st_dev, found.st_ino), 0) > 0

@@ -1,0 +1,380 @@
+"""The package against the program: clients by chance over a small database, healthy and faulty, and a client that is killed."""
+import json
+import os
+import random
+import signal
+import sqlite3
+import subprocess
+import sys
+import tempfile
+import threading
+import time
+import unittest
+from pathlib import Path
+
+import sicheck
+from sicheck import CheckFailed, FilePlace, Undecided, Violation
+from small_database import Database, logs_in, run_client, run_clients, stamp_by_rows
+
+TOP = Path(__file__).resolve().parents[3]
+
+
+class FolderTest(unittest.TestCase):
+    def setUp(self):
+        folder = tempfile.TemporaryDirectory()
+        self.addCleanup(folder.cleanup)
+        self.folder = folder.name
+
+    def logs(self, count, **options):
+        logs = logs_in(self.folder, count, **options)
+        for log in logs:
+            self.addCleanup(log.close)
+        return logs
+
+    def paths(self, count):
+        return [f"{self.folder}/client-{number}.jsonl" for number in range(1, count + 1)]
+
+    def write(self, name, text):
+        path = os.path.join(self.folder, name)
+        Path(path).write_text(text, encoding="utf-8")
+        return path
+
+
+class Checks(FolderTest):
+    def test_sample(self):
+        name = str(TOP / "samples" / "set_up.jsonl")
+        report = sicheck.check(name, explain=True)
+        finding, = report.findings
+        self.assertEqual((report.verdict, report.status, report.transactions, report.refused), ("violation", 20, 3, 0))
+        self.assertEqual((finding.kind, finding.evidence), ("stale", "G-SI(b) 4-rw->3 3-st->4"))
+        self.assertEqual(finding.places, {4: (FilePlace(name, 4),), 3: (FilePlace(name, 3),)})
+        with self.assertRaisesRegex(Violation, "set_up.jsonl:4"):
+            report.assert_passed()
+
+    def test_places_of_several_files(self):
+        """1 is in doubt in one file and resolved there, and 2 is in the other one, behind a line that is refused."""
+        first = self.write("one", '{"do":"txn","id":1,"start":2,"status":"indoubt","ops":[["w","x",1]]}\n\n'
+                                  '{"do":"resolve","id":1,"status":"committed","commit":3}\n')
+        second = self.write("two", '[]\n{"do":"txn","\\u0069d":2,"start":2,"status":"committed","commit":5,"ops":[["w","x",2]]}\n')
+        report = sicheck.check([first, second])
+        self.assertEqual(report.findings[0].places, {1: (FilePlace(first, 1), FilePlace(first, 3)), 2: (FilePlace(second, 2),)})
+        self.assertEqual([(it.reason, it.place) for it in report.refusals], [("not-object", FilePlace(second, 1))])
+
+    def test_more_files_than_the_program_takes(self):
+        """Ten files, of which each has one good line and then one that is refused."""
+        names = [self.write(f"f{n}", f'{{"do":"txn","id":{n},"start":0,"status":"committed","commit":{2 * n + 1},"ops":[["w","x",{n}]]}}\n[]')
+                 for n in range(10)]
+        report = sicheck.check(names)
+        self.assertEqual((report.transactions, report.refused), (10, 10))
+        self.assertEqual({it.place for it in report.refusals}, {FilePlace(name, 2) for name in names})
+        self.assertEqual(report.counts(), {"overlap": {"x": 9}})
+
+    def test_lines_of_the_caller(self):
+        line = {"do": "txn", "id": 1, "start": 2, "status": "committed", "commit": 2, "ops": [["r", "é", None]]}
+        report = sicheck.check(lines=[line, json.dumps({**line, "id": 2}), (json.dumps({**line, "id": 3}) + "\n").encode()])
+        self.assertEqual((report.transactions, report.status), (3, 0))
+        self.assertEqual(sicheck.check(lines=[]).transactions, 0)
+
+    def test_lines_that_fail(self):
+        def broken():
+            yield '{"do":"withdraw","id":1}'
+            raise KeyError("mine")
+        with self.assertRaisesRegex(KeyError, "mine"):
+            sicheck.check(lines=broken())
+
+    def test_reports_on_the_way(self):
+        """As samples/nearer_version.out has them: after three lines, and at the end."""
+        first, second = sicheck.watch(TOP / "samples" / "nearer_version.jsonl", every=3)
+        self.assertEqual([str(it) for it in first.new], ['stale key="x" txn=3 op=0 read=64 missed=2', 'overlap key="x" first=1 second=2'])
+        self.assertEqual([str(it) for it in second.new], ['stale key="x" txn=3 op=0 read=64 missed=4', 'overlap key="x" first=4 second=2'])
+        self.assertEqual(second.gone, first.findings)
+
+    def test_what_cannot_be_checked(self):
+        missing = os.path.join(self.folder, "missing")
+        for call, words in ((lambda: sicheck.check(missing), "cannot open source 0"),
+                            (lambda: sicheck.check(self.folder), "cannot read source 0"),
+                            (lambda: sicheck.check(missing, shards=17), "--shards"),
+                            (lambda: sicheck.check(missing, program=missing), "cannot run .*: No such file"),
+                            (lambda: sicheck.check(missing, program="/bin/true"), "no report at its end"),
+                            (lambda: sicheck.check(missing, program="/bin/echo"), "none that `sicheck check` writes")):
+            with self.assertRaisesRegex(CheckFailed, words):
+                call()
+        for call in (lambda: sicheck.check(), lambda: sicheck.check(missing, lines=[])):
+            with self.assertRaises(TypeError):
+                call()
+
+    def test_a_program_that_lies(self):
+        """One whose status isn't that of its report, one that dies, and one that breaks off in a line with a fault."""
+        for script, words in (("echo 'transactions=0 findings=0 refused=0 verdict=clean'; exit 20", "its last report asks for 0"),
+                              ("kill -9 $$", "ended by the signal 9: it said nothing"),
+                              ("printf 'overlap key='; echo 'sicheck: cannot write' >&2; exit 2", "status 2: sicheck: cannot write")):
+            path = self.write("program", f"#!/bin/sh\n{script}\n")
+            os.chmod(path, 0o755)
+            with self.subTest(script), self.assertRaisesRegex(CheckFailed, words):
+                sicheck.check("any", program=path)
+
+    def test_names_like_options(self):
+        before = os.getcwd()
+        os.chdir(self.folder)
+        try:
+            self.write("--every", "")
+            self.assertEqual(sicheck.check("--every", program=TOP / "sicheck").transactions, 0)
+        finally:
+            os.chdir(before)
+
+
+class Clients(FolderTest):
+    """Clients by chance. What they log of a healthy database is clean, and of a faulty one not."""
+
+    def test_healthy(self):
+        for seed in range(3):
+            with self.subTest(seed), tempfile.TemporaryDirectory() as folder:
+                logs = logs_in(folder, 8)
+                run_clients(Database(), logs, 60, keys=3 + seed, pause=0.0005)
+                report = sicheck.check([f"{folder}/client-{number}.jsonl" for number in range(1, 9)]).assert_passed()
+                self.assertGreater(report.transactions, 480)  # with the rolled-back parts
+
+    def test_lost_updates(self):
+        run_clients(Database("lost"), self.logs(4), 100, keys=2, pause=0.0005)
+        report = sicheck.check(self.paths(4))
+        self.assertEqual((report.verdict, report.refused), ("violation", 0))
+        self.assertEqual(set(report.counts()), {"overlap"})
+
+    def test_reads_of_the_newest(self):
+        run_clients(Database("newest"), self.logs(4), 100, keys=2, pause=0.0005)
+        report = sicheck.check(self.paths(4))
+        self.assertEqual((report.verdict, report.refused), ("violation", 0))
+        self.assertIn("future", report.counts())
+
+    def test_in_commit_order(self):
+        """One client at a time is its own serial run, judged by the numbers of its commits alone."""
+        log = sicheck.Log(f"{self.folder}/log", client=1, stamps=sicheck.COMMIT_ORDER)
+        self.addCleanup(log.close)
+        run_client(Database(), log, 5, 200)
+        report = sicheck.check(f"{self.folder}/log").assert_passed()
+        self.assertGreater(report.transactions, 200)
+
+    def test_numbers_by_snapshots(self):
+        """No stamps but a row for each client: healthy it is clean, and lost updates are found."""
+        for fault, verdict in ((None, "clean"), ("lost", "violation")):
+            with tempfile.TemporaryDirectory() as folder:
+                logs = logs_in(folder, 4)
+                stamp_by_rows(Database(fault), logs, 60)
+                report = sicheck.check([f"{folder}/client-{number}.jsonl" for number in range(1, 5)])
+                self.assertEqual((report.verdict, report.refused, report.transactions), (verdict, 0, 240))
+                self.assertLessEqual(set(report.counts()), {"overlap"})
+
+    def test_numbers_by_snapshots_by_hand(self):
+        """7 is seen before 5, which is seen before 6; 8 is seen by nobody. One who sees nothing starts at 0."""
+        snapshots = {"a": [], "b": [7], "c": [7, 5], "d": [5, 6, 7]}
+        starts, commits = sicheck.numbers_by_snapshots({name: seen.__contains__ for name, seen in snapshots.items()}, [5, 6, 7, 8])
+        self.assertEqual((starts, commits), ({"a": 0, "b": 1, "c": 2, "d": 3}, {7: 1, 5: 2, 6: 3, 8: 4}))
+
+    def test_eight_threads_on_one_log(self):
+        log, = self.logs(1)
+        run_clients(Database(), [log] * 8, 100, pause=0.0002)
+        self.check_whole(sicheck.check(self.paths(1)), 800)
+
+    def test_eight_logs_on_one_file(self):
+        logs = [sicheck.Log(f"{self.folder}/all", client=number) for number in range(1, 9)]
+        run_clients(Database(), logs, 100, pause=0.0002)
+        self.check_whole(sicheck.check(f"{self.folder}/all"), 800)
+
+    def test_eight_threads_on_one_open_file(self):
+        with open(f"{self.folder}/all", "w", encoding="utf-8") as file:
+            run_clients(Database(), [sicheck.Log(file, client=number) for number in range(1, 9)], 100)
+        self.check_whole(sicheck.check(f"{self.folder}/all"), 800)
+
+    def test_eight_processes_on_one_pipe(self):
+        """Some lines have over 4,096 bytes, more than a pipe takes at once."""
+        pipe = f"{self.folder}/pipe"
+        os.mkfifo(pipe)
+        # Held open until all are done, so that the checker doesn't end between two of them. (Opened both ways first, which never waits.)
+        both = os.open(pipe, os.O_RDWR)
+        held = os.open(pipe, os.O_WRONLY)
+        os.close(both)
+        found = []
+        checking = threading.Thread(target=lambda: found.append(sicheck.check(pipe)), daemon=True)
+        checking.start()
+        writers = [subprocess.Popen([sys.executable, "-c", WRITER, pipe, str(number)]) for number in range(1, 9)]
+        try:
+            self.assertEqual([writer.wait(60) for writer in writers], [0] * 8)
+        finally:
+            for writer in writers:
+                writer.kill()
+            os.close(held)
+        checking.join(60)
+        self.check_whole(found[0], 800)
+
+    def check_whole(self, report, least):
+        self.assertEqual((report.refused, report.status), (0, 0))
+        self.assertGreaterEqual(report.transactions, least)
+
+
+WRITER = """
+import sys
+import sicheck
+log = sicheck.Log(sys.argv[1], client=int(sys.argv[2]))
+for count in range(100):
+    with log.transaction(0) as txn:
+        for place in range(400 if count % 10 == 0 else 2):
+            txn.write(f"k{log.client}-{count}-{place}")
+        txn.commit(log.client * 1000 + count + 1)
+"""
+
+
+class Watching(FolderTest):
+    def test_growing_files(self):
+        """The files come, grow and end while they are followed; the last report is that of the whole log."""
+        database = Database()
+        test = threading.Thread(target=lambda: run_clients(database, logs_in(self.folder, 3), 60, pause=0.002))
+        reports = sicheck.watch(self.paths(3), until=test, every=20, pause=0.01)
+        test.start()
+        told = list(reports)
+        self.assertGreaterEqual(len(told), 180 // 20)
+        self.assertEqual(told[-1], sicheck.check(self.paths(3))._replace(new=told[-1].new, gone=told[-1].gone))
+        told[-1].assert_passed()
+
+    def test_a_test_is_ended_at_the_first_violation(self):
+        path = f"{self.folder}/log"
+        test = subprocess.Popen([sys.executable, "-c", FOREVER, path])
+        self.addCleanup(test.wait)
+        self.addCleanup(test.kill)
+        for report in sicheck.watch([path], until=test, every=5, pause=0.01):
+            if report.verdict == "violation":
+                test.kill()
+                break
+        self.assertEqual(report.new[0].kind, "overlap")
+        self.assertEqual(report.new[0].places[report.new[0].first][0].file, path)
+        self.assertLess(len(threading.enumerate()), 4)
+
+    def test_whoever_leaves_ends_the_check(self):
+        """Also where the log comes from a function that never ends, or no line comes any more."""
+        def endless():
+            for number in range(10 ** 9):
+                yield f'{{"do":"txn","id":{number},"start":0,"status":"aborted","ops":[]}}'
+        begin = time.monotonic()
+        reports = sicheck.watch(lines=endless(), every=10)
+        self.assertEqual(next(reports).transactions, 10)
+        reports.close()
+        path = self.write("log", '{"do":"txn","id":1,"start":0,"status":"aborted","ops":[]}\n')
+        reports = sicheck.watch(path, until=lambda: False, every=1)
+        self.assertEqual(next(reports).transactions, 1)
+        reports.close()
+        self.assertLess(time.monotonic() - begin, 20)
+
+    def test_until(self):
+        event = threading.Event()
+        event.set()
+        path = self.write("log", '{"do":"withdraw","id":1}')
+        for until in (event, lambda: True, threading.Thread(), subprocess.Popen(["true"])):
+            self.assertEqual(list(sicheck.watch(path, until=until, pause=0.01))[-1].refused, 1)
+            if isinstance(until, subprocess.Popen):
+                until.wait()
+        with self.assertRaises(TypeError):
+            list(sicheck.watch(path, until=3))
+        os.mkfifo(f"{self.folder}/pipe")
+        with self.assertRaisesRegex(TypeError, "is a pipe"):
+            list(sicheck.watch(f"{self.folder}/pipe", until=event))
+
+
+FOREVER = """
+import sys, time
+import sicheck
+log = sicheck.Log(sys.argv[1], client=1)
+count = 0
+while True:
+    count += 1
+    with log.transaction(count - (2 if count == 20 else 1)) as txn:
+        txn.write("x")
+        txn.commit(count)
+    time.sleep(0.002)
+"""
+
+
+class Killed(FolderTest):
+    """A client of a database in SQLite is killed before, in and after each of its lines. It goes on under its number: what is in doubt
+    is settled by what the database has, and the whole log is judged."""
+    LINES = 9  # of the client that is killed: three transactions with a doubt each, and three that only read
+
+    def test_at_each_line(self):
+        for count in range(self.LINES):
+            for how in ("before", "within", "after"):
+                with self.subTest(count=count, how=how):
+                    self.kill_and_go_on(count, how)
+
+    def kill_and_go_on(self, count, how):
+        database, path = f"{self.folder}/{count}-{how}.db", f"{self.folder}/{count}-{how}.jsonl"
+        prepare(database)
+        client = subprocess.Popen([sys.executable, "-c", DIES, str(Path(__file__).parent), database, path, str(count), how])
+        self.assertEqual(client.wait(), -signal.SIGKILL)
+        with sicheck.Log(path, client=1, resume=True) as log:
+            opened = sqlite3.connect(database)
+            found = dict(opened.execute("SELECT id, c FROM done"))
+            opened.close()
+            for number in log.doubts:
+                if number in found:
+                    log.resolve(number, commit=found[number])
+                else:
+                    log.resolve(number, aborted=True)
+            work_on(database, log, 3)
+        report = sicheck.check(path)
+        # A line that was cut off is refused; no other one is, and all else is judged.
+        self.assertEqual([it.reason for it in report.refusals], ["not-json"] if how == "within" else [])
+        self.assertEqual(report.findings, ())
+        self.assertGreaterEqual(report.transactions, 6)
+
+
+DIES = """
+import os, signal, sys
+sys.path.insert(0, sys.argv[1])
+import sicheck, sicheck.writing
+from test_check import work_on
+database, path, count, how = sys.argv[2], sys.argv[3], int(sys.argv[4]), sys.argv[5]
+written = 0
+write = sicheck.writing.LineWriter._write_all
+def dying(self, line):
+    global written
+    written += 1
+    if written <= count:
+        return write(self, line)
+    if how != "before":
+        write(self, line if how == "after" else line[:len(line) // 2])
+    os.kill(os.getpid(), signal.SIGKILL)
+sicheck.writing.LineWriter._write_all = dying
+with sicheck.Log(path, client=1) as log:
+    work_on(database, log, 3)
+"""
+
+
+def prepare(path):
+    database = sqlite3.connect(path, isolation_level=None)
+    database.executescript("PRAGMA journal_mode = WAL; CREATE TABLE pairs(key TEXT PRIMARY KEY, value INTEGER NOT NULL);"
+                           "CREATE TABLE clock(n INTEGER NOT NULL); INSERT INTO clock VALUES (0);"
+                           "CREATE TABLE done(id INTEGER PRIMARY KEY, c INTEGER NOT NULL);")
+    database.close()
+
+
+def work_on(path, log, count):
+    """Increments of a key, each in doubt before its commit, and reads of it."""
+    database = sqlite3.connect(path, isolation_level=None)
+    read = "SELECT value FROM pairs WHERE key = 'x'"
+    for _ in range(count):
+        database.execute("BEGIN IMMEDIATE")
+        clock = database.execute("SELECT n FROM clock").fetchone()[0]
+        txn = log.transaction(clock)
+        txn.read("x", (database.execute(read).fetchone() or [None])[0])
+        database.execute("INSERT OR REPLACE INTO pairs VALUES ('x', ?)", (txn.write("x"),))
+        database.execute("UPDATE clock SET n = n + 1")
+        database.execute("INSERT INTO done VALUES (?, ?)", (txn.id, clock + 1))
+        txn.in_doubt()
+        database.execute("COMMIT")
+        txn.commit(clock + 1)
+        with log.transaction(clock + 1) as txn:
+            txn.read("x", database.execute(read).fetchone()[0])
+            txn.commit()
+    database.close()
+
+
+if __name__ == "__main__":
+    unittest.main()

@@ -1,0 +1,104 @@
+"""Runs with `--expect` and `--new`: what the program says of them, worked out by hand, and that reports of what is new add up."""
+import json
+import tempfile
+import unittest
+from pathlib import Path
+
+import sicheck
+from sicheck import CheckFailed, Short, Undecided, Violation
+from small_database import Database, logs_in, run_clients
+
+TOP = Path(__file__).resolve().parents[3]
+
+
+def txn(number, start, status, *ops, commit=None):
+    stamps = {"start": start, "status": status, **({} if commit is None else {"commit": commit})}
+    return {"do": "txn", "id": number, **stamps, "ops": list(map(list, ops))}
+
+
+class Expected(unittest.TestCase):
+    def check(self, lines, expect, status, short):
+        report = sicheck.check(lines=lines, expect=expect)
+        self.assertEqual((report.status, report.short), (status, short))
+        return report
+
+    def test_met(self):
+        lines = [txn(1, 2, "committed", ["w", "x", 1], commit=3), txn(2, 4, "committed", ["r", "x", 1], commit=4)]
+        for expect in (0, 1, 2):
+            self.check(lines, expect, 0, None).assert_passed()
+
+    def test_too_few(self):
+        """The rolled back one doesn't count."""
+        lines = [txn(1, 2, "committed", ["w", "x", 1], commit=3), txn(2, 4, "aborted", ["w", "x", 2])]
+        report = self.check(lines, 2, 10, Short(1, 2, 0, ()))
+        with self.assertRaisesRegex(Undecided, "1 committed, 2 expected, in doubt 0"):
+            report.assert_passed()
+
+    def test_empty(self):
+        self.check([], 0, 0, None)
+        self.check([], 1, 10, Short(0, 1, 0, ()))
+
+    def test_doubt(self):
+        """Doubt alone is clean without the option. Of 22 in doubt the least 20 are told; resolved or withdrawn they are in doubt no more."""
+        lines = [txn(number, 2, "indoubt", ["w", "x", number]) for number in range(22, 0, -1)]
+        self.assertEqual(sicheck.check(lines=lines).status, 0)
+        report = self.check(lines, 0, 10, Short(0, 0, 22, tuple(range(1, 21))))
+        with self.assertRaisesRegex(Undecided, "in doubt 22: 1, 2, 3"):
+            report.assert_passed()
+        ends = [{"do": "withdraw", "id": number} for number in range(2, 23)]
+        self.check([*lines, *ends, {"do": "resolve", "id": 1, "status": "committed", "commit": 3}], 1, 0, None)
+
+    def test_violation_stays_one(self):
+        lines = (TOP / "samples" / "lost_update.jsonl").read_text().splitlines()
+        report = self.check(lines, 3, 20, Short(2, 3, 0, ()))
+        with self.assertRaises(Violation):
+            report.assert_passed()
+
+    def test_out_of_range(self):
+        for expect in (-1, 16_777_217):
+            with self.assertRaisesRegex(CheckFailed, "--expect"):
+                sicheck.check(lines=[], expect=expect)
+
+
+class New(unittest.TestCase):
+    def test_a_nearer_version(self):
+        """Both findings of the first three lines come to name transaction 4. The third report is the one at the end."""
+        lines = (TOP / "samples" / "nearer_version.jsonl").read_text().splitlines()
+        lines.append('{"do":"txn","id":5,"start":12,"status":"aborted","ops":[]}')
+        first, *_, last = reports = list(sicheck.watch(lines=lines, every=1, new=True, explain=True))
+        self.assertEqual([[str(it) for it in report.new] for report in reports], [
+            [], ['overlap key="x" first=1 second=2'], ['stale key="x" txn=3 op=0 read=64 missed=2'],
+            ['stale key="x" txn=3 op=0 read=64 missed=4', 'overlap key="x" first=4 second=2'], [], []])
+        self.assertEqual([[str(it) for it in report.gone] for report in reports], [
+            [], [], [], ['stale key="x" txn=3 op=0 read=64 missed=2', 'overlap key="x" first=1 second=2'], [], []])
+        self.assertEqual([len(report.findings) for report in reports], [0, 1, 2, 2, 2, 2])
+        self.assertEqual([it.evidence for it in last.findings], ["G-SI(b) 3-rw->4 4-st->3", "G-SI(a) 4-ww->2"])
+
+    def test_adds_up(self):
+        """Of faulty runs by chance: after each line the violations are those that a run tells which tells everything."""
+        for fault in ("lost", "newest"):
+            with self.subTest(fault), tempfile.TemporaryDirectory() as folder:
+                run_clients(Database(fault), logs_in(folder, 3), 40, keys=2, pause=0.0005)
+                # In the order of the files one after the other, so that much comes late.
+                lines = [line for number in (3, 1, 2) for line in Path(folder, f"client-{number}.jsonl").read_text().splitlines()]
+                whole = list(sicheck.watch(lines=lines, every=3))
+                told = list(sicheck.watch(lines=lines, every=3, new=True))
+                self.assertEqual(len(told), len(whole))
+                self.assertEqual([it.found for it in told], [it.found for it in whole])
+                self.assertEqual([it.violations for it in told], [it.violations for it in whole])
+                self.assertEqual(told[-1].findings, whole[-1].findings)
+                if fault == "lost":  # an overlap comes to name another first writer, once a version comes that lies between
+                    self.assertTrue(any(it.gone for it in told))
+
+    def test_with_expect(self):
+        lines = [json.dumps(txn(number, 2, "indoubt", ["w", "x", number])) for number in (1, 2, 3)]
+        reports = list(sicheck.watch(lines=lines, every=1, new=True, expect=2))
+        self.assertEqual([it.short for it in reports], [None, None, None, Short(0, 2, 3, (1, 2, 3))])
+
+    def test_program_wants_every(self):
+        with self.assertRaisesRegex(CheckFailed, "--new"):
+            list(sicheck.watch(lines=[], every=None, new=True))
+
+
+if __name__ == "__main__":
+    unittest.main()

@@ -1,0 +1,100 @@
+"""Answers: each line, the last of several reports, and texts that aren't whole."""
+import unittest
+
+from sicheck.answers import AnswerFault, Finding, Refusal, Shortage, answer_of, finding_of
+from sicheck.log_lines import Place
+
+SUMMARY = "transactions=3 findings={} refused={} verdict={}\n"
+STALE = 'stale key="x" txn=3 op=0 read=1 missed=2\n'
+
+
+class Lines(unittest.TestCase):
+    def test_each_kind(self):
+        for line, finding, evidence in (
+                ('unknown key="x" txn=2 op=0 read=64', Finding(1, "x", 2, 0, 64), None),
+                ('unknown key="x" txn=2 op=0 read=initial', Finding(1, "x", 2, 0), None),
+                ('doubt key="x" txn=2 op=0 read=64 writer=1', Finding(2, "x", 2, 0, 64, 1), None),
+                ('own key="x" txn=1 op=1 read=initial own=64', Finding(3, "x", 1, 1, None, 64), None),
+                ('own key="x" txn=1 op=1 read=5 own=later', Finding(3, "x", 1, 1, 5, "later"), None),
+                ('aborted key="x" txn=2 op=0 read=64 writer=1', Finding(4, "x", 2, 0, 64, 1), "  G1a reader=2 op=0 writer=1"),
+                ('intermediate key="x" txn=2 op=0 read=64 writer=1', Finding(5, "x", 2, 0, 64, 1), "  G1b reader=2 op=0 writer=1"),
+                ('future key="x" txn=2 op=0 read=64 writer=1', Finding(6, "x", 2, 0, 64, 1), "  G-SI(a) 1-wr->2"),
+                ('stale key="x" txn=3 op=0 read=1 missed=2', Finding(7, "x", 3, 0, 1, 2), "  G-SI(b) 3-rw->2 2-st->3"),
+                ('overlap key="x" first=1 second=2', Finding(8, "x", 1, 2), "  G-SI(a) 1-ww->2")):
+            self.assertEqual(finding_of(line), finding)
+            self.assertEqual((finding.text(), finding.evidence()), (line, evidence))
+
+    def test_keys_are_json(self):
+        line = r'overlap key="a\" first=7 \u0000' + '\u2028" first=1 second=2'
+        self.assertEqual(finding_of(line), Finding(8, 'a" first=7 \0\u2028', 1, 2))
+
+    def test_no_finding(self):
+        for line in ('stale key="x" txn=3 op=0 read=1', 'stale key="x" txn=3 op=0 read=1 missed=2 ', 'stale key=x txn=3',
+                     'stale key="x" txn=03 op=0 read=1 missed=2', 'odd key="x" txn=1', 'overlap key="\\ud800" first=1 second=2',
+                     'stale key=7 txn=3 op=0 read=1 missed=2', 'own key="x" txn=1 op=1 read=5 own=soon'):
+            self.assertIsNone(finding_of(line), line)
+
+
+class Answers(unittest.TestCase):
+    def answer(self, text):
+        return answer_of(text.encode("utf-8"))
+
+    def test_last_report_counts(self):
+        answer = self.answer("transactions=2 findings=0 refused=0 verdict=clean\nrefused source=1 line=4 code=16 "
+                             "reason=stamp-taken stamp=2 holder=1\n" + STALE + SUMMARY.format(1, 1, "violation"))
+        self.assertEqual(answer.findings, [Finding(7, "x", 3, 0, 1, 2)])
+        self.assertEqual(answer.lines, [3])
+        self.assertEqual(answer.refusals, {(1, 4): Refusal(Place(1, 4), 16, "stamp-taken stamp=2 holder=1")})
+        self.assertFalse(answer.is_explained)
+
+    def test_explained_with_windows_line_ends(self):
+        text = STALE + "  G-SI(b) 3-rw->2 2-st->3\n" + SUMMARY.format(1, 0, "violation")
+        answer = self.answer(text.replace("\n", "\r\n"))
+        self.assertTrue(answer.is_explained)
+        self.assertEqual(answer.lines, [1])
+
+    def test_reports_of_what_changed(self):
+        other = STALE.replace("op=0", "op=1")
+        answer = self.answer(STALE + SUMMARY.format(1, 0, "violation") + other + "gone " + STALE + SUMMARY.format(1, 0, "violation")
+                             + other + SUMMARY.format(1, 0, "violation"))
+        self.assertEqual(answer.findings, [Finding(7, "x", 3, 1, 1, 2)])
+        self.assertEqual(answer.lines, [6])
+        self.assertIsNone(answer.shortage)
+        with self.assertRaisesRegex(AnswerFault, "line 1 of the answer is no finding"):
+            self.answer("gone " + STALE + SUMMARY.format(0, 0, "clean"))
+
+    def test_shortage(self):
+        short = "short committed=1 expected=3 indoubt={}\n"
+        answer = self.answer(STALE + short.format("2 ids=7,12") + SUMMARY.format(1, 0, "violation"))
+        self.assertEqual(answer.shortage, Shortage(1, 3, 2, [7, 12]))
+        self.assertEqual((answer.findings, answer.lines), ([Finding(7, "x", 3, 0, 1, 2)], [1]))
+        self.assertEqual(self.answer(short.format("0") + SUMMARY.format(0, 0, "clean")).shortage, Shortage(1, 3, 0, []))
+        for text in (short.format("0") + STALE + SUMMARY.format(1, 0, "violation"), short.format("2 ids=") + SUMMARY.format(0, 0, "clean")):
+            with self.subTest(text), self.assertRaisesRegex(AnswerFault, "line 1 of the answer is no finding"):
+                self.answer(text)
+
+    def test_faults(self):
+        whole = STALE + SUMMARY.format(1, 0, "violation")
+        for text, words in (
+                ("", "no report at its end"),
+                (STALE, "no report at its end"),
+                (whole[:-2], "no report at its end"),
+                (SUMMARY.format(1, 0, "violation"), "lines are missing"),
+                (STALE + SUMMARY.format(1, 1, "violation"), "lines are missing"),
+                (STALE + SUMMARY.format(1, 0, "open"), "lines are missing"),
+                ("hello\n" + whole, "line 1 of the answer is no finding"),
+                ("hello\n" + SUMMARY.format(0, 0, "clean") + whole, "line 1 of the answer is none that"),
+                ("  G-SI(b) 3-rw->2 2-st->3\n" + whole, "line 1 of the answer isn't the evidence"),
+                (STALE + "  G-SI(b) 3-rw->9 9-st->3\n" + SUMMARY.format(1, 0, "violation"), "line 2 of the answer isn't the evidence"),
+                (STALE + STALE + SUMMARY.format(2, 0, "violation"), "in their order"),
+                (STALE + "  G-SI(b) 3-rw->2 2-st->3\n" + STALE.replace("op=0", "op=1") + SUMMARY.format(2, 0, "violation"),
+                 "some findings of the last report have their evidence"),
+                (2 * "refused source=0 line=1 code=2 reason=not-json\n" + SUMMARY.format(0, 2, "clean"), "refused before it")):
+            with self.subTest(text), self.assertRaisesRegex(AnswerFault, words):
+                self.answer(text)
+        with self.assertRaisesRegex(AnswerFault, "UTF-8"):
+            answer_of(b"\xff")
+
+
+if __name__ == "__main__":
+    unittest.main()
