@@ -1,6 +1,6 @@
 -- A key on which nothing is looked for.
 use Rattle.std.proofs.Common.{◌≡◌, ◌∙◌, inl, inr, ℕ, cond, false, List, [], ◌∷◌, Option, Some, None, refl, sym, ap, subst}
-use Rattle.std.specs.List.{Contains}
+use Rattle.std.specs.List.{Contains, find}
 use Rattle.si_lists.proofs.Members.{Contains-nil, here}
 use Rattle.si_model.specs.declared.numbers.Stamp.{Stamp}
 use Rattle.si_model.specs.declared.numbers.Value.{Value}
@@ -10,6 +10,7 @@ use Rattle.si_model.specs.declared.kinds.Kind.{Kind}
 use Rattle.si_model.specs.declared.sights.Installer.{Installer}
 use Rattle.si_model.specs.Findings.{IsFoundOn, Rules, findings_on}
 use Rattle.si_model.specs.History.{IsOfHistory}
+use Rattle.si_model.specs.Operations.{same_value}
 use Rattle.si_model.specs.Reads.{IsRead, own_value}
 use Rattle.si_model.specs.Versions.{IsInstaller}
 use Rattle.si_model.proofs.Exact.{key_findings_exact}
@@ -28,7 +29,8 @@ use Rattle.si_sorted.proofs.Rising.{none_rises}
 use Rattle.si_judge.proofs.IndexEdits.{no_value}
 use Rattle.si_judge.proofs.Mended.{reader_read}
 use Rattle.si_judge.proofs.Orders.{reader_decides, value_decides}
-use Rattle.si_judge.proofs.PartLists.{installs_version, version_from, write_to}
+use Rattle.si_judge.proofs.PartLists.{installs_version, other_from, version_from, write_from, write_to}
+use Rattle.si_judge.proofs.Told.{unwritten}
 
 nothing_in : {X : Type 0} (xs : List X) → ((x : X) → Contains xs x → ⊥) → xs ≡ []
 nothing_in [] none = refl
@@ -43,21 +45,28 @@ empty_bare = record { initial = refl; writes = λ T c. absurd (Contains-nil T c)
 -- ---- what is looked for is nothing exactly there
 
 module _ {M : OnKey} (ix : Indexes) (is : AreIndexes M ix) where
-  pub bare_from : ix.initial ≡ None → ix.writes ≡ [] → ix.readers ≡ [] → IsBare M
-  bare_from initial writes readers = record {
+  pub bare_from : ix.initial ≡ None → ix.timeline ≡ [] → ix.writes ≡ [] → ix.readers ≡ [] → IsBare M
+  bare_from initial timeline writes readers = record {
     initial = sym is.initial ∙ initial;
-    writes = λ T c. nothing_in (writes_of T) (λ w h. no_value w.1 (ap (λ l. at_value l w.0) (sym writes) ∙ (is.writes w.0 w.1).1 (T, c, h)));
+    writes = λ T c. nothing_in (writes_of T) (λ w h. let f = write_from T w.0 w.1 h in
+        unwritten ix is w.0 (ap (λ l. at_value l w.0) writes) (ap (find (λ d. same_value d.1.value w.0)) timeline) T c (f.0, f.1));
     reads = λ T c. nothing_in (reads_in T) (λ p h. no_value p.1 (ap (λ l. own_at l p.0) (sym readers) ∙ (is.readers p.0 p.1).1 (T, c, h)));
   }
 
-  pub bare_is : IsBare M → (ix.initial ≡ None) × (ix.writes ≡ []) × (ix.readers ≡ [])
-  bare_is bare = (is.initial ∙ bare.initial, writes ix.writes refl, readers ix.readers refl)
+  pub bare_is : IsBare M → (ix.initial ≡ None) × (ix.timeline ≡ []) × (ix.writes ≡ []) × (ix.readers ≡ [])
+  bare_is bare = (is.initial ∙ bare.initial, nothing_in ix.timeline versions, writes ix.writes refl, readers ix.readers refl)
     where
+      versions : (d : Dated) → Contains ix.timeline d → ⊥
+      versions d c =
+          let x = (is.timeline d).0 c in
+          let w = last_written x.0 d.1.value (version_from x.0 d x.2).value in
+          nothing_of (writes_of x.0) (write_of x.0 w.0 d.1.value) (bare.writes x.0 x.1) (write_to x.0 w.0 d.1.value w.1)
+
       writes : (es : List (Value × Write)) → ix.writes ≡ es → es ≡ []
       writes [] e = refl
       writes (w ∷ es) e =
           let x = (is.writes w.0 w.1).0 (ap (λ l. at_value l w.0) e ∙ ap (λ b. cond b (Some w.1) (at_value es w.0)) ((value_decides w.0 w.0).1 refl)) in
-          absurd (nothing_of (writes_of x.0) w (bare.writes x.0 x.1) x.2)
+          absurd (nothing_of (writes_of x.0) w (bare.writes x.0 x.1) (other_from x.0 w.0 w.1 x.2).0)
 
       readers : (es : List (Reader × Option Value)) → ix.readers ≡ es → es ≡ []
       readers [] e = refl
@@ -94,7 +103,7 @@ module _ (M : OnKey) (bare : IsBare M) where
       history = h;
       initial = initial ∙ sym bare.initial;
       timeline = λ d. ((λ c. absurd (nothing_of s.indexes.timeline d timeline c)), (λ x. absurd (no_version x.0 d x.1 x.2)));
-      writes = λ v w. ((λ e. absurd (no_value w (ap (λ l. at_value l v) (sym writes) ∙ e))), (λ x. absurd (nothing_of (writes_of x.0) (v, w) (bare.writes x.0 x.1) x.2)));
+      writes = λ v w. ((λ e. absurd (no_value w (ap (λ l. at_value l v) (sym writes) ∙ e))), (λ x. absurd (nothing_of (writes_of x.0) (v, w) (bare.writes x.0 x.1) (other_from x.0 v w x.2).0)));
       readers = λ r own. ((λ e. absurd (no_value own (ap (λ l. own_at l r) (sym readers) ∙ e))), (λ x. absurd (nothing_of (reads_in x.0) (r, own) (bare.reads x.0 x.1) x.2)));
       ordered = subst AreInOrder (sym readers) (none_rises reader_cmp);
     };

@@ -1,22 +1,25 @@
 -- The indexes of what is on a key stay so when a transaction comes or goes.
-use Rattle.std.proofs.Common.{◌≡◌, ◌≢◌, ◌∙◌, inl, inr, ◌↔◌, Option, Some, None, refl, sym, ap, subst, IfSome}
+use Rattle.std.proofs.Common.{◌≡◌, ◌≢◌, ◌∙◌, inl, inr, ◌↔◌, List, Option, Some, None, refl, sym, ap, subst, IfSome}
 use Rattle.std.specs.List.{AllPairs, Contains}
 use Rattle.std.specs.Ordering.{eq_by_cmp}
 use Rattle.si_lists.proofs.Members.{same_some}
 use Rattle.si_model.specs.declared.parts.Part.{Part}
 use Rattle.si_model.specs.declared.parts.OnKey.{OnKey}
 use Rattle.si_model.specs.History.{IsOfHistory}
-use Rattle.si_model.proofs.Histories.{one_installer}
+use Rattle.si_model.specs.Versions.{WritesAt}
+use Rattle.si_model.proofs.Histories.{one_installer, one_part}
+use Rattle.si_model.proofs.LastWrites.{last_written}
 use Rattle.si_timeline.specs.Timelines.{Dated}
 use Rattle.si_judge.specs.declared.indexes.Indexes.{Indexes}
+use Rattle.si_judge.specs.Commits.{HaveValuesOnce}
 use Rattle.si_judge.specs.Spread.{at_value, value_cmp}
 use Rattle.si_judge.specs.Maps.{AreInserted, AreTakenOut}
-use Rattle.si_judge.specs.Indexes.{AddsVersion, AreIndexes, Fits, Joins, LacksVersion, HasVersion, RemovesVersion, reads_in, version_by, writes_of}
+use Rattle.si_judge.specs.Indexes.{AddsVersion, AreIndexes, Fits, Joins, LacksVersion, HasVersion, KeepsValuesOnce, RemovesVersion, other_writes_of, reads_in, version_by}
 use Rattle.si_judge.specs.Readers.{reader_cmp, own_at, AreInOrder}
 use Rattle.si_judge.specs.Mending.{installer}
 use Rattle.si_judge.proofs.IndexEdits.{comes, goes, no_value}
 use Rattle.si_judge.proofs.Orders.{value_decides, reader_decides}
-use Rattle.si_judge.proofs.PartLists.{added_are, reads_are_apart, version_installs, writes_are_apart}
+use Rattle.si_judge.proofs.PartLists.{added_are, reads_are_apart, others_are_apart, version_from, version_installs}
 
 -- what has no other transaction than a history is one
 pub history_within : (Q R : OnKey) → IsOfHistory Q → Q.initial ≡ R.initial → ((X : Part) → Contains R.parts X → Contains Q.parts X)
@@ -34,7 +37,7 @@ history_within Q R h initial within names = record {
 -- ---- one comes
 
 module _ (old new : Indexes) (T : Part) {M R : OnKey} (is : AreIndexes M old) (joins : Joins T M R) (history : IsOfHistory R) (initial : new.initial ≡ old.initial) where
-  pub came : AreInserted (eq_by_cmp value_cmp) (at_value old.writes) (writes_of T) (at_value new.writes)
+  pub came : AreInserted (eq_by_cmp value_cmp) (at_value old.writes) (other_writes_of T) (at_value new.writes)
       → AreInserted (eq_by_cmp reader_cmp) (own_at old.readers) (reads_in T) (own_at new.readers)
       → AddsVersion (version_by T) old.timeline new.timeline
       → AreInOrder new.readers
@@ -44,7 +47,7 @@ module _ (old new : Indexes) (T : Part) {M R : OnKey} (is : AreIndexes M old) (j
     history = history;
     initial = initial ∙ is.initial ∙ joins.initial;
     timeline = versions (version_by T) refl timeline;
-    writes = comes (eq_by_cmp value_cmp) value_decides writes_of T M.parts R.parts joins.parts (writes_are_apart R history) (at_value old.writes) (at_value new.writes) is.writes writes;
+    writes = comes (eq_by_cmp value_cmp) value_decides other_writes_of T M.parts R.parts joins.parts (others_are_apart R history) (at_value old.writes) (at_value new.writes) is.writes writes;
     readers = comes (eq_by_cmp reader_cmp) reader_decides reads_in T M.parts R.parts joins.parts (reads_are_apart R history) (own_at old.readers) (own_at new.readers) is.readers readers;
   }
     where
@@ -80,6 +83,27 @@ lacks_version ix T is fits = by (version_by T) refl
         (version_installs x.0 (d.0, v) x.2) (version_installs T d e) refl in
         fits.1.absent x.0 x.1 (ap (λ (X : Part). X.id) same)
 
+-- versions of what is on a key have each value once
+pub values_once : (Q : OnKey) → IsOfHistory Q → (ds : List Dated) → ((d : Dated) → Contains ds d → (X : Part) × Contains Q.parts X × (version_by X ≡ Some d)) → HaveValuesOnce ds
+values_once Q h ds of d e c f same =
+    let x = of d c in
+    let y = of e f in
+    let a = last_written x.0 d.1.value (version_from x.0 d x.2).value in
+    let b = last_written y.0 e.1.value (version_from y.0 e y.2).value in
+    let one = h.writes x.0 y.0 a.0 b.0 e.1.value x.1 y.1 (subst (λ v. WritesAt x.0 a.0 v) same a.1) b.1 in
+    same_some (sym x.2 ∙ ap version_by (one_part Q h x.0 y.0 x.1 y.1 one.0) ∙ y.2)
+
+-- and so with the version of one that comes
+pub keeps_once : {M : OnKey} (ix : Indexes) (T : Part) → AreIndexes M ix → Fits T M → KeepsValuesOnce (version_by T) ix.timeline
+keeps_once ix T is fits = by (version_by T) refl
+  where
+    by : (o : Option Dated) → version_by T ≡ o → KeepsValuesOnce o ix.timeline
+    by None e = tt
+    by (Some n) e = λ more adds. values_once fits.0 fits.2 more (λ d c. elim ((added_are n.0 n.1 ix.timeline more adds d).0 c) [
+      | inl o ↦ (let x = (is.timeline d).0 o in (x.0, (fits.1.parts x.0).1 (inl x.1), x.2))
+      | inr s ↦ (T, (fits.1.parts T).1 (inr refl), e ∙ ap Some (sym s))
+    ])
+
 -- the version of one that is there stands
 pub has_version : {M : OnKey} (ix : Indexes) (T : Part) → AreIndexes M ix → Contains M.parts T → HasVersion (version_by T) ix.timeline
 has_version ix T is c = by (version_by T) refl
@@ -105,7 +129,7 @@ module _ (old new : Indexes) (T : Part) {M R : OnKey} (is : AreIndexes M old) (j
   apart_T : (X : Part) → Contains R.parts X → X ≢ T
   apart_T X c e = joins.absent X c (ap (λ (Y : Part). Y.id) e)
 
-  pub went : AreTakenOut (eq_by_cmp value_cmp) (at_value old.writes) (writes_of T) (at_value new.writes)
+  pub went : AreTakenOut (eq_by_cmp value_cmp) (at_value old.writes) (other_writes_of T) (at_value new.writes)
       → AreTakenOut (eq_by_cmp reader_cmp) (own_at old.readers) (reads_in T) (own_at new.readers)
       → RemovesVersion (version_by T) old.timeline new.timeline
       → AreInOrder new.readers
@@ -115,7 +139,7 @@ module _ (old new : Indexes) (T : Part) {M R : OnKey} (is : AreIndexes M old) (j
     history = history;
     initial = initial ∙ is.initial ∙ sym joins.initial;
     timeline = versions (version_by T) refl timeline;
-    writes = goes (eq_by_cmp value_cmp) value_decides writes_of T R.parts M.parts joins.parts (writes_are_apart M is.history) (at_value old.writes) (at_value new.writes) apart_T is.writes writes;
+    writes = goes (eq_by_cmp value_cmp) value_decides other_writes_of T R.parts M.parts joins.parts (others_are_apart M is.history) (at_value old.writes) (at_value new.writes) apart_T is.writes writes;
     readers = goes (eq_by_cmp reader_cmp) reader_decides reads_in T R.parts M.parts joins.parts (reads_are_apart M is.history) (own_at old.readers) (own_at new.readers) apart_T is.readers readers;
   }
     where

@@ -4,11 +4,15 @@ pub mod Bounds
 pub mod OwnValues
 pub mod Updates
 pub mod IndexEdits
+pub mod Others
 pub mod Orders
 pub mod PartMaps
 pub mod PartLists
 pub mod Coming
+pub mod Commits
 pub mod Neighbours
+pub mod Told
+pub mod Nearest
 pub mod Ranges
 pub mod ReaderLists
 pub mod Seen

@@ -1,8 +1,8 @@
 -- The reads, the writes and the version of a transaction are what they're called.
-use Rattle.std.proofs.Common.{◌≡◌, ◌∙◌, ◌⊎◌, inl, inr, ◌↔◌, ℕ, List, ◌∷◌, ◌++◌, Option, Some, None, refl, sym, ap, ap₂, subst}
+use Rattle.std.proofs.Common.{◌≡◌, ◌∙◌, ◌⊎◌, inl, inr, ◌↔◌, ℕ, true, List, ◌∷◌, ◌++◌, Option, Some, None, refl, sym, ap, ap₂, subst}
 use Rattle.std.specs.List.{Contains}
 use Rattle.std.proofs.lemmas.List.Elements.{Contains-append_cases, Contains-append_left, Contains-append_right}
-use Rattle.si_lists.proofs.Members.{same_some, Contains-nil, here, there, Contains-cons_cases, Contains-filter_map, Contains-from_filter_map}
+use Rattle.si_lists.proofs.Members.{same_some, Contains-nil, here, there, Contains-cons_cases, Contains-filter_map, Contains-from_filter, Contains-from_filter_map}
 use Rattle.si_model.specs.declared.numbers.Stamp.{Stamp}
 use Rattle.si_model.specs.declared.numbers.Value.{Value}
 use Rattle.si_model.specs.declared.transactions.Status.TheVariants as status
@@ -20,7 +20,7 @@ use Rattle.si_timeline.specs.Timelines.{Adds, Dated}
 use Rattle.si_timeline.specs.declared.versions.Version.{Version}
 use Rattle.si_judge.specs.declared.reads.Reader.{Reader}
 use Rattle.si_judge.specs.declared.reads.Write.{Write}
-use Rattle.si_judge.specs.Indexes.{reader_of, read_by, read_at, reads_by, reads_in, write_of, write_by, write_at, writes_of, version_with, version_by}
+use Rattle.si_judge.specs.Indexes.{reader_of, read_by, read_at, reads_by, reads_in, write_of, write_by, write_at, writes_of, is_other, other_writes_of, version_with, version_by}
 use Rattle.si_judge.specs.Mending.{installer}
 use Rattle.si_judge.proofs.IndexEdits.{IsApart}
 
@@ -50,6 +50,14 @@ writes_are_apart Q h A B v x y a b c d =
     let same = h.writes A B i.0 j.0 v a b i.1 j.1 in
     let part = one_part Q h A B a b same.0 in
     (part, sym (ap (λ p. p.1) i.2) ∙ ap₂ (λ (T : Part) (k : ℕ). (write_of T k v).1) part same.1 ∙ ap (λ p. p.1) j.2)
+
+-- ---- those that installed no version
+
+pub other_from : (T : Part) (v : Value) (w : Write) → Contains (other_writes_of T) (v, w) → Contains (writes_of T) (v, w) × (is_other w.fate ≡ true)
+other_from T v w c = Contains-from_filter (λ x. is_other x.1.fate) (writes_of T) (v, w) c
+
+pub others_are_apart : (Q : OnKey) → IsOfHistory Q → IsApart other_writes_of Q.parts
+others_are_apart Q h A B v x y a b c d = writes_are_apart Q h A B v x y a b (other_from A v x c).0 (other_from B v y d).0
 
 -- ---- reads
 

@@ -1,7 +1,7 @@
 -- The indexes of what is on a key. All of it is this project's choice.
 use Rattle.std.specs.Prelude.{◌≡◌, ◌≢◌, ◌⊎◌, ◌↔◌, ℕ}
-use Rattle.std.specs.Prelude.{if◌then◌else◌, List, [], ◌++◌, Some, None, Option, ⊤}
-use Rattle.std.specs.List.{Contains, AllPairs, filter_map, flat_map}
+use Rattle.std.specs.Prelude.{Bool, true, false, if◌then◌else◌, List, [], ◌++◌, Some, None, Option, ⊤}
+use Rattle.std.specs.List.{Contains, AllPairs, filter, filter_map, flat_map}
 use Rattle.std.specs.Option.{option_eq}
 use Rattle.si_model.specs.declared.numbers.Stamp.{Stamp}
 use Rattle.si_model.specs.declared.numbers.Value.{Value}
@@ -18,6 +18,7 @@ use Rattle.si_model.specs.Reads.{own_value}
 use Rattle.si_model.specs.History.{IsOfHistory}
 use Rattle.si_timeline.specs.Timelines.{Adds, Dated, Has, IsNearestBefore, Lacks}
 use Rattle.si_timeline.specs.declared.versions.Version.{Version}
+use Rattle.si_judge.specs.Commits.{HaveValuesOnce}
 use Rattle.si_judge.specs.Readers.{AreInOrder, IsReaderOf, own_at, readers_among}
 use Rattle.si_judge.specs.Spread.{at_value}
 use Rattle.si_judge.specs.declared.indexes.Indexes.{Indexes}
@@ -77,6 +78,21 @@ write_at T a = write_by T a.place (written a.access)
 abbrev pub writes_of : Part → List (Value × Write)
 writes_of T = filter_map (write_at T) T.accesses
 
+-- whether the write installed no version
+abbrev pub is_other : Fate → Bool
+is_other (fate.Installed c) = false
+is_other fate.Earlier = true
+is_other fate.Aborted = true
+is_other fate.InDoubt = true
+
+-- those of the writes that installed no version
+abbrev pub others_among : List (Value × Write) → List (Value × Write)
+others_among ws = filter (λ w. is_other w.1.fate) ws
+
+-- the writes of T that install no version
+abbrev pub other_writes_of : Part → List (Value × Write)
+other_writes_of T = others_among (writes_of T)
+
 -- the version that T installs, where there are a commit stamp and a last write
 abbrev pub version_with : Part → Option Stamp → Option Value → Option Dated
 version_with T None v = None
@@ -93,12 +109,12 @@ version_by T = version_with T (commit_of T.status) (last_write T.accesses)
 abbrev pub IsIndexOf : {K V : Type 0} → (Part → List (K × V)) → List Part → (K → Option V) → Type 0
 IsIndexOf {K} {V} f parts at = (k : K) (v : V) → (at k ≡ Some v) ↔ ((T : Part) × Contains parts T × Contains (f T) (k, v))
 
--- the indexes are those of what is on the key, which is of a history
+-- the indexes are those of what is on the key, which is of a history. A write that installed a version stands in the timeline alone
 pub record AreIndexes (M : OnKey) (ix : Indexes) : Type 0 where
   pub history : IsOfHistory M
   pub initial : ix.initial ≡ M.initial
   pub timeline : (d : Dated) → Contains ix.timeline d ↔ ((T : Part) × Contains M.parts T × (version_by T ≡ Some d))
-  pub writes : IsIndexOf writes_of M.parts (at_value ix.writes)
+  pub writes : IsIndexOf other_writes_of M.parts (at_value ix.writes)
   pub readers : IsIndexOf reads_in M.parts (own_at ix.readers)
   pub ordered : AreInOrder ix.readers
 
@@ -112,6 +128,11 @@ pub record Joins (T : Part) (M R : OnKey) : Type 0 where
 abbrev pub LacksVersion : Option Dated → List Dated → Type 0
 LacksVersion None ds = ⊤
 LacksVersion (Some d) ds = Lacks ds d.0
+
+-- with the version, if there is one, no two have one value
+abbrev pub KeepsValuesOnce : Option Dated → List Dated → Type 0
+KeepsValuesOnce None ds = ⊤
+KeepsValuesOnce (Some d) ds = (more : List Dated) → Adds d.0 d.1 ds more → HaveValuesOnce more
 
 -- one was
 abbrev pub HasVersion : Option Dated → List Dated → Type 0

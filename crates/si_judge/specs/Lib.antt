@@ -1,3 +1,4 @@
+pub mod Commits
 pub mod Following
 pub mod Held
 pub mod Indexes

@@ -2,9 +2,6 @@
 use Rattle.std.specs.Prelude.{◌≡◌, Bool, List, Option, None}
 use Rattle.std.specs.List.{fold}
 use Rattle.std.specs.Map.{update, update_all}
-use Rattle.si_sorted.specs.Entries.{Sets}
-use Rattle.si_model.specs.declared.numbers.Value.{Value}
-use Rattle.si_judge.specs.Spread.{value_cmp}
 
 module _ {K V : Type 0} (same : K → K → Bool) (old : K → Option V) (entries : List (K × V)) (new : K → Option V) where
   -- new is old with these entries put in, in turn
@@ -14,7 +11,3 @@ module _ {K V : Type 0} (same : K → K → Bool) (old : K → Option V) (entrie
   -- new is old without what stands under the keys of these entries
   abbrev pub AreTakenOut : Type 0
   AreTakenOut = (k : K) → new k ≡ fold (λ f e. update same f e.0 None) old entries k
-
--- o stands under the value afterwards, and all else as before
-abbrev pub SetsValue : {X : Type 0} → Value → Option X → List (Value × X) → List (Value × X) → Type 0
-SetsValue = Sets value_cmp

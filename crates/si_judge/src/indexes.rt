@@ -1,23 +1,29 @@
 //! What is on a key, found without a walk over it.
 
-ghost use Rattle.std.specs.Prelude.{◌≡◌, ◌↔◌, ◌++◌, [], None, Some, Option, IfOk, IsTrue, OnOk};
+ghost use Rattle.std.specs.Prelude.{◌≡◌, ◌≢◌, ◌↔◌, ◌++◌, [], None, Some, Option, IfOk, IfSome, IsTrue, OnOk};
 ghost use Rattle.std.specs.List.{Contains, filter};
+ghost use Rattle.std.specs.Option.{option_eq};
+ghost use Rattle.std.specs.Prelude.{if◌then◌else◌};
 ghost use Rattle.si_model.specs.declared.parts.OnKey.{OnKey};
+ghost use Rattle.si_model.specs.declared.sights.Source.TheVariants as source;
+ghost use Rattle.si_model.specs.Operations.{same_value};
 ghost use Rattle.si_model.specs.History.{IsOfHistory};
 ghost use Rattle.si_model.specs.Versions.{next_after};
 ghost use Rattle.si_model.specs.Reads.{missed_of};
 ghost use Rattle.si_model.specs.Reads.{version_of};
-ghost use Rattle.si_judge.specs.Indexes.{AddsVersion, AreIndexes, Fits, HasVersion, IsValueBefore, Joins, LacksVersion, RemovesVersion, readers_in, reads_in, version_by, writes_of};
-ghost use Rattle.si_judge.specs.Sights.{is_write_after, sight_in, source_in, stamp_of, write_in};
+ghost use Rattle.si_timeline.specs.Timelines.{IsNearestBefore};
+ghost use Rattle.si_judge.specs.Indexes.{AddsVersion, AreIndexes, Fits, HasVersion, IsValueBefore, Joins, KeepsValuesOnce, LacksVersion, RemovesVersion, readers_in, reads_in, version_by, writes_of};
+ghost use Rattle.si_judge.specs.Sights.{is_write_after, later_with, sight_in, sight_of_nearest, source_with, stamp_of, version_in, write_in};
 ghost use Rattle.si_judge.specs.Mending.{installer};
 
 use crate::maps::{insert_writes, remove_writes};
 use crate::readers::Readers;
 use crate::reads::{OwnRead, Reader, Write, reads_in, version_by, writes_of};
+use crate::versions::Versions;
 use si_model::reads::{if_before, version_of};
-use si_model::{Installer, OutOfMemory, Part, Sight, Source, Stamp, Value, VersionId};
+use si_model::{Installer, OutOfMemory, Part, Sight, Source, Stamp, TxnId, Value, VersionId};
 use si_sorted::SortedMap;
-use si_timeline::{Timeline, Version};
+use si_timeline::Version;
 use std::alloc::Global;
 
 /// What is looked for on a key, but for the transactions there.
@@ -26,8 +32,8 @@ pub struct Indexes {
     /// What the initial version returns.
     pub initial: Option<Value>,
     /// The installed versions.
-    pub timeline: Timeline,
-    /// The writes of all transactions, by their values.
+    pub timeline: Versions,
+    /// The writes of all transactions that installed no version, by their values.
     pub writes: SortedMap<Value, Write>,
     /// The reads of the committed transactions, each with its transaction's own value there.
     pub readers: Readers,
@@ -49,7 +55,7 @@ impl Indexes {
     {
         Indexes {
             initial: None,
-            timeline: Timeline::new(alloc),
+            timeline: Versions::new(alloc),
             writes: SortedMap::new(alloc),
             readers: Readers::new(alloc),
         }
@@ -90,9 +96,10 @@ impl Indexes {
 
     /// Whether nothing is looked for on the key.
     pub fn is_empty(&self) -> bool
-        ensures { IsTrue result ↔ ((self.now.initial ≡ None) × (self.now.writes ≡ []) × (self.now.readers ≡ [])) }
+        ensures { IsTrue result ↔ ((self.now.initial ≡ None) × (self.now.timeline ≡ []) × (self.now.writes ≡ []) × (self.now.readers ≡ [])) }
     {
-        self.initial == None && self.writes.is_empty() && self.readers.is_empty()
+        let has_writes = !self.timeline.is_empty() || !self.writes.is_empty();
+        self.initial == None && !has_writes && self.readers.is_empty()
     }
 
     /// Adds the reads that returned the value, by readers that started after the stamp, if there is one.
@@ -131,18 +138,51 @@ impl Indexes {
     pub fn sight_of(&self, read: OwnRead) -> Sight
         ensures { (M : OnKey) → AreIndexes M self.now → result ≡ sight_in M self.now read }
     {
+        match self.nearest_read(read.0) {
+            Some((commit, version)) => sight_of_nearest(read, version.writer, commit),
+            None => self.sight_by_value(read),
+        }
+    }
+
+    /// The version that a read returned, where it is the last one before its reader's start and another transaction's. It mostly is,
+    /// and then nothing has to be looked for by its value, and no version was missed.
+    fn nearest_read(&self, reader: Reader) -> Option<(Stamp, Version)>
+        ensures { IfSome result (λ d. IsNearestBefore self.now.timeline reader.start (Some d) × (reader.value ≡ Some d.1.value) × (d.1.writer ≢ reader.txn)) }
+    {
+        let (commit, version) = self.timeline.before(reader.start)?;
+        if reader.value == Some(version.value) && version.writer != reader.txn {
+            return Some((commit, version));
+        }
+        None
+    }
+
+    /// All that is seen at a read, whose value is looked for among the writes and the versions.
+    fn sight_by_value(&self, read: OwnRead) -> Sight
+        ensures { (M : OnKey) → AreIndexes M self.now → result ≡ sight_in M self.now read }
+    {
         let (reader, own) = read;
-        let write = self.write_of(reader.value);
-        let source = self.source_of(reader.value, write);
+        let (told, later) = self.told_of(read);
+        let source = self.source_of(reader.value, told);
         Sight {
             txn: reader.txn,
             op: reader.place,
             start: reader.start,
             read: reader.value,
             own,
-            later: is_write_after(reader, write),
+            later,
             source,
             missed: self.missed_at(reader.start, source),
+        }
+    }
+
+    /// Where what a read returned comes from if some transaction wrote it, and whether it is the reader's own, written after the read.
+    fn told_of(&self, read: OwnRead) -> (Source, bool)
+        ensures source { (M : OnKey) → AreIndexes M self.now → result.0 ≡ source_with (write_in self.now read.0.value) (version_in self.now read.0.value) }
+        ensures later { (M : OnKey) → AreIndexes M self.now → result.1 ≡ later_with read (write_in self.now read.0.value) (version_in self.now read.0.value) }
+    {
+        match self.write_of(read.0.value) {
+            Some(write) => (write.source(), is_write_after(read.0, write)),
+            None => told_by_version(read, self.version_of(read.0.value)),
         }
     }
 
@@ -152,17 +192,20 @@ impl Indexes {
         self.writes.get(value?)
     }
 
-    /// Where what a read returned comes from, which that write wrote, if there is one.
-    fn source_of(&self, value: Option<Value>, write: Option<Write>) -> Source
-        ensures { result ≡ source_in self.now value write }
+    fn version_of(&self, value: Option<Value>) -> Option<(Stamp, Version)>
+        ensures { (M : OnKey) → AreIndexes M self.now → result ≡ version_in self.now value }
+    {
+        self.timeline.of_value(value?)
+    }
+
+    /// Where what a read returned comes from, which comes from there if a transaction wrote it.
+    fn source_of(&self, value: Option<Value>, told: Source) -> Source
+        ensures { result ≡ (if option_eq same_value value self.now.initial then source.Initial else told) }
     {
         if value == self.initial {
             return Source::Initial;
         }
-        match write {
-            None => Source::Missing,
-            Some(write) => write.source(),
-        }
+        told
     }
 
     fn missed_at(&self, start: Stamp, source: Source) -> Option<Installer>
@@ -174,8 +217,9 @@ impl Indexes {
 }
 
 /// Adds the version that the transaction installs, if it installs one.
-fn add_version(timeline: &mut Timeline, part: &Part) -> Result<(), OutOfMemory>
-    requires { LacksVersion (version_by part.now) timeline.old }
+fn add_version(timeline: &mut Versions, part: &Part) -> Result<(), OutOfMemory>
+    requires lacks { LacksVersion (version_by part.now) timeline.old }
+    requires once { KeepsValuesOnce (version_by part.now) timeline.old }
     ensures { OnOk result (AddsVersion (version_by part.now) timeline.old timeline.new) }
 {
     match version_by(part) {
@@ -185,7 +229,7 @@ fn add_version(timeline: &mut Timeline, part: &Part) -> Result<(), OutOfMemory>
 }
 
 /// Takes out the version that the transaction installs, if it installs one.
-fn remove_version(timeline: &mut Timeline, part: &Part)
+fn remove_version(timeline: &mut Versions, part: &Part)
     requires { HasVersion (version_by part.now) timeline.old }
     ensures { RemovesVersion (version_by part.now) timeline.old timeline.new }
 {
@@ -194,14 +238,43 @@ fn remove_version(timeline: &mut Timeline, part: &Part)
     }
 }
 
+/// All that is seen at a read that returned the last version before its reader's start, which that transaction installed at the commit.
+fn sight_of_nearest(read: OwnRead, writer: TxnId, commit: Stamp) -> Sight
+    ensures { result ≡ sight_of_nearest read writer commit }
+{
+    let (reader, own) = read;
+    Sight {
+        txn: reader.txn,
+        op: reader.place,
+        start: reader.start,
+        read: reader.value,
+        own,
+        later: false,
+        source: Source::Installed(writer, commit),
+        missed: None,
+    }
+}
+
+/// The same where no write of the value but one of a version is known, by that version, if there is one.
+fn told_by_version(read: OwnRead, version: Option<(Stamp, Version)>) -> (Source, bool)
+    ensures source { result.0 ≡ source_with None version }
+    ensures later { result.1 ≡ later_with read None version }
+{
+    match version {
+        None => (Source::Missing, false),
+        Some((commit, version)) => {
+            let is_own = version.writer == read.0.txn;
+            let later = is_own && read.1 != read.0.value;
+            (Source::Installed(version.writer, commit), later)
+        }
+    }
+}
+
 /// Whether the write is one of the reader, after the read.
-fn is_write_after(reader: Reader, write: Option<Write>) -> bool
+fn is_write_after(reader: Reader, write: Write) -> bool
     ensures { result ≡ is_write_after reader write }
 {
-    match write {
-        None => false,
-        Some(write) => write.txn == reader.txn && reader.place < write.place,
-    }
+    write.txn == reader.txn && reader.place < write.place
 }
 
 /// The stamp after which the versions are that come after this one. No version is installed at 0.

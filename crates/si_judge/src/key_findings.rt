@@ -196,15 +196,11 @@ impl<J: Judge + Drop> KeyFindings<J> {
             Some((commit, _)) => commit.0,
             None => 0,
         };
-        let write = match self.indexes.writes.last() {
-            Some((value, _)) => value.0,
-            None => 0,
-        };
         let reader = match self.indexes.readers.last() {
             Some((reader, _)) => reader.start.0,
             None => 0,
         };
-        version ^ write ^ reader
+        version ^ reader
     }
 
     /// How many answers the judge has given, in this time and before it.

@@ -18,6 +18,7 @@ mod readers;
 mod reads;
 mod spread;
 pub mod states;
+mod versions;
 
 pub use judges::{Cases, Judge};
 pub use key_findings::KeyFindings;

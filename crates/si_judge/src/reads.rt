@@ -2,7 +2,7 @@
 
 ghost use Rattle.std.specs.Prelude.{◌≡◌, ◌<◌, IfOk, None, length};
 ghost use Rattle.std.specs.List.{AllPairs};
-ghost use Rattle.si_judge.specs.Indexes.{fate_of, read_at, reads_of, reads_in, write_at, writes_of, version_by};
+ghost use Rattle.si_judge.specs.Indexes.{fate_of, is_other, read_at, reads_of, reads_in, write_at, writes_of, version_by};
 ghost use Rattle.si_model.specs.Versions.{last_write};
 ghost use Rattle.si_model.specs.Reads.{own_value};
 ghost use Rattle.si_judge.specs.Sights.{source_told};
@@ -37,6 +37,18 @@ pub enum Fate {
     Earlier,
     /// It installed a version with that commit stamp.
     Installed(Stamp),
+}
+
+impl Fate {
+    /// Whether the write installed no version.
+    pub fn is_other(self) -> bool
+        ensures { result ≡ is_other self }
+    {
+        match self {
+            Fate::Installed(_) => false,
+            Fate::InDoubt | Fate::Aborted | Fate::Earlier => true,
+        }
+    }
 }
 
 /// The write of a value.

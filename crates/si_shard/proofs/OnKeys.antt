@@ -3,7 +3,7 @@ use Rattle.std.proofs.Common.{◌≡◌, ◌≢◌, ◌∙◌, ◌↔◌, ℕ, B
 use Rattle.std.specs.List.{Contains}
 use Rattle.std.specs.HashMap.{HashMap, get}
 use Rattle.si_hashing.specs.declared.key_hashes.KeyHash.{KeyHash}
-use Rattle.std.specs.BTreeSet.{contains, Updates as SetUpdates}
+use Rattle.std.specs.BTreeSet.{BTreeSet, contains, Updates as SetUpdates}
 use Rattle.std.specs.Ordering.{nat_cmp}
 use Rattle.std.specs.Cmp.Lexicographic.{slice_cmp, texts_ties}
 use Rattle.si_lists.proofs.Members.{Contains-nil}
@@ -19,7 +19,7 @@ use Rattle.si_judge.proofs.Following.{nothing_of_history}
 use Rattle.si_shard.specs.declared.changes.Change.{Change}
 use Rattle.si_shard.specs.declared.keyed.KeyStates.{KeyStates}
 use Rattle.si_shard.specs.Changes.{LeadsTo}
-use Rattle.si_shard.specs.Keyed.{HasFinding, IsChangedAt, IsChangedIn, IsLeft, IsMadeAt, IsOn, IsOnKey, ShowsAt, StaysAt}
+use Rattle.si_shard.specs.Keyed.{HasFinding, IsChangedAt, IsChangedIn, IsLeft, IsMadeAt, IsOn, IsOnKey, IsToldAt, ShowsAt, StaysAt}
 
 -- ---- where nothing is kept
 
@@ -80,11 +80,35 @@ module _ (x : List ℕ) (cs : List Change) (old new : KeyStates) (s : Kept) (is_
   pub changed_after : IsChangedAt x cs old new
   changed_after = record { made = made; others = others }
 
--- what the calls of one change give: what is kept was changed, and it stayed or was dropped
-module _ (x : List ℕ) (cs : List Change) (old new : KeyStates) (is_bare has_findings : Bool) (found : SetUpdates (slice_cmp nat_cmp) old.found new.found x has_findings) where
-  found_by : (y : List ℕ) → contains (slice_cmp nat_cmp) new.found y ≡ cond (same_key x y) has_findings (contains (slice_cmp nat_cmp) old.found y)
-  found_by y = found.0 y ∙ ap (λ b. cond b has_findings (contains (slice_cmp nat_cmp) old.found y)) (sym (texts_ties x y))
+-- the key is told so, and each other as before
+pub found_set : (x : List ℕ) (old new : BTreeSet (List ℕ)) (has_findings : Bool) → SetUpdates (slice_cmp nat_cmp) old new x has_findings
+    → IsToldAt x has_findings old new
+found_set x old new has_findings found y = found.0 y ∙ ap (λ b. cond b has_findings (contains (slice_cmp nat_cmp) old y)) (sym (texts_ties x y))
 
+-- where as much is found on a key as before, it was told so already
+pub found_stays : (x : List ℕ) (old : BTreeSet (List ℕ)) (had has_findings : Bool) → (had ≡ true) ↔ (contains (slice_cmp nat_cmp) old x ≡ true) → has_findings ≡ had → IsToldAt x has_findings old old
+found_stays x old had has_findings told same y = by (same_key x y) refl
+  where
+    same_tests : (a b : Bool) → (a ≡ true → b ≡ true) → (b ≡ true → a ≡ true) → a ≡ b
+    same_tests true true f g = refl
+    same_tests true false f g = sym (f refl)
+    same_tests false true f g = g refl
+    same_tests false false f g = refl
+
+    by : (b : Bool) → same_key x y ≡ b → contains (slice_cmp nat_cmp) old y ≡ cond b has_findings (contains (slice_cmp nat_cmp) old y)
+    by true e = ap (contains (slice_cmp nat_cmp) old) (sym (same_key_is x y e)) ∙ same_tests (contains (slice_cmp nat_cmp) old x) had told.1 told.0 ∙ sym same
+    by false e = refl
+
+-- whether something was found on the key is told of what is kept of it
+pub told_before : (x : List ℕ) (s : Kept) (Q : OnKey) (test had : Bool) → ShowsAt x (Some s) Q → ((M : OnKey) → Shows cases M s → (test ≡ true) ↔ HasFinding s.key M) → had ≡ test
+    → (had ≡ true) ↔ HasFinding x Q
+told_before x s Q test had shown tells same =
+    let told = subst (λ y. (test ≡ true) ↔ HasFinding y Q) shown.0 (tells Q shown.1) in
+    ((λ e. told.0 (sym same ∙ e)), (λ h. same ∙ told.1 h))
+
+-- what the calls of one change give: what is kept was changed, and it stayed or was dropped
+module _ (x : List ℕ) (cs : List Change) (old new : KeyStates) (is_bare has_findings : Bool)
+    (found_by : IsToldAt x has_findings old.found new.found) where
   pub changed_kept : IsChangedIn x cs is_bare has_findings old.states new.states → is_bare ≡ false → IsChangedAt x cs old new
   changed_kept made e = changed_after x cs old new made.kept is_bare has_findings made.key made.shows made.left
       (λ y. made.states.0 y ∙ ap (λ b. cond (same_key x y) (standing b made.kept) (get same_key old.states y)) (sym e)) found_by

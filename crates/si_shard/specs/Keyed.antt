@@ -1,8 +1,8 @@
 -- What is known of many keys, and where something is found. All of it is this project's choice.
-use Rattle.std.specs.Prelude.{◌≡◌, ◌≢◌, ◌↔◌, ℕ, Bool, true, List, Some, None, Option}
+use Rattle.std.specs.Prelude.{cond, ◌≡◌, ◌≢◌, ◌↔◌, ℕ, Bool, true, List, Some, None, Option}
 use Rattle.std.specs.List.{Contains}
 use Rattle.std.specs.HashMap.{HashMap, Updates, get}
-use Rattle.std.specs.BTreeSet.{contains}
+use Rattle.std.specs.BTreeSet.{BTreeSet, contains}
 use Rattle.std.specs.Ordering.{nat_cmp}
 use Rattle.std.specs.Cmp.Lexicographic.{slice_cmp}
 use Rattle.si_model.specs.declared.parts.OnKey.{OnKey}
@@ -56,6 +56,10 @@ pub record IsChangedIn {S : Type 0} (x : List ℕ) (cs : List Change) (is_bare h
   pub shows : (Q R : OnKey) → ShowsAt x (get same_key old x) Q → LeadsTo cs Q R → Shows cases R kept
   pub left : IsLeft is_bare has_findings kept
   pub states : Updates same_key old new x (Some kept)
+
+-- of the key x it is told so whether something is found, and of each other as before
+abbrev pub IsToldAt : List ℕ → Bool → BTreeSet (List ℕ) → BTreeSet (List ℕ) → Type 0
+IsToldAt x b old new = (y : List ℕ) → contains (slice_cmp nat_cmp) new y ≡ cond (same_key x y) b (contains (slice_cmp nat_cmp) old y)
 
 -- where Q may be on the key x, that may be there to which the changes lead
 abbrev pub IsMadeAt : List ℕ → List Change → KeyStates → KeyStates → Type 0

@@ -1,8 +1,8 @@
 //! What is kept of many keys, and the keys on which something is found.
 
-ghost use Rattle.std.specs.Prelude.{◌≡◌, ℕ, List, [], ◌∷◌, OnOk, IfOk, ◌++◌};
+ghost use Rattle.std.specs.Prelude.{◌≡◌, ◌↔◌, ℕ, List, [], ◌∷◌, OnOk, IfOk, ◌++◌, true};
 ghost use Rattle.std.specs.HashMap.{get};
-ghost use Rattle.std.specs.BTreeSet.{IsOrdered, Updates};
+ghost use Rattle.std.specs.BTreeSet.{IsOrdered, contains};
 ghost use Rattle.std.specs.Ordering.{nat_cmp};
 ghost use Rattle.std.specs.Cmp.Lexicographic.{slice_cmp};
 ghost use Rattle.std.specs.List.{flat_map};
@@ -12,7 +12,7 @@ ghost use Rattle.si_model.specs.Findings.{cases, findings_on};
 ghost use Rattle.si_judge.specs.Following.{empty_key};
 ghost use Rattle.si_judge.specs.Kept.{Shows};
 ghost use Rattle.si_shard.specs.Changes.{LeadsTo};
-ghost use Rattle.si_shard.specs.Keyed.{AreChangedAll, AreOn, CanChangeAll, IsChangedAt, IsChangedIn, IsLeft, IsOn, ShowsAt, findings_at};
+ghost use Rattle.si_shard.specs.Keyed.{AreChangedAll, AreOn, CanChangeAll, HasFinding, IsChangedAt, IsChangedIn, IsLeft, IsOn, IsToldAt, ShowsAt, findings_at};
 
 use crate::changes::{Change, make_change};
 use crate::waiting::Lists;
@@ -40,6 +40,8 @@ pub struct KeyStates {
 struct Left {
     is_bare: bool,
     has_findings: bool,
+    /// Whether something was found before the change.
+    had_findings: bool,
 }
 
 impl KeyStates {
@@ -81,7 +83,7 @@ impl KeyStates {
         ensures { OnOk result (IsChangedAt key.now (change ∷ []) self.old self.new) }
     {
         let left = change_in(self.alloc, &mut self.states, key, change)?;
-        keep_found(&mut self.found, key, left.has_findings)?;
+        keep_found(&mut self.found, key, left)?;
         if left.is_bare {
             drop(self.states.swap_remove(key));
         }
@@ -145,17 +147,20 @@ fn change_in(
     change: Change,
 ) -> Result<Left, OutOfMemory>
     requires { (Q : OnKey) × (R : OnKey) × ShowsAt key.now (get same_key states.old key.now) Q × LeadsTo (change ∷ []) Q R }
-    ensures { IfOk result (λ left. IsChangedIn key.now (change ∷ []) left.is_bare left.has_findings states.old states.new) }
+    ensures changed { IfOk result (λ left. IsChangedIn key.now (change ∷ []) left.is_bare left.has_findings states.old states.new) }
+    ensures had { IfOk result (λ left. (Q : OnKey) → ShowsAt key.now (get same_key states.old key.now) Q → (left.had_findings ≡ true) ↔ HasFinding key.now Q) }
 {
     if let Some(kept) = states.get_mut(key) {
+        let had_findings = kept.has_findings();
         make_change(kept, change)?;
-        return Ok(left_on(kept));
+        return Ok(left_on(kept, had_findings));
     }
     let own = key.try_clone()?;
     let mut kept = KeyFindings::new(alloc, key.try_clone()?, Cases::new());
+    let had_findings = kept.has_findings();
     match make_change(&mut kept, change) {
         Ok(()) => {
-            let left = left_on(&kept);
+            let left = left_on(&kept, had_findings);
             drop(states.insert(own, kept)?);
             Ok(left)
         }
@@ -166,11 +171,15 @@ fn change_in(
     }
 }
 
-/// Keeps the key among those on which something is found, or not.
-fn keep_found(found: &mut BTreeSet<Key>, key: &Key, has_findings: bool) -> Result<(), OutOfMemory>
-    ensures { OnOk result (Updates (slice_cmp nat_cmp) found.old found.new key.now has_findings) }
+/// Keeps the key among those on which something is found, or not. Where as much is found as before, the keys aren't looked through.
+fn keep_found(found: &mut BTreeSet<Key>, key: &Key, left: Left) -> Result<(), OutOfMemory>
+    requires { (left.had_findings ≡ true) ↔ (contains (slice_cmp nat_cmp) found.old key.now ≡ true) }
+    ensures { OnOk result (IsToldAt key.now left.has_findings found.old found.new) }
 {
-    if has_findings {
+    if left.has_findings == left.had_findings {
+        return Ok(());
+    }
+    if left.has_findings {
         found.insert(key.try_clone()?)?;
     } else {
         found.remove(key);
@@ -178,11 +187,13 @@ fn keep_found(found: &mut BTreeSet<Key>, key: &Key, has_findings: bool) -> Resul
     Ok(())
 }
 
-fn left_on(kept: &KeyFindings<Cases>) -> Left
-    ensures { IsLeft result.is_bare result.has_findings kept.now }
+fn left_on(kept: &KeyFindings<Cases>, had_findings: bool) -> Left
+    ensures left { IsLeft result.is_bare result.has_findings kept.now }
+    ensures had { result.had_findings ≡ had_findings }
 {
     Left {
         is_bare: kept.is_bare(),
         has_findings: kept.has_findings(),
+        had_findings,
     }
 }

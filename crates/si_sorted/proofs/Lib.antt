@@ -7,3 +7,4 @@ pub mod Search
 pub mod Ends
 pub mod Passing
 pub mod Moves
+pub mod Finding

@@ -3,13 +3,14 @@
 ghost use Rattle.std.specs.Prelude.{◌≡◌, ◌<◌, ◌≤◌, ◌++◌, ◌-◌, None, IfNone, IfOk, IfSome, OnErr, OnOk, length, slice_get};
 ghost use Rattle.std.specs.BTreeMap.{insert_entry, is_at};
 ghost use Rattle.std.specs.BTreeMap.Range.{IsLeBy, IsLtBy, entries_between};
-ghost use Rattle.std.specs.List.{filter};
+ghost use Rattle.std.specs.List.{filter, find};
 ghost use Rattle.std.specs.Range.Bound.{IsForward};
 ghost use Rattle.std.specs.List.Sorted.{IsStrictlySortedBy};
 ghost use Rattle.std.specs.Map.{keys_of, lookup, remove_entry};
 ghost use Rattle.si_sorted.specs.Entries.{IsFirstAbove, IsLastBelow};
 ghost use Rattle.si_sorted.specs.Forms.{MovesAtMost, StaysTree, entries_in, moved_by_one, moved_without_one};
 
+use crate::finds::{ValueTest, find_in, find_in_tree};
 use crate::flat::{
     entry_after, entry_before, insert_in, moved_by, moved_without, remove_from, value_in,
 };
@@ -159,6 +160,15 @@ impl<K: Ord + Copy + Drop, V: Copy + Drop> Form<K, V> {
         match self {
             Form::Flat(entries) => add_from(entries.as_slice(), low, high, test, out),
             Form::Tree(tree) => add_from_tree(tree, low, high, test, out),
+        }
+    }
+
+    pub fn find<T: ValueTest<V>>(&self, test: &T) -> Option<(K, V)>
+        ensures { result ≡ find (λ e. T.passes test.now e.1) (entries_in self.now) }
+    {
+        match self {
+            Form::Flat(entries) => find_in(entries.as_slice(), test),
+            Form::Tree(tree) => find_in_tree(tree, test),
         }
     }
 

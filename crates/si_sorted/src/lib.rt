@@ -3,11 +3,13 @@
 //! It carries no promise of the checker's own: contracts see the list of entries in rising order, as they do of a tree.
 #![tactic(auto)]
 
+mod finds;
 mod flat;
 mod forms;
 pub mod runs;
 pub mod sorted_maps;
 mod trees;
 
+pub use finds::ValueTest;
 pub use runs::KeyTest;
 pub use sorted_maps::SortedMap;

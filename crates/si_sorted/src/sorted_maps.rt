@@ -3,13 +3,14 @@
 ghost use Rattle.std.specs.Prelude.{◌≡◌, ◌++◌, ◌-◌, [], None, Some, IsTrue, OnErr, OnOk, ◌↔◌, length, slice_get};
 ghost use Rattle.std.specs.BTreeMap.{insert_entry, is_at};
 ghost use Rattle.std.specs.BTreeMap.Range.{IsLeBy, IsLtBy, entries_between};
-ghost use Rattle.std.specs.List.{filter};
+ghost use Rattle.std.specs.List.{filter, find};
 ghost use Rattle.std.specs.Range.Bound.{IsForward};
 ghost use Rattle.std.specs.List.Sorted.{IsStrictlySortedBy};
 ghost use Rattle.std.specs.Map.{keys_of, remove_entry};
 ghost use Rattle.si_sorted.specs.Entries.{IsFirstAbove, IsLastBelow, Sets, value_at};
 ghost use Rattle.si_sorted.specs.Forms.{entries_in};
 
+use crate::finds::ValueTest;
 use crate::forms::Form;
 use crate::runs::KeyTest;
 use std::alloc::{AllocError, Global};
@@ -75,7 +76,8 @@ impl<K: Ord + Copy + Drop, V: Copy + Drop> SortedMap<K, V> {
 
     /// The value under the key, if one stands there.
     pub fn get(&self, key: K) -> Option<V>
-        ensures { result ≡ value_at K.cmp self.now key }
+        ensures value { result ≡ value_at K.cmp self.now key }
+        ensures rising { IsStrictlySortedBy K.cmp (keys_of self.now) }
     {
         self.form.get(key)
     }
@@ -111,6 +113,13 @@ impl<K: Ord + Copy + Drop, V: Copy + Drop> SortedMap<K, V> {
     {
         self.form.add_between(low, high, test, out)?;
         Ok(())
+    }
+
+    /// The first entry whose value passes the test, looked for by a walk over all.
+    pub fn find<T: ValueTest<V>>(&self, test: &T) -> Option<(K, V)>
+        ensures { result ≡ find (λ e. T.passes test.now e.1) self.now }
+    {
+        self.form.find(test)
     }
 
     /// The entry with the greatest key.

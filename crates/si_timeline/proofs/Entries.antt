@@ -1,6 +1,9 @@
 -- What the entries of a map by commit stamps are as a timeline.
-use Rattle.std.proofs.Common.{◌≡◌, ◌∙◌, inl, inr, ℕ, ◌<◌, Bool, true, false, cond, List, [], ◌∷◌, Some, None, unwrap_or, is_some, refl, sym, ap, ap₂, subst, arith, true≢false}
-use Rattle.std.specs.List.{AllByRecursion, Contains}
+use Rattle.std.proofs.Common.{◌≡◌, ◌∙◌, inl, inr, ◌⊎◌, ℕ, ◌<◌, Bool, true, false, cond, List, [], ◌∷◌, Option, Some, None, unwrap_or, is_some, refl, sym, ap, ap₂, subst, arith, true≢false}
+use Rattle.std.specs.List.{AllByRecursion, Contains, filter}
+use Rattle.std.specs.BTreeMap.Range.{entries_between}
+use Rattle.std.specs.Option.{MatchOption}
+use Rattle.std.specs.declared.ops.Bound.TheVariants.{Unbounded}
 use Rattle.std.specs.List.Sorted.{IsStrictlySortedBy}
 use Rattle.std.specs.Map.{keys_of, lookup, remove_entry}
 use Rattle.std.specs.BTreeMap.{insert_entry, is_at}
@@ -9,9 +12,9 @@ use Rattle.std.specs.Ordering.{nat_cmp, is_eq, match_ordering}
 use Rattle.std.proofs.Common.{Ordering}
 use Rattle.std.proofs.lemmas.Map.Keys.{sorted_head, sorted_tail}
 use Rattle.std.specs.declared.cmp.Ordering.TheVariants.{Less, Equal, Greater}
-use Rattle.si_lists.proofs.Members.{here, there, Contains-cons_cases}
+use Rattle.si_lists.proofs.Members.{at_each, here, there, Contains-cons_cases}
 use Rattle.si_model.specs.declared.numbers.Stamp.{Stamp}
-use Rattle.si_timeline.specs.Timelines.{Adds, Dated, IsRising, Lacks}
+use Rattle.si_timeline.specs.Timelines.{Adds, Dated, IsAt, IsRising, Lacks}
 use Rattle.si_timeline.specs.declared.versions.Version.{Version}
 
 abbrev pub stamp_cmp : Stamp → Stamp → Ordering
@@ -71,3 +74,37 @@ removes k v (d ∷ ds) e = go (is_at (stamp_cmp k) d.0) refl e (removes k v ds)
         → Adds k v (cond b ds (d ∷ remove_entry (is_at (stamp_cmp k)) ds)) (d ∷ ds)
     go true is f rest = ([], ds, refl, ap₂ (λ (s : Stamp) (w : Version). (s, w) ∷ ds) (sym (same_stamp k d.0 is)) (ap (λ o. unwrap_or o v) f))
     go false is f rest = let a = rest f in (d ∷ a.0, a.1, ap (λ l. d ∷ l) a.2, ap (λ l. d ∷ l) a.3)
+
+-- ---- what stands under a stamp, and all
+
+stands : (k : Stamp) (v : Version) (ds : List Dated) → lookup (is_at (stamp_cmp k)) ds ≡ Some v → Contains ds (k, v)
+stands k v [] e = absurd (true≢false (sym (ap is_some e)))
+stands k v (d ∷ ds) e = go (is_at (stamp_cmp k) d.0) refl e (stands k v ds)
+  where
+    go : (b : Bool) → is_at (stamp_cmp k) d.0 ≡ b → cond b (Some d.1) (lookup (is_at (stamp_cmp k)) ds) ≡ Some v → (lookup (is_at (stamp_cmp k)) ds ≡ Some v → Contains ds (k, v)) → Contains (d ∷ ds) (k, v)
+    go true is f rest = subst (Contains (d ∷ ds)) (ap₂ (λ (s : Stamp) (w : Version). (s, w)) (sym (same_stamp k d.0 is)) (ap (λ o. unwrap_or o v) f)) (here d ds)
+    go false is f rest = there d ds (k, v) (rest f)
+
+-- no other stands under it
+alone : (k : Stamp) (v w : Version) (ds : List Dated) → IsRising ds → Contains ds (k, v) → Contains ds (k, w) → w ≡ v
+alone k v w [] rises c d = absurd (omega (arith, c.1))
+alone k v w (e ∷ es) rises c d = by (Contains-cons_cases e es (k, v) c) (Contains-cons_cases e es (k, w) d) (alone k v w es rises.1)
+  where
+    above : (x : Version) → Contains es (k, x) → e.0.0 < k.0
+    above x m = at_each (λ q. e.0.0 < q.0.0) es (k, x) rises.0 m
+
+    by : (e ≡ (k, v)) ⊎ Contains es (k, v) → (e ≡ (k, w)) ⊎ Contains es (k, w) → (Contains es (k, v) → Contains es (k, w) → w ≡ v) → w ≡ v
+    by (inl a) (inl b) rest = ap (λ (x : Dated). x.1) (sym b ∙ a)
+    by (inl a) (inr n) rest = let lt = above w n in let s : e.0.0 ≡ k.0 = ap (λ (x : Dated). x.0.0) a in absurd (omega (arith, lt, s))
+    by (inr m) (inl b) rest = let lt = above v m in let s : e.0.0 ≡ k.0 = ap (λ (x : Dated). x.0.0) b in absurd (omega (arith, lt, s))
+    by (inr m) (inr n) rest = rest m n
+
+-- what is found under a stamp was installed then, and nothing else; where nothing is found nothing was
+pub under : (k : Stamp) (ds : List Dated) (o : Option Version) → IsRising ds → o ≡ lookup (is_at (stamp_cmp k)) ds → MatchOption o (Lacks ds k) (λ v. IsAt ds k v)
+under k ds None rises e = λ v c. found ds (k, v) c (sym e)
+under k ds (Some v) rises e = let is = stands k v ds (sym e) in (is, λ w c. alone k v w ds rises is c)
+
+-- between no bounds stand all
+pub all_of : (ds : List Dated) → filter (λ d. true) (entries_between stamp_cmp Unbounded Unbounded ds) ≡ ds
+all_of [] = refl
+all_of (d ∷ ds) = ap (λ l. d ∷ l) (all_of ds)

@@ -17,6 +17,10 @@ IsRising (d ∷ ds) = AllByRecursion (λ e. d.0.0 < e.0.0) ds × IsRising ds
 abbrev pub Has : List Dated → Stamp → Type 0
 Has ds commit = (version : Version) × Contains ds (commit, version)
 
+-- that version was, and no other
+abbrev pub IsAt : List Dated → Stamp → Version → Type 0
+IsAt ds commit version = Contains ds (commit, version) × ((other : Version) → Contains ds (commit, other) → other ≡ version)
+
 -- no version was
 abbrev pub Lacks : List Dated → Stamp → Type 0
 Lacks ds commit = (version : Version) → Contains ds (commit, version) → ⊥

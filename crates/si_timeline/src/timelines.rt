@@ -1,11 +1,15 @@
-ghost use Rattle.std.specs.Prelude.{◌≡◌, ◌==◌, ◌-◌, [], length, slice_get, OnOk, OnErr};
-ghost use Rattle.si_timeline.specs.Timelines.{Adds, Has, IsNearestAfter, IsNearestBefore, IsRising, Lacks};
+ghost use Rattle.std.specs.Prelude.{◌≡◌, ◌==◌, ◌-◌, ◌++◌, [], length, slice_get, OnOk, OnErr};
+ghost use Rattle.std.specs.List.{find};
+ghost use Rattle.std.specs.Option.{MatchOption};
+ghost use Rattle.si_model.specs.Operations.{same_value};
+ghost use Rattle.si_timeline.specs.Timelines.{Adds, Has, IsAt, IsNearestAfter, IsNearestBefore, IsRising, Lacks};
 
 use crate::Version;
-use si_model::{OutOfMemory, Stamp};
-use si_sorted::SortedMap;
+use si_model::{OutOfMemory, Stamp, Value};
+use si_sorted::{KeyTest, SortedMap, ValueTest};
 use std::alloc::Global;
 use std::marker::Model;
+use std::ops::Bound;
 
 /// The versions of one key.
 ///
@@ -23,6 +27,36 @@ impl Model for Timeline {
     ghost Value = { List Dated };
 
     ghost view = { λ t. t.versions };
+}
+
+/// The versions of a value.
+#[derive(Clone, Copy, Debug)]
+struct OfValue {
+    value: Value,
+}
+
+impl ValueTest<Version> for OfValue {
+    ghost use Rattle.si_model.specs.Operations.{same_value};
+
+    ghost passes = { λ w version. same_value version.value w.value };
+
+    fn wants(&self, version: Version) -> bool {
+        version.value == self.value
+    }
+}
+
+/// Every version.
+#[derive(Clone, Copy, Debug)]
+struct Every;
+
+impl KeyTest<Stamp> for Every {
+    ghost use Rattle.std.specs.Prelude.{true};
+
+    ghost passes = { λ _ _. true };
+
+    fn wants(&self, _commit: Stamp) -> bool {
+        true
+    }
 }
 
 impl Timeline {
@@ -75,6 +109,31 @@ impl Timeline {
         ensures rising { IsRising self.now }
     {
         self.versions.above(stamp)
+    }
+
+    /// The version of that commit stamp.
+    pub fn at(&self, commit: Stamp) -> Option<Version>
+        ensures { MatchOption result (Lacks self.now commit) (λ version. IsAt self.now commit version) }
+    {
+        self.versions.get(commit)
+    }
+
+    /// The first version that has the value, looked for by a walk over all.
+    pub fn of_value(&self, value: Value) -> Option<(Stamp, Version)>
+        ensures { result ≡ find (λ d. same_value d.1.value value) self.now }
+    {
+        self.versions.find(&OfValue { value })
+    }
+
+    /// Adds all versions, in their order.
+    ///
+    /// Where memory is refused a part of them may have been added.
+    pub fn add_all(&self, out: &mut Vec<(Stamp, Version)>) -> Result<(), OutOfMemory>
+        ensures { OnOk result (out.new.items ≡ out.old.items ++ self.now) }
+    {
+        self.versions
+            .add_between(Bound::Unbounded, Bound::Unbounded, &Every, out)?;
+        Ok(())
     }
 
     /// The version that was installed last, with its commit stamp.

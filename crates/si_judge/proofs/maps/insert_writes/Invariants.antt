@@ -1,8 +1,9 @@
 use Rattle.std.proofs.Common.{take}
 use Rattle.std.specs.Ordering.{eq_by_cmp}
+use Rattle.si_judge.specs.Indexes.{others_among}
 use Rattle.si_judge.specs.Maps.{AreInserted}
 use Rattle.si_judge.specs.Spread.{at_value, value_cmp}
 use Rattle.si_judge.proofs.maps.insert_writes.Given as goal
 
 abbrev pub invariant-loop-write : goal.invariant-loop-write
-invariant-loop-write l = AreInserted (eq_by_cmp value_cmp) (at_value l.initial.map) (take l.write-index l.writes) (at_value l.map)
+invariant-loop-write l = AreInserted (eq_by_cmp value_cmp) (at_value l.initial.map) (others_among (take l.write-index l.writes)) (at_value l.map)

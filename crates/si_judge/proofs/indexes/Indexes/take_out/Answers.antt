@@ -1,5 +1,6 @@
 use Rattle.std.proofs.Common.{◌∙◌, refl, subst}
 use Rattle.si_judge.specs.declared.indexes.Indexes.{Indexes}
+use Rattle.si_judge.specs.Indexes.{others_among}
 use Rattle.si_judge.specs.Maps.{AreTakenOut}
 use Rattle.si_judge.specs.Spread.{at_value, value_cmp}
 use Rattle.si_judge.specs.Readers.{reader_cmp, own_at}
@@ -19,6 +20,6 @@ after c = record { initial = c.args.self.now.initial; timeline = c.remove_versio
 pub returns-clause-indexes : goal.returns-clause-indexes
 unfolding after
 returns-clause-indexes c = λ M R is joins history. went c.args.self.now (after c) c.args.part.now is joins history refl
-    (subst (λ l. AreTakenOut (eq_by_cmp value_cmp) (at_value c.args.self.now.writes) l (at_value c.remove_writes.new.map)) (c.as_slice.ensures.value ∙ c.in_ok-writes.ensures) c.remove_writes.ensures)
+    (subst (λ l. AreTakenOut (eq_by_cmp value_cmp) (at_value c.args.self.now.writes) (others_among l) (at_value c.remove_writes.new.map)) (c.as_slice.ensures.value ∙ c.in_ok-writes.ensures) c.remove_writes.ensures)
     (subst (λ l. AreTakenOut (eq_by_cmp reader_cmp) (own_at c.args.self.now.readers) l (own_at c.remove_all.new.self)) (c.as_slice-2.ensures.value ∙ c.in_ok-reads.ensures) c.remove_all.ensures.values)
     c.remove_version.ensures (c.remove_all.ensures.ordered is.ordered)

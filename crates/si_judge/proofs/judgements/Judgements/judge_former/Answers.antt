@@ -13,7 +13,7 @@ returns-in_ok-judge_neighbours-clause-overlaps g c = λ M is.
     let b : Dated = (c.in-Some.former, c.in-Some.first) in
     let d : Dated = (c.args.commit, c.args.version) in
     let old = get stamp_cmp c.args.self.now.overlaps in
-    let near = c.in-Some.ensures.nearest in
+    let near = c.in-Some.ensures in
     let next = ap Some c.installer.ensures ∙ former_then ix is b d near c.requires in (
       Some b,
       near,

@@ -6,6 +6,6 @@ use Rattle.si_judge.proofs.key_findings.KeyFindings.is_bare.Goals as goal
 
 pub returns : goal.returns
 returns g c = subst (λ s. (M : OnKey) → Shows g.J.Judge.rules M s → IsTrue c.is_empty.result ↔ IsBare M) c.self.view_is (λ M shows. (
-  (λ t. let e = c.is_empty.ensures.0 t in bare_from c.self.inside.indexes shows.indexes e.0 e.1 e.2),
+  (λ t. let e = c.is_empty.ensures.0 t in bare_from c.self.inside.indexes shows.indexes e.0 e.1 e.2 e.3),
   (λ bare. c.is_empty.ensures.1 (bare_is c.self.inside.indexes shows.indexes bare)),
 ))
