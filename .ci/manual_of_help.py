@@ -13,7 +13,7 @@ class Help:
         self.commands = rows_of(top, "Commands")
         self.options = rows_of(check, "Options")
         self.top_options = [it for it in rows_of(top, "Options") if it not in self.options]
-        self.usage = re.search(r"^Usage: (.*)$", check, re.M)[1]
+        self.usage = re.search(r"^Usage: (.*(?:\n +.*)*)$", check, re.M)[1].replace("\n" + len("Usage: ") * " ", "\n")
         behind = check.split("\n\n", 3)[3]
         self.paragraphs = [it.strip("\n") for it in re.split(r"\n\n", behind)]
         if top.split("\n\n", 4)[4] != behind:

@@ -6,3 +6,4 @@ pub mod Writers
 pub mod Indexes
 pub mod Arrivals
 pub mod SetUps
+pub mod Statuses

@@ -3,12 +3,13 @@
 ghost use Rattle.std.specs.Prelude.{◌≡◌, ◌≤◌, [], ◌∷◌, ◌++◌, None, OnOk, OnErr, IfOk, map, length};
 ghost use Rattle.std.specs.List.{filter};
 ghost use Rattle.std.specs.Option.{option_copied};
-ghost use Rattle.si_model.specs.Edits.{with_id, resolved, is_another};
+ghost use Rattle.si_model.specs.Edits.{with_id, resolved, is_another, is_in_doubt};
 ghost use Rattle.si_accept.specs.Arrivals.{resolved_slot};
+ghost use Rattle.si_accept.specs.Statuses.{committed_among, doubtful_among};
 
 use indexmap::IndexMap;
 use si_hashing::NumberHash;
-use si_model::{OutOfMemory, Outcome, Txn, TxnId};
+use si_model::{OutOfMemory, Outcome, Status, Txn, TxnId};
 use std::alloc::Global;
 use std::hash::RandomState;
 use std::marker::Model;
@@ -77,6 +78,36 @@ impl Arrivals {
             Some(&place) => self.slots[place].as_ref(),
             None => None,
         }
+    }
+
+    /// How many of the transactions are committed.
+    pub fn committed(&self) -> usize
+        ensures { result ≡ committed_among self.now }
+    {
+        let mut count = 0;
+        for slot in &self.slots {
+            if let Some(txn) = slot {
+                if txn.status.commit().is_some() {
+                    count += 1;
+                }
+            }
+        }
+        count
+    }
+
+    /// The ids of the transactions in doubt, in the order of arrival.
+    pub fn doubtful(&self) -> Result<Vec<TxnId>, OutOfMemory>
+        ensures { IfOk result (λ ids. ids.items ≡ doubtful_among self.now) }
+    {
+        let mut ids = Vec::new(self.alloc);
+        for slot in &self.slots {
+            if let Some(txn) = slot {
+                if is_in_doubt(txn.status) {
+                    ids.push(txn.id)?;
+                }
+            }
+        }
+        Ok(ids)
     }
 
     /// Copies of the transactions, in the order of arrival.
@@ -159,6 +190,16 @@ impl Arrivals {
             }
         }
         Ok(packed)
+    }
+}
+
+/// Whether it isn't known yet if the transaction committed.
+fn is_in_doubt(status: Status) -> bool
+    ensures { result ≡ is_in_doubt status }
+{
+    match status {
+        Status::InDoubt => true,
+        Status::Committed(_) | Status::Aborted => false,
     }
 }
 

@@ -4,6 +4,7 @@ ghost use Rattle.si_model.specs.Edits.{IsAcceptable, with_id, after};
 ghost use Rattle.si_model.specs.History.{IsHistory};
 ghost use Rattle.si_model.specs.Journals.{present, IsAccepted, refusal_after};
 ghost use Rattle.si_accept.specs.Faults.{IsFaultOf};
+ghost use Rattle.si_accept.specs.Statuses.{committed_among, doubtful_among};
 
 use crate::AcceptFault;
 use crate::contents::Contents;
@@ -149,6 +150,20 @@ impl Book {
         ensures { IsTrue result ↔ ((present self.now.journal).txns ≡ []) }
     {
         self.len() == 0
+    }
+
+    /// How many committed transactions are present. It walks over all that are present.
+    pub fn committed(&self) -> usize
+        ensures { result ≡ committed_among (present self.now.journal).txns }
+    {
+        self.present.committed()
+    }
+
+    /// The ids of the present transactions that are in doubt, in the order of arrival. It walks over all that are present.
+    pub fn doubtful(&self) -> Result<Vec<TxnId>, OutOfMemory>
+        ensures { IfOk result (λ ids. ids.items ≡ doubtful_among (present self.now.journal).txns) }
+    {
+        self.present.doubtful()
     }
 
     /// How many edits the journal may have.

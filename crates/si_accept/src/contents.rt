@@ -6,6 +6,7 @@ ghost use Rattle.std.specs.Option.{option_copied};
 ghost use Rattle.si_model.specs.Parts.{Present};
 ghost use Rattle.si_model.specs.Edits.{with_id, arrival_refusal, resolution_refusal, withdrawal_refusal, set_up_refusal, refusal_on, IsAcceptable, resolved, is_another, after};
 ghost use Rattle.si_model.specs.Journals.{nothing};
+ghost use Rattle.si_accept.specs.Statuses.{committed_among, doubtful_among};
 
 use crate::arrivals::Arrivals;
 use crate::index::Index;
@@ -97,6 +98,20 @@ impl Contents {
         ensures { option_copied result ≡ with_id self.now.txns id }
     {
         self.txns.get(id)
+    }
+
+    /// How many of the transactions are committed.
+    pub fn committed(&self) -> usize
+        ensures { result ≡ committed_among self.now.txns }
+    {
+        self.txns.committed()
+    }
+
+    /// The ids of the transactions in doubt, in the order of arrival.
+    pub fn doubtful(&self) -> Result<Vec<TxnId>, OutOfMemory>
+        ensures { IfOk result (λ ids. ids.items ≡ doubtful_among self.now.txns) }
+    {
+        self.txns.doubtful()
     }
 
     /// Copies of the transactions, in the order of arrival.

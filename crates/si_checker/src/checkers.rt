@@ -6,6 +6,7 @@ ghost use Rattle.si_model.specs.Form.{IsWellFormed};
 ghost use Rattle.si_model.specs.Journals.{IsAccepted, present, refusal_after};
 ghost use Rattle.si_graph.specs.Phenomena.{IsPlSi};
 ghost use Rattle.si_accept.specs.Faults.{IsFaultOf};
+ghost use Rattle.si_accept.specs.Statuses.{committed_among, doubtful_among};
 ghost use Rattle.si_shard.specs.Laws.{shard_id};
 ghost use Rattle.si_shard.specs.Shards.{findings_in};
 ghost use Rattle.si_words.specs.Entries.{IsBeginning, edits_of, entry, made_by};
@@ -18,7 +19,7 @@ ghost use Rattle.si_checker.specs.declared.reports.ReportFault.TheVariants as fa
 use crate::bays::Bay;
 use crate::desks::Desk;
 use crate::openings::Parts;
-use crate::reports::{Report, ReportFault, SettledFindings, ShardReport};
+use crate::reports::{Report, ReportFault, SettledFindings, ShardReport, Statuses};
 use crate::{AcceptFault, Name};
 use si_accept::Book;
 use si_graph::laws::emptiness_is_exact;
@@ -51,6 +52,13 @@ pub struct Checker<N: Name> {
 
 impl<N: Name> Checker<N> {
     /// The checker of these parts, whose board and limit the name tells. It fails where memory is refused.
+    ///
+    /// # Examples
+    ///
+    /// ```
+    /// // In a function that is generic in `N: Name` and is called with `Brand`.
+    /// let checker = Checker::<N>::new(rt.alloc(), parts)?;
+    /// ```
     pub fn new(alloc: Global, parts: Parts) -> Result<Self, OutOfMemory>
         requires board { parts.board ≡ N.board }
         requires limit { parts.limit ≡ N.limit }
@@ -74,6 +82,14 @@ impl<N: Name> Checker<N> {
     }
 
     /// How many shards there are.
+    ///
+    /// # Examples
+    ///
+    /// ```
+    /// for k in 0..checker.shards() {
+    ///     report_of_shard(&checker.shard_report(rt, &mut pass, k)?);
+    /// }
+    /// ```
     pub fn shards(&self) -> usize
         ensures { result ≡ N.board.shards }
     {
@@ -84,6 +100,17 @@ impl<N: Name> Checker<N> {
     ///
     /// Afterwards the pass has seen the journal on which the edit was decided, and nothing else of it changes but, where the edit
     /// was accepted, its own edits by that one.
+    ///
+    /// # Examples
+    ///
+    /// ```
+    /// let edit = read_edit(rt.alloc(), line)?;
+    /// match checker.submit(rt, &mut pass, edit) {
+    ///     Ok(number) => accepted(number),
+    ///     Err(AcceptFault::Refused(reason)) => refused(reason),
+    ///     Err(AcceptFault::OutOfMemory) => out_of_memory(),
+    /// }
+    /// ```
     pub fn submit<R: Wait>(
         &self,
         rt: &R,
@@ -108,6 +135,13 @@ impl<N: Name> Checker<N> {
     /// The findings of the whole journal, which the pass sees, and what is present after it.
     ///
     /// What shards have left to apply is applied here. After a fault what was applied stands, and the pass has seen the journal.
+    ///
+    /// # Examples
+    ///
+    /// ```
+    /// let report = checker.settled_report(rt, &mut pass)?;
+    /// let again = findings_of(report.present.as_slice(), report.initial.as_slice())?; // the same findings
+    /// ```
     pub fn settled_report<R: Wait>(&self, rt: &R, pass: &mut Pass) -> Result<Report, ReportFault>
         requires { pass.old.table ≡ N.board.table }
         ensures fault { (j : ℕ) → IfErr result (λ f. f ≡ fault.Spoiled j → j < N.board.shards) }
@@ -153,6 +187,13 @@ impl<N: Name> Checker<N> {
     /// report tells, without the copy of what is present.
     ///
     /// What shards have left to apply is applied here. After a fault what was applied stands, and the pass has seen the journal.
+    ///
+    /// # Examples
+    ///
+    /// ```
+    /// let report = checker.settled_findings(rt, &mut pass)?;
+    /// let verdict = Verdict::of(report.findings.as_slice());
+    /// ```
     pub fn settled_findings<R: Wait>(
         &self,
         rt: &R,
@@ -201,6 +242,22 @@ impl<N: Name> Checker<N> {
         })
     }
 
+    /// What became of the transactions that are present after the whole journal, which the pass sees. It walks over all of them.
+    pub fn statuses<R: Wait>(&self, rt: &R, pass: &mut Pass) -> Result<Statuses, OutOfMemory>
+        requires { pass.old.table ≡ N.board.table }
+        ensures committed { IfOk result (λ s. s.committed ≡ committed_among (present (edits_of pass.new.view.seen)).txns) }
+        ensures in_doubt { IfOk result (λ s. s.in_doubt.items ≡ doubtful_among (present (edits_of pass.new.view.seen)).txns) }
+        ensures sees { pass.new ≡ record pass.old { view = with_seen pass.new.view.seen pass.old.view } }
+        ensures begins { IsBeginning pass.old.view.seen pass.new.view.seen }
+        ensures made { pass.new.view.mine ≡ made_by pass.new.view.number pass.new.view.seen }
+        ensures bearers { All (λ e. e.by < N.board.passes) pass.new.view.seen }
+    {
+        let mut guard = self.desk.lock(rt);
+        let desk = &mut *guard;
+        desk.show(&self.words, pass);
+        desk.statuses()
+    }
+
     /// Each shard applies what it has left of the journal: the findings of all, in order.
     fn settle<R: Wait>(&self, rt: &R, desk: &mut Desk<N>) -> Result<Vec<Finding>, ReportFault>
         ensures fault { (j : ℕ) → IfErr result (λ f. f ≡ fault.Spoiled j → j < N.board.shards) }
@@ -245,6 +302,13 @@ impl<N: Name> Checker<N> {
     /// The findings on the shard's keys after the edits that it has applied, which the pass then knows it has, and sees.
     ///
     /// After a fault the pass is as before.
+    ///
+    /// # Examples
+    ///
+    /// ```
+    /// let report = checker.shard_report(rt, &mut pass, 0)?;
+    /// let behind = checker.issued(&mut pass) - report.position; // edits that the shard had not applied, or more
+    /// ```
     pub fn shard_report<R: Wait>(
         &self,
         rt: &R,
@@ -273,6 +337,14 @@ impl<N: Name> Checker<N> {
     /// Makes all that the shard knows anew from the edits that it has applied, and so ends a spoiled state.
     ///
     /// If memory is refused, everything stays as it was.
+    ///
+    /// # Examples
+    ///
+    /// ```
+    /// if let Err(ReportFault::Spoiled(k)) = checker.settled_findings(rt, &mut pass) {
+    ///     checker.rebuild(rt, k)?; // once there is memory again
+    /// }
+    /// ```
     pub fn rebuild<R: Wait>(&self, rt: &R, k: usize) -> Result<(), OutOfMemory>
         requires { k < N.board.shards }
     {
@@ -285,6 +357,12 @@ impl<N: Name> Checker<N> {
 
     /// Tells workers that they may end once nothing is left. Edits that are submitted later are still accepted, and a settled
     /// report applies them. The pass stays as it is.
+    ///
+    /// # Examples
+    ///
+    /// ```
+    /// checker.close(rt, &mut pass); // `work` of each shard then ends, once nothing is left
+    /// ```
     pub fn close<R: Wait>(&self, rt: &R, pass: &mut Pass)
         requires { pass.old.table ≡ N.board.table }
         ensures { pass.new ≡ pass.old }
@@ -309,6 +387,12 @@ impl<N: Name> Checker<N> {
     }
 
     /// How many edits were issued. It takes no lock and waits for nobody.
+    ///
+    /// # Examples
+    ///
+    /// ```
+    /// let accepted = checker.issued(&mut pass);
+    /// ```
     pub fn issued(&self, pass: &mut Pass) -> u64
         requires { pass.old.table ≡ N.board.table }
         ensures view { pass.new ≡ record pass.old { view = with_count result pass.old.view } }
@@ -320,6 +404,12 @@ impl<N: Name> Checker<N> {
     }
 
     /// How many edits the shard has applied. It takes no lock and waits for nobody.
+    ///
+    /// # Examples
+    ///
+    /// ```
+    /// let applied = checker.shard_mark(&mut pass, 0);
+    /// ```
     pub fn shard_mark(&self, pass: &mut Pass, k: usize) -> u64
         requires own { pass.old.table ≡ N.board.table }
         requires shard { k < N.board.shards }
@@ -333,6 +423,12 @@ impl<N: Name> Checker<N> {
 
     /// The least mark, after a look at each shard: every shard has applied at least so many edits. It takes no lock and waits for
     /// nobody.
+    ///
+    /// # Examples
+    ///
+    /// ```
+    /// let settled = checker.watermark(&mut pass) == checker.issued(&mut pass);
+    /// ```
     pub fn watermark(&self, pass: &mut Pass) -> u64
         requires { pass.old.table ≡ N.board.table }
         ensures view { pass.new ≡ record pass.old { view = with_marks pass.new.view.marks pass.old.view } }
@@ -345,6 +441,14 @@ impl<N: Name> Checker<N> {
     }
 
     /// Whether the checker is closed. Once a pass has found it closed it finds it so. It takes no lock and waits for nobody.
+    ///
+    /// # Examples
+    ///
+    /// ```
+    /// while !checker.is_closed(&mut pass) {
+    ///     submit_some(&checker, &mut pass);
+    /// }
+    /// ```
     pub fn is_closed(&self, pass: &mut Pass) -> bool
         requires { pass.old.table ≡ N.board.table }
         ensures view { pass.new ≡ record pass.old { view = pass_closed result pass.old.view } }

@@ -3,11 +3,12 @@ ghost use Rattle.std.specs.Prelude.{◌≡◌, ℕ, ◌<◌, ◌≤◌, None, Al
 ghost use Rattle.std.specs.Vec.{vec_len};
 ghost use Rattle.si_model.specs.Journals.{IsAccepted, present, refusal_after};
 ghost use Rattle.si_accept.specs.Faults.{IsFaultOf};
+ghost use Rattle.si_accept.specs.Statuses.{committed_among, doubtful_among};
 ghost use Rattle.si_words.specs.Entries.{IsBeginning, edits_of, entry, made_by};
 ghost use Rattle.si_words.specs.Seats.{seated};
 ghost use Rattle.si_words.specs.Views.{book_closed, new_book, with_entry, with_mine, with_seen};
 
-use crate::Name;
+use crate::{Name, Statuses};
 use si_accept::{AcceptFault, Book};
 use si_model::{Edit, Key, Number, OutOfMemory, Txn, Value};
 use si_words::laws::edits_append;
@@ -155,6 +156,17 @@ impl<N: Name> Desk<N> {
         ensures { result ≡ length (present (edits_of self.now.journal)).txns }
     {
         self.book.len()
+    }
+
+    /// What became of the present transactions.
+    pub fn statuses(&self) -> Result<Statuses, OutOfMemory>
+        ensures committed { IfOk result (λ s. s.committed ≡ committed_among (present (edits_of self.now.journal)).txns) }
+        ensures in_doubt { IfOk result (λ s. s.in_doubt.items ≡ doubtful_among (present (edits_of self.now.journal)).txns) }
+    {
+        Ok(Statuses {
+            committed: self.book.committed(),
+            in_doubt: self.book.doubtful()?,
+        })
     }
 
     /// Copies of the present transactions, in the order of arrival, which share the operations.

@@ -19,7 +19,7 @@ pub use checkers::Checker;
 pub use gates::{Gate, Place};
 pub use names::Name;
 pub use openings::{OpenFault, Parts, open};
-pub use reports::{Report, ReportFault, SettledFindings, ShardReport};
+pub use reports::{Report, ReportFault, SettledFindings, ShardReport, Statuses};
 pub use si_accept::AcceptFault;
 pub use si_words::Pass;
 pub use workers::Worked;

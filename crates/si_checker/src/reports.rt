@@ -2,7 +2,7 @@
 ghost use Rattle.std.specs.Prelude.{◌≡◌};
 ghost use Rattle.si_checker.specs.Calls.{report_fault_code};
 
-use si_model::{Finding, Key, Txn, Value};
+use si_model::{Finding, Key, Txn, TxnId, Value};
 use std::alloc::AllocError;
 use thiserror::Error;
 
@@ -28,6 +28,15 @@ pub struct SettledFindings {
     pub transactions: usize,
     /// The findings, in order.
     pub findings: Vec<Finding>,
+}
+
+/// What became of the transactions that are present after a journal.
+#[derive(Drop)]
+pub struct Statuses {
+    /// How many are committed.
+    pub committed: usize,
+    /// The ids of those in doubt, in the order of arrival.
+    pub in_doubt: Vec<TxnId>,
 }
 
 /// The state of one shard.

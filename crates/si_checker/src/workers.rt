@@ -53,6 +53,12 @@ impl<N: Name> Checker<N> {
     /// The shard applies the next edits of those that are left for it, as many as are copied at once.
     ///
     /// They are copied under the book's lock, and applied and published after it was let go.
+    ///
+    /// # Examples
+    ///
+    /// ```
+    /// let worked = checker.work_one(rt, 0, &Open); // the shard 0 has applied a batch more, or nothing was left
+    /// ```
     pub fn work_one<R: Wait, G: Gate>(&self, rt: &R, k: usize, gate: &G) -> Worked
         requires { k < N.board.shards }
         ensures { TellsPosition result }
@@ -98,6 +104,12 @@ impl<N: Name> Checker<N> {
     }
 
     /// The shard applies what is left for it, until the checker is closed and nothing is left, or something stands in the way.
+    ///
+    /// # Examples
+    ///
+    /// ```
+    /// let (ended, ()) = join(rt, || checker.work(rt, 0, &Open), || submit_and_close(rt, &checker, &mut pass));
+    /// ```
     pub fn work<R: Wait, G: Gate>(&self, rt: &R, k: usize, gate: &G) -> Worked
         requires { k < N.board.shards }
         ensures { EndsWork result }
@@ -143,6 +155,13 @@ impl<N: Name> Checker<N> {
     /// Waits until the workers have applied nearly all that was issued, or don't come further: so a report leaves to them, side by side,
     /// what it would have to apply itself. With one shard nothing is side by side, and it returns at once. It takes no lock, and where
     /// there are no workers it soon returns.
+    ///
+    /// # Examples
+    ///
+    /// ```
+    /// checker.await_workers(rt, &mut pass); // so that the report has little left to apply
+    /// let report = checker.settled_findings(rt, &mut pass)?;
+    /// ```
     pub fn await_workers<R: Wait>(&self, rt: &R, pass: &mut Pass)
         requires { pass.old.table ≡ N.board.table }
         ensures { pass.new ≡ record pass.old { view = with_marks pass.new.view.marks (with_count pass.new.view.count pass.old.view) } }

@@ -1,4 +1,4 @@
--- Where clap has no fault to tell of the words, each value that they give for `--shards` or `--every` passes its parser.
+-- Where clap has no fault to tell of the words, each value that they give for `--shards`, `--every` or `--expect` passes its parser.
 use Rattle.std.proofs.Common.{◌≡◌, ◌∙◌, ◌≤◌, ℕ, zero, suc, ◌+◌, ◌&&◌, Bool, true, false, cond, codes, List, [], ◌∷◌, ◌++◌, length, drop, Option, Some, None, is_some, refl, sym, ap, subst, arith, true≢false, fold, find, map, option_map, option_and_then, unwrap_or, Result, Ok, Err}
 use Rattle.std.specs.Prelude.{encode_utf8, slice_get, min}
 use Rattle.std.specs.List.{AllByRecursion}
@@ -30,6 +30,7 @@ use Rattle.clap.proofs.OnLiterals.{clap_on_literals}
 use Rattle.clap.proofs.WalkLemmas.{raw_values-rows}
 use Rattle.clap.proofs.ValueTestLemmas.{accepts-Accepts}
 use Rattle.si_cli.specs.declared.command_lines.TheConstants.{MOST_EVERY}
+use Rattle.si_model.specs.declared.edits.TheConstants.{MOST_EDITS}
 use Rattle.si_shard.specs.declared.shards.TheConstants.{MOST_SHARDS}
 use Rattle.si_cli.specs.CommandLines.{NumberFits, NumbersFit, files_given, number_given, number_of, rows_given, sicheck_app}
 
@@ -46,15 +47,15 @@ all_append : {X : Type 0} (P : X → Type 0) (xs ys : List X) → All P xs → A
 all_append P [] ys p q = q
 all_append P (x ∷ xs) ys p q = (p.0, all_append P xs ys p.1 q)
 
--- of an option with a number from 1 to the greatest
-module _ (name : Text) (most : ℕ) where
+-- of an option with a number from the least to the greatest
+module _ (name : Text) (least most : ℕ) where
   -- ---- rows that pass
 
   abbrev is_it : Text → Bool
   is_it id = bytes_eq id name
 
   abbrev number_parser : ValueParser
-  number_parser = Unsigned 1 most
+  number_parser = Unsigned least most
 
   -- the values pass the parser, and are read as they are written
   record PassesAll (reading : Reading) (texts : List Text) : Type 0 where
@@ -374,18 +375,18 @@ module _ (name : Text) (most : ℕ) where
       go true is f rest = subst (λ (y : Row). PassesAll y.reading y.values) (ap (λ o. unwrap_or o x) f) (all.0 is)
       go false is f rest = rest f
 
-  value_passes : (text : Text) → value_kinds false number_parser text ≡ [] → IsUnsignedIn 1 most text
+  value_passes : (text : Text) → value_kinds false number_parser text ≡ [] → IsUnsignedIn least most text
   value_passes text none = accepts-Accepts false number_parser text (go (accepts false number_parser text) none)
     where
       go : (b : Bool) → cond b [] (refused_kind number_parser ∷ []) ≡ [] → b ≡ true
       go true e = refl
       go false e = absurd (let n : length (refused_kind number_parser ∷ []) ≡ 0 = ap length e in omega arith)
 
-  row_passes : (how : Reading) (values : List Text) (text : Text) → PassesAll how values → option_map (read_as how) (slice_get values 0) ≡ Some text → IsUnsignedIn 1 most text
+  row_passes : (how : Reading) (values : List Text) (text : Text) → PassesAll how values → option_map (read_as how) (slice_get values 0) ≡ Some text → IsUnsignedIn least most text
   row_passes how [] text all e = absurd (true≢false (sym (ap is_some e)))
   row_passes how (v ∷ vs) text all e =
       let read : v ≡ text = ap (λ h. read_as h v) (sym all.as_written) ∙ ap (λ o. unwrap_or o v) e in
-      subst (IsUnsignedIn 1 most) read (value_passes v (none_of (value_kinds false number_parser v) _ all.values).0)
+      subst (IsUnsignedIn least most) read (value_passes v (none_of (value_kinds false number_parser v) _ all.values).0)
 
   rows_pass : (words : List Text) → All (λ t. All Good t.rules) (built sicheck_app).subs → fault_of sicheck_app words ≡ [] → All Passes (rows_given words)
   rows_pass words good none =
@@ -399,33 +400,41 @@ module _ (name : Text) (most : ℕ) where
       given None all = tt
       given (Some s) all = all
 
-  number_fits : All (λ t. All Good t.rules) (built sicheck_app).subs → (words : List Text) → fault_of sicheck_app words ≡ [] → NumberFits name most (rows_given words)
+  number_fits : All (λ t. All Good t.rules) (built sicheck_app).subs → (words : List Text) → fault_of sicheck_app words ≡ [] → NumberFits name least most (rows_given words)
   number_fits good words none text given = go (find (λ r. bytes_eq r.id name) (rows_given words)) refl given
     where
-      go : (found : Option Row) → find (λ r. bytes_eq r.id name) (rows_given words) ≡ found → option_and_then row_text found ≡ Some text → IsUnsignedIn 1 most text
+      go : (found : Option Row) → find (λ r. bytes_eq r.id name) (rows_given words) ≡ found → option_and_then row_text found ≡ Some text → IsUnsignedIn least most text
       go None is e = absurd (true≢false (sym (ap is_some e)))
       go (Some r) is e = row_passes r.reading r.values text (find_passes (rows_given words) r (rows_pass words good none) is) e
 
 -- ---- the program's numbers
 
-shards_good : All (λ t. All (Good (codes "shards") MOST_SHARDS) t.rules) (built sicheck_app).subs
+shards_good : All (λ t. All (Good (codes "shards") 1 MOST_SHARDS) t.rules) (built sicheck_app).subs
 unfolding clap_on_literals
 shards_good = (
-  (λ e. record { action = refl; ignore_case = refl; parser = refl; defaults = refl }, (λ e. absurd (true≢false (sym e)), (λ e. absurd (true≢false (sym e)), (λ e. absurd (true≢false (sym e)), (λ e. absurd (true≢false (sym e)), tt))))),
+  (λ e. record { action = refl; ignore_case = refl; parser = refl; defaults = refl }, (λ e. absurd (true≢false (sym e)), (λ e. absurd (true≢false (sym e)), (λ e. absurd (true≢false (sym e)), (λ e. absurd (true≢false (sym e)), (λ e. absurd (true≢false (sym e)), (λ e. absurd (true≢false (sym e)), tt))))))),
   ((λ e. absurd (true≢false (sym e)), tt), tt),
 )
 
-every_good : All (λ t. All (Good (codes "every") MOST_EVERY) t.rules) (built sicheck_app).subs
+every_good : All (λ t. All (Good (codes "every") 1 MOST_EVERY) t.rules) (built sicheck_app).subs
 unfolding clap_on_literals
 every_good = (
-  (λ e. absurd (true≢false (sym e)), (λ e. record { action = refl; ignore_case = refl; parser = refl; defaults = refl }, (λ e. absurd (true≢false (sym e)), (λ e. absurd (true≢false (sym e)), (λ e. absurd (true≢false (sym e)), tt))))),
+  (λ e. absurd (true≢false (sym e)), (λ e. record { action = refl; ignore_case = refl; parser = refl; defaults = refl }, (λ e. absurd (true≢false (sym e)), (λ e. absurd (true≢false (sym e)), (λ e. absurd (true≢false (sym e)), (λ e. absurd (true≢false (sym e)), (λ e. absurd (true≢false (sym e)), tt))))))),
+  ((λ e. absurd (true≢false (sym e)), tt), tt),
+)
+
+expected_good : All (λ t. All (Good (codes "expect") 0 MOST_EDITS) t.rules) (built sicheck_app).subs
+unfolding clap_on_literals
+expected_good = (
+  (λ e. absurd (true≢false (sym e)), (λ e. absurd (true≢false (sym e)), (λ e. absurd (true≢false (sym e)), (λ e. absurd (true≢false (sym e)), (λ e. record { action = refl; ignore_case = refl; parser = refl; defaults = refl }, (λ e. absurd (true≢false (sym e)), (λ e. absurd (true≢false (sym e)), tt))))))),
   ((λ e. absurd (true≢false (sym e)), tt), tt),
 )
 
 numbers_fit : (words : List Text) → fault_of sicheck_app words ≡ [] → NumbersFit (rows_given words)
 numbers_fit words none = record {
-  shards = number_fits (codes "shards") MOST_SHARDS shards_good words none;
-  every = number_fits (codes "every") MOST_EVERY every_good words none;
+  shards = number_fits (codes "shards") 1 MOST_SHARDS shards_good words none;
+  every = number_fits (codes "every") 1 MOST_EVERY every_good words none;
+  expected = number_fits (codes "expect") 0 MOST_EDITS expected_good words none;
 }
 
 -- the same of the rows of the subcommand that a parse entered
@@ -438,12 +447,12 @@ reads_fit words sub rows none is given = subst NumbersFit (ap (λ s. option_map_
     from (Some p) e = ap (λ o. unwrap_or o rows) e
 
 -- a value that passes is read as its number
-pub number_reads : (name : Text) (most : ℕ) (E : Type 0) (G : Text → Result ℕ E → Type 0) (rows : List Row) (r : Option ℕ)
+pub number_reads : (name : Text) (least most : ℕ) (E : Type 0) (G : Text → Result ℕ E → Type 0) (rows : List Row) (r : Option ℕ)
     → (one_of name rows ≡ None → r ≡ None) → ((text : Text) → one_of name rows ≡ Some text → ReadsOne G text r)
-    → ((text : Text) (x : Result ℕ E) → G text x → ParsesUnsigned 64 10 text x) → NumberFits name most rows → r ≡ number_given name rows
-number_reads name most E G rows r none some parses fits = go (one_of name rows) refl
+    → ((text : Text) (x : Result ℕ E) → G text x → ParsesUnsigned 64 10 text x) → NumberFits name least most rows → r ≡ number_given name rows
+number_reads name least most E G rows r none some parses fits = go (one_of name rows) refl
   where
-    parsed : (text : Text) (o : Option ℕ) → ReadsOne G text o → IsUnsignedIn 1 most text → o ≡ Some (number_of text)
+    parsed : (text : Text) (o : Option ℕ) → ReadsOne G text o → IsUnsignedIn least most text → o ≡ Some (number_of text)
     parsed text (Some n) read fit = ap (λ m. Some m) (parses text (Ok n) read).1
     parsed text None read fit = absurd (parses text (Err read.0) read.1 (fit.0, fit.1))
 
@@ -452,10 +461,10 @@ number_reads name most E G rows r none some parses fits = go (one_of name rows) 
     go (Some text) is = parsed text r (some text is) (fits text is)
 
 -- and lies in its range
-pub number_within : (name : Text) (most : ℕ) (rows : List Row) → NumberFits name most rows → IfSome (number_given name rows) (λ n. (1 ≤ n) × (n ≤ most))
-number_within name most rows fits = go (one_of name rows) refl
+pub number_within : (name : Text) (least most : ℕ) (rows : List Row) → NumberFits name least most rows → IfSome (number_given name rows) (λ n. (least ≤ n) × (n ≤ most))
+number_within name least most rows fits = go (one_of name rows) refl
   where
-    go : (given : Option Text) → one_of name rows ≡ given → IfSome (option_map number_of given) (λ n. (1 ≤ n) × (n ≤ most))
+    go : (given : Option Text) → one_of name rows ≡ given → IfSome (option_map number_of given) (λ n. (least ≤ n) × (n ≤ most))
     go None is = tt
     go (Some text) is = ((fits text is).2, (fits text is).3)
 

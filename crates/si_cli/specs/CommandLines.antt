@@ -1,5 +1,5 @@
 -- The command line, as clap's definition of simple commands has it, and what its words ask for.
-use Rattle.std.specs.Prelude.{◌≡◌, ◌<◌, ◌≤◌, ℕ, Bool, false, List, [], length, map, true, false, codes, Option, Some, option_map, unwrap_or, Result, Ok, Err}
+use Rattle.std.specs.Prelude.{◌≡◌, ◌<◌, ◌≤◌, ℕ, Bool, ◌&&◌, List, [], length, map, true, false, codes, Option, Some, is_none, option_map, unwrap_or, Result, Ok, Err}
 use Rattle.std.specs.Option.{option_map_or, IfSome}
 use Rattle.std.specs.Str.{bytes_eq}
 use Rattle.std.specs.Str.Parse.{digits_value, without_leading_plus}
@@ -16,25 +16,37 @@ use Rattle.si_run.specs.declared.options.TheConstants.{USUAL_SHARDS}
 use Rattle.si_cli.specs.declared.settings.TheConstants.{MOST_FILES}
 use Rattle.si_cli.specs.declared.settings.Settings.{Settings}
 use Rattle.si_cli.specs.declared.settings.SettingsFault.{SettingsFault}
-use Rattle.si_cli.specs.declared.settings.SettingsFault.TheVariants.{Line, TooManyFiles}
+use Rattle.si_cli.specs.declared.settings.SettingsFault.TheVariants.{Line, NewAlone, TooManyFiles}
 
 -- ---- the command
 
--- an option with a number from 1 to the greatest
-abbrev pub number_rule : Text → ℕ → Rule
-number_rule name most = record (new_rule name) { long = Some name; value_names = 1; action = Some Set; parser = Some (Unsigned 1 most) }
+-- an option with a number from the least to the greatest
+abbrev pub number_rule : Text → ℕ → ℕ → Rule
+number_rule name least most = record (new_rule name) { long = Some name; value_names = 1; action = Some Set; parser = Some (Unsigned least most) }
+
+-- a flag
+abbrev pub flag_rule : Text → Rule
+flag_rule name = record (new_rule name) { long = Some name; action = Some SetTrue }
 
 -- `--shards K`
 abbrev pub shards_rule : Rule
-shards_rule = number_rule (codes "shards") MOST_SHARDS
+shards_rule = number_rule (codes "shards") 1 MOST_SHARDS
 
 -- `--every N`
 abbrev pub every_rule : Rule
-every_rule = number_rule (codes "every") MOST_EVERY
+every_rule = number_rule (codes "every") 1 MOST_EVERY
+
+-- `--new`
+abbrev pub only_new_rule : Rule
+only_new_rule = flag_rule (codes "new")
 
 -- `--explain`
 abbrev pub explain_rule : Rule
-explain_rule = record (new_rule (codes "explain")) { long = Some (codes "explain"); action = Some SetTrue }
+explain_rule = flag_rule (codes "explain")
+
+-- `--expect N`
+abbrev pub expect_rule : Rule
+expect_rule = number_rule (codes "expect") 0 MOST_EDITS
 
 -- a file, or several
 abbrev pub file_rule : Rule
@@ -42,7 +54,8 @@ file_rule = record (new_rule (codes "FILE")) { action = Some Append }
 
 -- the subcommand
 abbrev pub check_app : App
-check_app = with_rule (with_rule (with_rule (with_rule (new_app (codes "check")) shards_rule) every_rule) explain_rule) file_rule
+check_app =
+    with_rule (with_rule (with_rule (with_rule (with_rule (with_rule (new_app (codes "check")) shards_rule) every_rule) only_new_rule) explain_rule) expect_rule) file_rule
 
 -- the program before its subcommand is added, which has to be given
 abbrev pub top_app : App
@@ -74,9 +87,25 @@ shards_given rows = unwrap_or (number_given (codes "shards") rows) USUAL_SHARDS
 abbrev pub every_given : List Row → Option ℕ
 every_given rows = number_given (codes "every") rows
 
+-- the N of `--expect N`
+abbrev pub expected_given : List Row → Option ℕ
+expected_given rows = number_given (codes "expect") rows
+
+-- whether the flag of that name is there
+abbrev pub flag_given : Text → List Row → Bool
+flag_given name rows = option_map_or (λ text. bytes_eq text (codes "true")) (first_of name rows) false
+
+-- whether `--new` is there
+abbrev pub only_new_given : List Row → Bool
+only_new_given rows = flag_given (codes "new") rows
+
+-- whether it is there without `--every`, whose reports it is about
+abbrev pub is_new_alone : List Row → Bool
+is_new_alone rows = only_new_given rows && is_none (every_given rows)
+
 -- whether `--explain` is there
 abbrev pub explain_given : List Row → Bool
-explain_given rows = option_map_or (λ text. bytes_eq text (codes "true")) (first_of (codes "explain") rows) false
+explain_given rows = flag_given (codes "explain") rows
 
 -- the names of the files, in their order
 abbrev pub files_given : List Row → List Text
@@ -84,38 +113,58 @@ files_given rows = unwrap_or (all_of (codes "FILE") rows) []
 
 -- the options that the words ask for, with what holds where they ask for nothing
 abbrev pub options_given : List Row → Options
-options_given rows = record { shards = shards_given rows; every = every_given rows; explain = explain_given rows; limit = MOST_EDITS }
+options_given rows = record {
+  shards = shards_given rows;
+  every = every_given rows;
+  only_new = only_new_given rows;
+  explain = explain_given rows;
+  expected = expected_given rows;
+  limit = MOST_EDITS;
+}
 
 -- reports come after a number of items in that range, if they come on the way
 abbrev pub IsEveryInRange : Option ℕ → Type 0
 IsEveryInRange every = IfSome every (λ n. (1 ≤ n) × (n ≤ MOST_EVERY))
+
+-- as many transactions are expected as there may be, at most, if any number is
+abbrev pub IsExpectedInRange : Option ℕ → Type 0
+IsExpectedInRange expected = IfSome expected (λ n. n ≤ MOST_EDITS)
 
 -- what settings say of the rows
 pub record IsGiven (rows : List Row) (settings : Settings) : Type 0 where
   pub options : settings.options ≡ options_given rows
   pub shards : (1 ≤ settings.options.shards) × (settings.options.shards ≤ MOST_SHARDS)
   pub every : IsEveryInRange settings.options.every
+  pub together : is_new_alone rows ≡ false
+  pub expected : IsExpectedInRange settings.options.expected
   pub files : map (λ file. file.now) settings.files.items ≡ files_given rows
   pub few : length (files_given rows) ≤ MOST_FILES
 
--- settings come where clap has no fault to tell of the words and they name few enough files; a fault is one of clap's, or
--- that memory was refused, or that the files are too many
+-- `--new` comes with `--every`, and the files are too many
+abbrev pub AreTooManyFiles : List Row → Type 0
+AreTooManyFiles rows = (is_new_alone rows ≡ false) × (MOST_FILES < length (files_given rows))
+
+-- settings come where clap has no fault to tell of the words, `--new` comes with `--every`, and few enough files are named; a fault is one of clap's, or
+-- that memory was refused, or that `--new` comes alone, or else that the files are too many
 abbrev pub IsToldBy : List Text → Result Settings SettingsFault → Type 0
 IsToldBy words (Ok settings) = (fault_of sicheck_app words ≡ []) × IsGiven (rows_given words) settings
 IsToldBy words (Err (Line error)) = HasKind (fault_of sicheck_app words) error
-IsToldBy words (Err TooManyFiles) = (fault_of sicheck_app words ≡ []) × (MOST_FILES < length (files_given (rows_given words)))
+IsToldBy words (Err NewAlone) = (fault_of sicheck_app words ≡ []) × (is_new_alone (rows_given words) ≡ true)
+IsToldBy words (Err TooManyFiles) = (fault_of sicheck_app words ≡ []) × AreTooManyFiles (rows_given words)
 
 -- the number of the option of that name is in its range
-abbrev pub NumberFits : Text → ℕ → List Row → Type 0
-NumberFits name most rows = (text : Text) → one_of name rows ≡ Some text → IsUnsignedIn 1 most text
+abbrev pub NumberFits : Text → ℕ → ℕ → List Row → Type 0
+NumberFits name least most rows = (text : Text) → one_of name rows ≡ Some text → IsUnsignedIn least most text
 
--- the numbers of `--shards` and `--every` are in their ranges
+-- the numbers of `--shards`, `--every` and `--expect` are in their ranges
 pub record NumbersFit (rows : List Row) : Type 0 where
-  pub shards : NumberFits (codes "shards") MOST_SHARDS rows
-  pub every : NumberFits (codes "every") MOST_EVERY rows
+  pub shards : NumberFits (codes "shards") 1 MOST_SHARDS rows
+  pub every : NumberFits (codes "every") 1 MOST_EVERY rows
+  pub expected : NumberFits (codes "expect") 0 MOST_EDITS rows
 
--- what reading the rows gives: the settings, too many files, or that memory was refused
+-- what reading the rows gives: the settings, `--new` alone, too many files, or that memory was refused
 abbrev pub IsReadOf : List Row → Result Settings SettingsFault → Type 0
 IsReadOf rows (Ok settings) = IsGiven rows settings
 IsReadOf rows (Err (Line error)) = kind_of error ≡ OutOfMemory
-IsReadOf rows (Err TooManyFiles) = MOST_FILES < length (files_given rows)
+IsReadOf rows (Err NewAlone) = is_new_alone rows ≡ true
+IsReadOf rows (Err TooManyFiles) = AreTooManyFiles rows

@@ -11,7 +11,7 @@ use Rattle.si_cli.specs.declared.settings.SettingsFault.TheVariants as unsettled
 use Rattle.si_run.specs.declared.statuses.ExitStatus.{ExitStatus}
 use Rattle.si_run.specs.declared.faults.RunFault.{RunFault}
 use Rattle.si_run.specs.declared.faults.RunFault.TheVariants as fault
-use Rattle.si_cli.specs.CommandLines.{every_given, explain_given, files_given, rows_given, sicheck_app}
+use Rattle.si_cli.specs.CommandLines.{AreTooManyFiles, every_given, expected_given, explain_given, files_given, is_new_alone, only_new_given, rows_given, sicheck_app}
 use Rattle.si_run.specs.Outputs.{Terms, exit_code}
 use Rattle.si_run.specs.Runs.{AppendsBeginning, BeginsText, IsTrueDeviceFault, WritesText}
 use Rattle.si_run.specs.Takings.{Device}
@@ -67,6 +67,9 @@ output_line = codes "sicheck: cannot write\n"
 
 abbrev pub files_line : List ℕ
 files_line = codes "sicheck: too many files\n"
+
+abbrev pub alone_line : List ℕ
+alone_line = codes "sicheck: --new without --every\n"
 
 abbrev pub key_line : List ℕ
 key_line = codes "sicheck: no random bytes for the hash maps\n"
@@ -137,27 +140,43 @@ EndsLine error out err result =
 -- why the words ask for no check is told
 abbrev pub EndsUnsettled : SettingsFault → Device → Device → ℕ → Type 0
 EndsUnsettled (unsettled.Line error) out err result = EndsLine error out err result
+EndsUnsettled unsettled.NewAlone out err result = IsUntouched out × Fails err alone_line result
 EndsUnsettled unsettled.TooManyFiles out err result = IsUntouched out × Fails err files_line result
 
 -- what the words say of the text
 abbrev pub terms_given : List Text → Terms
-terms_given words = record { limit = MOST_EDITS; every = every_given (rows_given words); explain = explain_given (rows_given words) }
+terms_given words = record {
+  limit = MOST_EDITS;
+  every = every_given (rows_given words);
+  only_new = only_new_given (rows_given words);
+  explain = explain_given (rows_given words);
+  expected = expected_given (rows_given words);
+}
 
--- clap tells something of the words, or that memory was refused; or it has no fault to tell, and they name too many files, or the check of
--- the input or of the files ends, by the terms of the words
+-- `--new` comes with `--every`, and few enough files are named
+abbrev pub AreSettled : List Text → Type 0
+AreSettled words = (is_new_alone (rows_given words) ≡ false) × (length (files_given (rows_given words)) ≤ MOST_FILES)
+
+-- `--new` comes alone, or else the files are too many, which is told
+abbrev pub EndsUnasked : List Text → Device → Device → ℕ → Type 0
+EndsUnasked words out err result =
+    ((is_new_alone (rows_given words) ≡ true) × IsUntouched out × Fails err alone_line result)
+    ⊎ (AreTooManyFiles (rows_given words) × IsUntouched out × Fails err files_line result)
+
+-- clap tells something of the words, or that memory was refused; or it has no fault to tell, and `--new` comes alone, or they name too many files, or the check
+-- of the input or of the files ends, by the terms of the words
 abbrev pub EndsProgram : List Text → Input → Files → Device → Device → ℕ → Type 0
 EndsProgram words input files out err result =
     ((error : Error) × HasKind (fault_of sicheck_app words) error × EndsLine error out err result)
     ⊎ ((fault_of sicheck_app words ≡ [])
-    × (((MOST_FILES < length (files_given (rows_given words))) × IsUntouched out × Fails err files_line result)
-    ⊎ ((length (files_given (rows_given words)) ≤ MOST_FILES)
-    × EndsNamed (terms_given words) input files (files_given (rows_given words)) out err result)))
+    × (EndsUnasked words out err result
+    ⊎ (AreSettled words × EndsNamed (terms_given words) input files (files_given (rows_given words)) out err result)))
 
--- with no secret key: clap tells something of the words, or that memory was refused; or it has no fault to tell, and they name too many files, or ask for a check,
--- which couldn't be made
+-- with no secret key: clap tells something of the words, or that memory was refused; or it has no fault to tell, and `--new` comes alone, or they name too many files,
+-- or ask for a check, which couldn't be made
 abbrev pub EndsWithoutKey : List Text → Device → Device → ℕ → Type 0
 EndsWithoutKey words out err result =
     ((error : Error) × HasKind (fault_of sicheck_app words) error × EndsLine error out err result)
     ⊎ ((fault_of sicheck_app words ≡ [])
-    × (((MOST_FILES < length (files_given (rows_given words))) × IsUntouched out × Fails err files_line result)
-    ⊎ ((length (files_given (rows_given words)) ≤ MOST_FILES) × IsUntouched out × Fails err key_line result)))
+    × (EndsUnasked words out err result
+    ⊎ (AreSettled words × IsUntouched out × Fails err key_line result)))

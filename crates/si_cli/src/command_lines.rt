@@ -1,9 +1,11 @@
 ghost use Rattle.std.specs.Prelude.{◌≡◌, IfOk, map, false};
-ghost use Rattle.clap.specs.Words.{FailsBy, app_of, fault_of, rule_of, subcommand_of, subcommand_rows_of};
-ghost use Rattle.si_cli.specs.CommandLines.{every_rule, explain_rule, file_rule, number_rule, shards_rule, sicheck_app};
+ghost use Rattle.clap.specs.declared.builder.command.Command.{Command};
+ghost use Rattle.clap.specs.Words.{AddsSubcommand, FailsBy, app_of, fault_of, rule_of, subcommand_of, subcommand_rows_of, with_subcommand};
+ghost use Rattle.si_cli.specs.CommandLines.{check_app, every_rule, expect_rule, explain_rule, file_rule, only_new_rule, shards_rule, sicheck_app};
 
 use clap::builder::ValueParser;
 use clap::{Arg, ArgAction, ArgMatches, Command};
+use si_model::MOST_EDITS;
 use si_shard::MOST_SHARDS;
 use std::alloc::{AllocError, Global};
 use std::convert::AsStr;
@@ -17,6 +19,12 @@ pub const EVERY: &str = "every";
 /// The greatest number of lines that may be asked for between two reports.
 pub const MOST_EVERY: u64 = 16_777_216;
 
+/// The id of the flag by which reports on the way tell only what changed.
+pub const NEW: &str = "new";
+
+/// The id of the option that says how many transactions are expected.
+pub const EXPECT: &str = "expect";
+
 /// The id of the flag that asks for evidence.
 pub const EXPLAIN: &str = "explain";
 
@@ -28,7 +36,9 @@ const VERSION: &str = "0.1.0";
 
 const ABOUT: &str = "Checks a history of transactions against snapshot isolation.";
 
-const USAGE: &str = "sicheck check [--shards K] [--every N] [--explain] [FILE]...";
+const USAGE: &str = "\
+sicheck check [--shards K] [--every N [--new]] [--explain] [--expect N]
+                     [FILE]...";
 
 const INPUT: &str = "\
 The input has one JSON value a line; lines may come late and out of order.
@@ -61,9 +71,14 @@ The output has a line for each refused line, then the findings and a summary:
   future        the value was committed after the reader's snapshot
   stale         the value had been replaced before the reader's snapshot
   overlap       a version was replaced by a writer whose snapshot lacks it
+With --new a report on the way has `gone ` before each violation that the one
+before it had and that is there no more; the last report has all findings.
 The status is the gate: 20 where snapshot isolation is violated; else 10 where
 the verdict is open or a line was refused, so also where it is clean beside
-refused lines; else 0; and 2 where the check couldn't be made.
+refused lines; else 0; and 2 where the check couldn't be made. Status 0 says
+nothing of what wasn't logged, or of transactions in doubt whose writes nobody
+read: with --expect N it is 10 where fewer than N transactions are committed
+or some are in doubt, and the line `short` before the summary tells why.
 
 docs/LOGGING.md tells what to log and what each finding means. docs/FORMAT.md
 has the code and reason of each refused line, each field and each verdict.
@@ -85,20 +100,29 @@ pub fn parse<'a, S: AsStr>(alloc: Global, words: &'a [S]) -> Result<ArgMatches<'
 fn command<'a>(alloc: Global) -> Result<Command<'a>, AllocError>
     ensures { IfOk result (λ command. app_of command ≡ sicheck_app) }
 {
-    let check = Command::new(alloc, "check")
-        .about("Checks the history in FILEs, or on standard input where none is named")
-        .override_usage(USAGE)
-        .after_help(manual())
-        .arg(shards(alloc))?
-        .arg(every(alloc))?
-        .arg(explain(alloc))?
-        .arg(file(alloc))?;
+    let check = check(alloc)?;
     let top = Command::new(alloc, "sicheck")
         .about(ABOUT)
         .version(VERSION)
         .after_help(manual())
         .subcommand_required(true);
     top.subcommand(check)
+}
+
+/// The subcommand, which a command has once it is added to it.
+fn check<'a>(alloc: Global) -> Result<Command<'a>, AllocError>
+    ensures { IfOk result (λ check. (old new : Command) → AddsSubcommand old check new → app_of new ≡ with_subcommand (app_of old) check_app.top) }
+{
+    Command::new(alloc, "check")
+        .about("Checks the history in FILEs, or on standard input where none is named")
+        .override_usage(USAGE)
+        .after_help(manual())
+        .arg(shards(alloc))?
+        .arg(every(alloc))?
+        .arg(only_new(alloc))?
+        .arg(explain(alloc))?
+        .arg(expect(alloc))?
+        .arg(file(alloc))
 }
 
 /// What help tells of the input, the output and the status. No clause has the text, or the proof of the command would have it
@@ -131,6 +155,30 @@ fn every<'a>(alloc: Global) -> Arg<'a>
         .action(ArgAction::Set)
         .value_parser(ValueParser::unsigned(1, MOST_EVERY))
         .help("Reports after each N lines too, 1 to 16777216")
+}
+
+/// The flag by which reports on the way tell only what changed.
+fn only_new<'a>(alloc: Global) -> Arg<'a>
+    ensures rule { rule_of result ≡ only_new_rule }
+    ensures local { result.global ≡ false }
+{
+    Arg::new(alloc, NEW)
+        .long("new")
+        .action(ArgAction::SetTrue)
+        .help("Reports on the way only violations that came or are gone")
+}
+
+/// The option that says how many committed transactions are to be present at the end, with none in doubt.
+fn expect<'a>(alloc: Global) -> Arg<'a>
+    ensures rule { rule_of result ≡ expect_rule }
+    ensures local { result.global ≡ false }
+{
+    Arg::new(alloc, EXPECT)
+        .long("expect")
+        .value_name("N")
+        .action(ArgAction::Set)
+        .value_parser(ValueParser::unsigned(0, MOST_EDITS as u64))
+        .help("Expects N committed transactions, and none in doubt")
 }
 
 /// The flag that asks for evidence.

@@ -103,6 +103,7 @@ fn tell_unsettled<O: ByteSink, E: ByteSink>(
 {
     match fault {
         SettingsFault::Line(error) => tell_line(alloc, out, err, error),
+        SettingsFault::NewAlone => tell(err, b"sicheck: --new without --every\n"),
         SettingsFault::TooManyFiles => tell(err, b"sicheck: too many files\n"),
     }
 }

@@ -1,9 +1,9 @@
-ghost use Rattle.std.specs.Prelude.{◌≡◌, ◌≤◌, ℕ, map, false, IfOk};
+ghost use Rattle.std.specs.Prelude.{◌≡◌, ◌≤◌, ◌&&◌, ℕ, map, false, is_none, IfOk};
 ghost use Rattle.clap.specs.Words.{found_of, rows_of};
-ghost use Rattle.si_cli.specs.CommandLines.{IsToldBy, IsReadOf, NumberFits, NumbersFit, files_given, every_given, explain_given, number_given, shards_given};
+ghost use Rattle.si_cli.specs.CommandLines.{IsToldBy, IsReadOf, NumberFits, NumbersFit, files_given, every_given, expected_given, options_given, flag_given, number_given, shards_given};
 
 use crate::Options;
-use crate::command_lines::{EVERY, EXPLAIN, FILE, SHARDS, parse};
+use crate::command_lines::{EVERY, EXPECT, EXPLAIN, FILE, NEW, SHARDS, parse};
 use clap::ArgMatches;
 use si_model::MOST_EDITS;
 use si_run::options::USUAL_SHARDS;
@@ -14,6 +14,16 @@ use std::fmt;
 
 /// The most files that are read.
 pub const MOST_FILES: usize = 8;
+
+/// The options that are asked for by nothing.
+const USUAL: Options = Options {
+    shards: USUAL_SHARDS,
+    every: None,
+    only_new: false,
+    explain: false,
+    expected: None,
+    limit: MOST_EDITS,
+};
 
 /// What a command line asks for.
 #[derive(Debug, Drop)]
@@ -28,6 +38,8 @@ pub struct Settings<'a> {
 pub enum SettingsFault {
     /// The words aren't a command line of the program, or ask for help, or memory was refused: `clap` says which.
     Line(clap::Error),
+    /// The words ask that reports on the way tell only what changed, and for no reports on the way.
+    NewAlone,
     /// The words name over `MOST_FILES` files.
     TooManyFiles,
 }
@@ -36,6 +48,7 @@ impl fmt::Display for SettingsFault {
     fn fmt<W: fmt::Write>(&self, f: &mut fmt::Formatter<W>) -> fmt::Result {
         match self {
             SettingsFault::Line(error) => write!(f, "{error}"),
+            SettingsFault::NewAlone => write!(f, "--new without --every"),
             SettingsFault::TooManyFiles => write!(f, "too many files"),
         }
     }
@@ -45,9 +58,10 @@ impl std::error::Error for SettingsFault {}
 
 /// What the words of a command line ask for, of which the first is the program's name.
 ///
-/// They are `sicheck check [--shards K] [--every N] [--explain] [FILE]...`, with K from 1 to `MOST_SHARDS`, `USUAL_SHARDS` where it isn't
-/// given, and N from 1 to `MOST_EVERY`. A fault is one that `clap`'s definition of the command tells of the words, or that
-/// memory was refused, or that they name too many files.
+/// They are `sicheck check [--shards K] [--every N [--new]] [--explain] [--expect N] [FILE]...`, with K from 1 to `MOST_SHARDS`,
+/// `USUAL_SHARDS` where it isn't given, N of `--every` from 1 to `MOST_EVERY` and N of `--expect` from 0 to `MOST_EDITS`. A fault is one that
+/// `clap`'s definition of the command tells of the words, or that memory was refused, or that `--new` comes without `--every`, or that they name
+/// too many files.
 pub fn settings_of<'a, S: AsStr>(
     alloc: Global,
     words: &'a [S],
@@ -61,7 +75,7 @@ pub fn settings_of<'a, S: AsStr>(
     match matches.subcommand() {
         Some((_, check)) => read(alloc, check),
         None => Ok(Settings {
-            options: options(USUAL_SHARDS, None, false),
+            options: USUAL,
             files: Vec::new(alloc),
         }),
     }
@@ -75,11 +89,21 @@ fn read<'a>(alloc: Global, check: &ArgMatches<'a>) -> Result<Settings<'a>, Setti
     let Ok(files) = files_of(alloc, check) else {
         return Err(SettingsFault::Line(clap::Error::from(AllocError)));
     };
+    let options = options_of(check);
+    if is_new_alone(&options) {
+        return Err(SettingsFault::NewAlone);
+    }
     if files.len() > MOST_FILES {
         return Err(SettingsFault::TooManyFiles);
     }
-    let options = options(shards_of(check), every_of(check), is_explained(check));
     Ok(Settings { options, files })
+}
+
+/// Whether reports on the way are to tell only what changed, and none are asked for.
+fn is_new_alone(options: &Options) -> bool
+    ensures { result ≡ (options.now.only_new && is_none options.now.every) }
+{
+    options.only_new && options.every.is_none()
 }
 
 /// The files that are named.
@@ -114,30 +138,42 @@ fn every_of(check: &ArgMatches<'_>) -> Option<u64>
 
 /// The number of the option of that name, which has to lie in a range.
 fn number_of(check: &ArgMatches<'_>, name: &str) -> Option<u64>
-    requires { (most : ℕ) × NumberFits name.now most (rows_of (found_of check.now)) }
+    requires { (least : ℕ) × (most : ℕ) × NumberFits name.now least most (rows_of (found_of check.now)) }
     ensures { result ≡ number_given name.now (rows_of (found_of check.now)) }
 {
     check.get_one::<u64>(name)
 }
 
-/// Whether evidence is asked for.
-fn is_explained(check: &ArgMatches<'_>) -> bool
-    ensures { result ≡ explain_given (rows_of (found_of check.now)) }
+/// The number of the option `--expect`.
+fn expected_of(check: &ArgMatches<'_>) -> Option<u64>
+    requires { NumbersFit (rows_of (found_of check.now)) }
+    ensures { result ≡ expected_given (rows_of (found_of check.now)) }
 {
-    match check.get_str(EXPLAIN) {
+    number_of(check, EXPECT)
+}
+
+/// Whether the flag of that name is there.
+fn has_flag(check: &ArgMatches<'_>, name: &str) -> bool
+    ensures { result ≡ flag_given name.now (rows_of (found_of check.now)) }
+{
+    match check.get_str(name) {
         Some(text) => text == "true",
         None => false,
     }
 }
 
-/// The program's options, with so many shards, reports after each so many items, and with evidence or without.
-fn options(shards: usize, every: Option<u64>, explain: bool) -> Options
-    ensures { result ≡ record { shards = shards; every = every; explain = explain; limit = MOST_EDITS } }
+/// The program's options.
+fn options_of(check: &ArgMatches<'_>) -> Options
+    requires { NumbersFit (rows_of (found_of check.now)) }
+    ensures given { result ≡ options_given (rows_of (found_of check.now)) }
+    ensures shards { (1 ≤ result.shards) × (result.shards ≤ MOST_SHARDS) }
 {
     Options {
-        shards,
-        every,
-        explain,
+        shards: shards_of(check),
+        every: every_of(check),
+        only_new: has_flag(check, NEW),
+        explain: has_flag(check, EXPLAIN),
+        expected: expected_of(check),
         limit: MOST_EDITS,
     }
 }

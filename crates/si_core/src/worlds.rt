@@ -48,6 +48,12 @@ impl World {
     /// A machine with so many shards whose journal may have so many edits. Nothing is accepted yet.
     ///
     /// Its maps of ids, keys and values hash with this secret key, so that no log can be made to collide in them.
+    ///
+    /// # Examples
+    ///
+    /// ```
+    /// let mut world = World::new(rt.alloc(), hash, 1, MOST_EDITS)?;
+    /// ```
     pub fn new(
         alloc: Global,
         hash: RandomState,
@@ -80,6 +86,17 @@ impl World {
     ///
     /// Where the growth of some memory is refused the reply is [`Reply::NoMemory`] and the step, or the application that it met,
     /// changed nothing; or it is [`Reply::Spoiled`], and the shard is spoiled from then on.
+    ///
+    /// # Examples
+    ///
+    /// ```
+    /// match world.step(Step::Accept(edit)) {
+    ///     Reply::Accepted(number) => accepted(number),
+    ///     Reply::Refused(reason) => refused(reason),
+    ///     _ => out_of_memory(),
+    /// }
+    /// world.step(Step::Settle);
+    /// ```
     pub fn step(&mut self, step: Step) -> Reply
         ensures { IsStep self.old step result self.new }
     {
@@ -93,6 +110,12 @@ impl World {
     /// Makes the steps, one after the other, and answers with their replies.
     ///
     /// The room for the replies is taken first: where that is refused no step is made.
+    ///
+    /// # Examples
+    ///
+    /// ```
+    /// let replies = world.run(steps)?; // one for each step, in their order
+    /// ```
     pub fn run(&mut self, steps: Vec<Step>) -> Result<Vec<Reply>, OutOfMemory>
         ensures ok { IfOk result (λ replies. IsRun self.old steps.items replies.items self.new) }
         ensures err { OnErr result (self.new ≡ self.old) }
@@ -108,6 +131,12 @@ impl World {
     ///
     /// It answers with the last [`Reply::Applied`], or with that other reply where nothing was applied. So where memory is refused
     /// to an edit after the first, the answer doesn't tell it. A shard that was spoiled then says so at the next call.
+    ///
+    /// # Examples
+    ///
+    /// ```
+    /// world.apply_many(0, 64); // the shard 0 applies up to 64 edits
+    /// ```
     pub fn apply_many(&mut self, shard: usize, most: u64) -> Reply
         requires { 1 ≤ most }
         ensures { AppliesMany most self.old shard result self.new }
@@ -129,6 +158,14 @@ impl World {
     /// Makes all that the shard knows anew from the edits that it has applied, and so ends a spoiled state.
     ///
     /// If memory is refused, everything stays as it was.
+    ///
+    /// # Examples
+    ///
+    /// ```
+    /// if let Err(WorldFault::Spoiled(shard)) = world.findings() {
+    ///     world.rebuild(shard)?; // once there is memory again
+    /// }
+    /// ```
     pub fn rebuild(&mut self, shard: usize) -> Result<(), OutOfMemory>
         requires { shard < length self.old.shards }
         ensures ok { OnOk result (IsRebuilt self.old shard self.new) }
@@ -141,6 +178,13 @@ impl World {
     ///
     /// Only a settled machine tells them. Before that it answers [`WorldFault::Spoiled`] with the least shard that is spoiled, and
     /// where none is [`WorldFault::Unsettled`] with the least position.
+    ///
+    /// # Examples
+    ///
+    /// ```
+    /// world.step(Step::Settle);
+    /// let found = world.findings()?;
+    /// ```
     pub fn findings(&self) -> Result<Vec<Finding>, WorldFault>
         ensures found { IfOk result (λ found. found.items ≡ findings (present self.now.journal)) }
         ensures empty { IfOk result (λ found. (found.items ≡ []) ↔ (IsWellFormed (present self.now.journal) × IsPlSi (present self.now.journal))) }
@@ -163,6 +207,12 @@ impl World {
     }
 
     /// Copies of the present transactions, in the order of arrival, which share the operations.
+    ///
+    /// # Examples
+    ///
+    /// ```
+    /// let again = findings_of(world.present()?.as_slice(), world.initial()?.as_slice())?; // what `findings` tells
+    /// ```
     pub fn present(&self) -> Result<Vec<Txn>, OutOfMemory>
         ensures { IfOk result (λ txns. txns.items ≡ (present self.now.journal).txns) }
     {
@@ -170,6 +220,12 @@ impl World {
     }
 
     /// Copies of the keys that were set up with their values, in the order of arrival.
+    ///
+    /// # Examples
+    ///
+    /// ```
+    /// let values = world.initial()?; // [(x, 7)] after `{"do":"setup","key":"x","value":7}`
+    /// ```
     pub fn initial(&self) -> Result<Vec<(Key, Value)>, OutOfMemory>
         ensures { IfOk result (λ initial. initial.items ≡ (present self.now.journal).initial) }
     {
@@ -177,6 +233,12 @@ impl World {
     }
 
     /// How many transactions are present.
+    ///
+    /// # Examples
+    ///
+    /// ```
+    /// let transactions = world.len(); // those in doubt and those that aborted too
+    /// ```
     pub fn len(&self) -> usize
         ensures { result ≡ length (present self.now.journal).txns }
     {
@@ -184,6 +246,14 @@ impl World {
     }
 
     /// How many shards there are.
+    ///
+    /// # Examples
+    ///
+    /// ```
+    /// for shard in 0..world.shards() {
+    ///     world.step(Step::Apply(shard));
+    /// }
+    /// ```
     pub fn shards(&self) -> usize
         ensures { result ≡ length self.now.shards }
     {
@@ -191,6 +261,12 @@ impl World {
     }
 
     /// How many edits the shard of this number has applied, if there is one.
+    ///
+    /// # Examples
+    ///
+    /// ```
+    /// let applied = world.position(0); // None where there is no shard 0
+    /// ```
     pub fn position(&self, shard: usize) -> Option<u64>
         ensures { result ≡ option_map (λ p. p.position) (slice_get self.now.shards shard) }
     {

@@ -4,12 +4,14 @@ ghost use Rattle.std.specs.Prelude.{◌≡◌, false};
 ghost use Rattle.std.specs.Mem.{FitsInMemory};
 
 mod evidence;
+mod expectations;
 mod files;
 mod helps;
 mod intakes;
 mod interruptions;
 mod long_runs;
 mod named_files;
+mod news;
 mod programs;
 mod rows;
 mod runs;
@@ -31,7 +33,9 @@ use std::thread::Threads;
 const PLAIN: Options = Options {
     shards: 4,
     every: None,
+    only_new: false,
     explain: false,
+    expected: None,
     limit: 16_777_216,
 };
 

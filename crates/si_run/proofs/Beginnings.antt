@@ -1,5 +1,5 @@
 -- What was written for items is a beginning of the text of those and all that follow.
-use Rattle.std.proofs.Common.{◌≡◌, ℕ, ◌+◌, Bool, false, ◌||◌, List, [], ◌∷◌, ◌++◌, Option, None, refl, sym, ap, subst, ◌∙◌, inl, inr, append_assoc, append-nil}
+use Rattle.std.proofs.Common.{◌≡◌, ℕ, ◌+◌, Bool, true, false, cond, ◌||◌, ◌&&◌, List, [], ◌∷◌, ◌++◌, Option, None, refl, sym, ap, subst, ◌∙◌, inl, inr, append_assoc, append-nil}
 use Rattle.std.specs.Io.KnownBytes.{Appends}
 use Rattle.std.proofs.KnownBytes.{Appends-trans, Appends-nil}
 use Rattle.std.proofs.lemmas.List.Elements.{filter_map-append}
@@ -15,14 +15,14 @@ use Rattle.si_text.specs.declared.faults.LineFault.{LineFault}
 use Rattle.si_run.specs.declared.statuses.ExitStatus.{ExitStatus}
 use Rattle.si_run.specs.declared.faults.RunFault.{RunFault}
 use Rattle.si_run.specs.declared.faults.RunFault.TheVariants as fault
-use Rattle.si_run.specs.Outputs.{SourcedItem, sourced, Terms, Progress, start, progress_after, progress_through, report_at, item_text, items_text, output_of, status_at, status_of}
+use Rattle.si_run.specs.Outputs.{SourcedItem, sourced, Terms, Progress, start, behind_report, decided_after, is_due, progress_after, progress_through, violations_at, report_at, item_text, items_text, output_of, status_at, status_of}
 use Rattle.si_run.specs.Readings.{told}
 use Rattle.si_run.specs.Runs.{AppendsBeginning, IsUnwritten}
 use Rattle.si_run.specs.Takings.{IsAccepted, IsBegun, IsCutInReport, IsCutOff, IsDecided, IsMetAt, device, IsFinished, has_fault, is_fault, line_of, line_told, lines_among}
 
 -- ---- the texts of items, one more at the end
 
-progress_through-push : (terms : Terms) (p : Progress) (items : List SourcedItem) (item : SourcedItem) → progress_through terms p (items ++ item ∷ []) ≡ progress_after terms (progress_through terms p items) item
+pub progress_through-push : (terms : Terms) (p : Progress) (items : List SourcedItem) (item : SourcedItem) → progress_through terms p (items ++ item ∷ []) ≡ progress_after terms (progress_through terms p items) item
 progress_through-push terms p [] item = refl
 progress_through-push terms p (first ∷ items) item = progress_through-push terms (progress_after terms p first) items item
 
@@ -65,9 +65,16 @@ output-append terms xs ys =
     ∙ append_assoc (items_text terms start xs) (items_text terms (progress_through terms start xs) ys) (report_at terms (progress_through terms start (xs ++ ys)))
     ∙ ap (λ q. items_text terms start xs ++ (items_text terms (progress_through terms start xs) ys ++ report_at terms q)) (progress_through-append terms start xs ys)
 
+pub counts_on : (terms : Terms) (p : Progress) → (behind_report terms p).decided ≡ p.decided
+unfolding behind_report
+counts_on terms p = elim (is_due terms.every p.decided && terms.only_new) as (λ b. (cond b (record p { told = violations_at p }) p).decided ≡ p.decided) [
+  | true ↦ refl
+  | false ↦ refl
+]
+
 pub decided_one : (terms : Terms) (p : Progress) (item : SourcedItem) → (progress_after terms p item).decided ≡ p.decided + 1
-unfolding progress_after
-decided_one terms p item = refl
+unfolding progress_after decided_after
+decided_one terms p item = counts_on terms (decided_after terms p item)
 
 -- ---- one item more
 
@@ -143,7 +150,7 @@ stops_in_line terms taken old mid new p source number answer text way part text_
 -- ---- at the end
 
 pub finishes : (terms : Terms) (taken : List Told) (old mid new : Option (List ℕ)) (p q : Progress) (status : ExitStatus)
-    → IsDecided terms taken old mid p → q ≡ p → Appends mid new (report_at terms p) → status ≡ status_at p → IsFinished terms taken old new q status
+    → IsDecided terms taken old mid p → q ≡ p → Appends mid new (report_at terms p) → status ≡ status_at terms p → IsFinished terms taken old new q status
 unfolding output_of status_of
 finishes terms taken old mid new p q status way still adds status_is =
     let before = items_text terms start (lines_among taken) in
@@ -151,7 +158,7 @@ finishes terms taken old mid new p q status way still adds status_is =
       faultless = way.faultless;
       wrote = subst (λ t. Appends old new (before ++ t)) (ap (report_at terms) way.progress) (Appends-trans old mid new before (report_at terms p) way.wrote adds);
       progress = still ∙ way.progress;
-      ends = status_is ∙ ap status_at way.progress;
+      ends = status_is ∙ ap (status_at terms) way.progress;
     }
 
 -- ---- what isn't written whole
@@ -208,13 +215,14 @@ report_begun terms taken old new w q f cut =
 -- everything was decided, and then the last report written, or not the whole of it
 pub reported : (terms at : Terms) (old new : Accepting) (before mid after : Option (List ℕ)) (failed : Bool) (p q : Progress) (result : Result ExitStatus RunFault)
     → at ≡ terms → new ≡ record old { taken = new.taken } → AllEnded new → IsDecided terms new.taken before mid p → q ≡ p
-    → OnOk result (Appends mid after (report_at at p)) → IfOk result (λ status. status ≡ status_at p) → OnOk result (failed ≡ false)
+    → OnOk result (Appends mid after (report_at at p)) → IfOk result (λ status. status ≡ status_at at p) → OnOk result (failed ≡ false)
     → IfErr result (IsUnwritten mid after failed (report_at at p))
     → IsAccepted terms old new (device before after failed) q result
 reported terms at old new before mid after failed p q (Ok status) is same ended way still adds status_is works fault = record {
   same = same;
   ended = ended;
-  ok = finishes terms new.taken before mid after p q status way still (subst (λ (t : Terms). Appends mid after (report_at t p)) is adds) status_is;
+  ok = finishes terms new.taken before mid after p q status way still (subst (λ (t : Terms). Appends mid after (report_at t p)) is adds)
+      (subst (λ (t : Terms). status ≡ status_at t p) is status_is);
   works = works;
   err = tt;
 }

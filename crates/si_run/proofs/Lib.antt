@@ -8,5 +8,6 @@ pub mod PlainOutputs
 pub mod Lone
 pub mod Texts
 pub mod SomeText
+pub mod Changed
 pub mod Gathered
 pub mod InRange

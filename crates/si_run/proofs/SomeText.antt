@@ -1,13 +1,13 @@
 -- Texts that aren't empty: that of a refused item, and that of a report.
-use Rattle.std.proofs.Common.{◌≡◌, ◌≢◌, ℕ, Bool, true, true≢false, length, List, [], ◌∷◌, ◌++◌, Option, Some, None, refl, sym, ap, ◌∙◌}
+use Rattle.std.proofs.Common.{◌≡◌, ◌≢◌, ℕ, Bool, true, false, true≢false, length, List, [], ◌∷◌, ◌++◌, Option, Some, None, refl, sym, ap, ◌∙◌}
 use Rattle.std.specs.Prelude.{IsSome, codes, decimal, if◌then◌else◌}
 use Rattle.std.specs.List.{flat_map}
 use Rattle.si_model.specs.Findings.{findings}
 use Rattle.si_model.specs.Journals.{present}
 use Rattle.si_text.specs.declared.reasons.Reason.{Reason}
 use Rattle.si_text.specs.declared.verdicts.Verdict.{Verdict}
-use Rattle.si_text.specs.Texts.{code_text, finding_lines, line_end, reason_code, reason_text, summary_text, verdict_of, verdict_text}
-use Rattle.si_run.specs.Outputs.{SourcedItem, Terms, Progress, is_due, item_text, progress_after, reason_after, refusal_line, report_at, report_due}
+use Rattle.si_text.specs.Texts.{changes_text, code_text, finding_lines, line_end, reason_code, reason_text, summary_text, verdict_of, verdict_text}
+use Rattle.si_run.specs.Outputs.{SourcedItem, Terms, Progress, changes_at, decided_after, is_due, item_text, reason_after, refusal_line, report_due, report_on_the_way, summary_at, violations_at, whole_report_at}
 
 some_before : (xs ys : List ℕ) → xs ≢ [] → xs ++ ys ≢ []
 some_before [] ys some e = some refl
@@ -30,24 +30,40 @@ summed : (transactions findings refusals : ℕ) (v : Verdict) → summary_text t
 summed transactions found refusals v =
     some_behind (codes "transactions=" ++ decimal transactions ++ codes " findings=" ++ decimal found ++ codes " refused=" ++ decimal refusals ++ codes " verdict=" ++ verdict_text v) line_end ended
 
-reported : (terms : Terms) (p : Progress) → report_at terms p ≢ []
-unfolding report_at
-reported terms p =
+summarized : (p : Progress) → summary_at p ≢ []
+unfolding summary_at
+summarized p =
+    let found = findings (present p.journal) in
+    summed (length (present p.journal).txns) (length found) p.refused (verdict_of found)
+
+told_all : (terms : Terms) (p : Progress) → whole_report_at terms p ≢ []
+unfolding whole_report_at
+told_all terms p =
     let found = findings (present p.journal) in
     some_behind (flat_map (finding_lines terms.explain) found) (summary_text (length (present p.journal).txns) (length found) p.refused (verdict_of found))
     (summed (length (present p.journal).txns) (length found) p.refused (verdict_of found))
+
+told_changes : (terms : Terms) (p : Progress) → changes_at terms p ≢ []
+unfolding changes_at
+told_changes terms p = some_behind (changes_text terms.explain p.told (violations_at p)) (summary_at p) (summarized p)
+
+on_the_way : (terms : Terms) (p : Progress) → report_on_the_way terms p ≢ []
+on_the_way terms p = elim terms.only_new as (λ b. (if b then changes_at terms p else whole_report_at terms p) ≢ []) [
+  | true ↦ told_changes terms p
+  | false ↦ told_all terms p
+]
 
 -- there is a text for an item that is refused
 pub refused_text_is : (terms : Terms) (p : Progress) (item : SourcedItem) → IsSome (reason_after terms.limit p.journal item.1.1) → item_text terms p item ≢ []
 unfolding item_text
 refused_text_is terms p item some =
-    some_before (refusal_line item.0 item.1.0 (reason_after terms.limit p.journal item.1.1)) (report_due terms (progress_after terms p item))
+    some_before (refusal_line item.0 item.1.0 (reason_after terms.limit p.journal item.1.1)) (report_due terms (decided_after terms p item))
     (refused item.0 item.1.0 (reason_after terms.limit p.journal item.1.1) some)
 
 -- there is one for an item behind which a report is due
-pub due_text_is : (terms : Terms) (p : Progress) (item : SourcedItem) → is_due terms.every (progress_after terms p item).decided ≡ true → item_text terms p item ≢ []
+pub due_text_is : (terms : Terms) (p : Progress) (item : SourcedItem) → is_due terms.every (decided_after terms p item).decided ≡ true → item_text terms p item ≢ []
 unfolding item_text
 due_text_is terms p item due =
-    let q = progress_after terms p item in
-    let is : report_at terms q ≡ report_due terms q = ap (λ (b : Bool). if b then report_at terms q else []) (sym due) in
-    some_behind (refusal_line item.0 item.1.0 (reason_after terms.limit p.journal item.1.1)) (report_due terms q) (λ e. reported terms q (is ∙ e))
+    let q = decided_after terms p item in
+    let is : report_on_the_way terms q ≡ report_due terms q = ap (λ (b : Bool). if b then report_on_the_way terms q else []) (sym due) in
+    some_behind (refusal_line item.0 item.1.0 (reason_after terms.limit p.journal item.1.1)) (report_due terms q) (λ e. on_the_way terms q (is ∙ e))

@@ -1,10 +1,13 @@
--- What the output is where no reports on the way are asked for.
-use Rattle.std.specs.Prelude.{◌≡◌, ℕ, Bool, List, [], ◌∷◌, ◌++◌, length, None}
+-- What the output is where no reports on the way are asked for, and what those tell that tell only what changed.
+use Rattle.std.specs.Prelude.{◌≡◌, ◌↔◌, ℕ, Bool, true, if◌then◌else◌, List, [], ◌∷◌, ◌++◌, length, Option, None}
+use Rattle.std.specs.List.{Contains, flat_map}
 use Rattle.si_model.specs.declared.edits.Edit.{Edit}
+use Rattle.si_model.specs.declared.findings.Finding.{Finding}
 use Rattle.si_model.specs.Findings.{findings}
 use Rattle.si_model.specs.Journals.{present}
-use Rattle.si_text.specs.Texts.{report_text}
-use Rattle.si_run.specs.Outputs.{SourcedItem, counted, journal_after, output_of, reason_after, refusal_line}
+use Rattle.si_model.specs.Parts.{Present}
+use Rattle.si_text.specs.Texts.{finding_lines, gone_text, not_among, summary_text, verdict_of}
+use Rattle.si_run.specs.Outputs.{Progress, SourcedItem, Terms, counted, decided_after, is_due, journal_after, output_of, progress_after, progress_through, reason_after, refusal_line, report_at, report_due, short_line, start, status_of, summary_at, violations_at}
 
 -- the accepted edits of items that come after these edits, with them
 abbrev pub accepted_after : ℕ → List Edit → List SourcedItem → List Edit
@@ -23,9 +26,57 @@ refused_among limit journal [] = 0
 refused_among limit journal (item ∷ items) =
     counted (refused_among limit (journal_after limit journal item.1.1) items) (reason_after limit journal item.1.1)
 
+-- the report of what is present, with the line of what it is short of, where a number is expected
+abbrev pub whole_report : Bool → Option ℕ → Present → ℕ → List ℕ
+whole_report explain expected P refused =
+    flat_map (finding_lines explain) (findings P) ++ (short_line expected P.txns ++ summary_text (length P.txns) (length (findings P)) refused (verdict_of (findings P)))
+
 -- without reports on the way the output is the lines of the refused items and then the report of what is present
 abbrev pub PlainOutputIsExact : Type 0
-PlainOutputIsExact = (limit : ℕ) (explain : Bool) (items : List SourcedItem)
-    → output_of (record { limit = limit; every = None; explain = explain }) items
-    ≡ refusal_lines limit [] items ++ report_text explain (length (present (accepted_after limit [] items)).txns)
-    (findings (present (accepted_after limit [] items))) (refused_among limit [] items)
+PlainOutputIsExact = (limit : ℕ) (only_new explain : Bool) (expected : Option ℕ) (items : List SourcedItem)
+    → output_of (record { limit = limit; every = None; only_new = only_new; explain = explain; expected = expected }) items
+    ≡ refusal_lines limit [] items ++ whole_report explain expected (present (accepted_after limit [] items)) (refused_among limit [] items)
+
+-- ---- reports that tell only what changed
+
+-- what one report tells as new, and what as gone
+pub record Changes : Type 0 where
+  pub came : List Finding
+  pub went : List Finding
+
+-- what the report on the way tells, where one is due
+abbrev pub changes_due : Terms → Progress → List Changes
+changes_due terms p = if is_due terms.every p.decided then record { came = not_among p.told (violations_at p); went = not_among (violations_at p) p.told } ∷ [] else []
+
+-- the lines of what one report tells
+abbrev pub changes_lines : Bool → Changes → List ℕ
+changes_lines explain c = flat_map (finding_lines explain) c.came ++ flat_map gone_text c.went
+
+-- where reports on the way tell only what changed, what is written for one is these lines and the summary
+abbrev pub ChangesAreText : Type 0
+ChangesAreText = (terms : Terms) (p : Progress) → terms.only_new ≡ true → report_due terms p ≡ flat_map (λ c. changes_lines terms.explain c ++ summary_at p) (changes_due terms p)
+
+-- what the reports on the way behind these items tell, one after the other
+abbrev pub changes_through : Terms → Progress → List SourcedItem → List Changes
+changes_through terms p [] = []
+changes_through terms p (item ∷ items) = changes_due terms (decided_after terms p item) ++ changes_through terms (progress_after terms p item) items
+
+-- the finding was told as new by one of the reports, and as gone by none behind it
+pub record IsToldStill (changes : List Changes) (f : Finding) : Type 0 where
+  pub before : List Changes
+  pub at : Changes
+  pub behind : List Changes
+  pub order : changes ≡ before ++ at ∷ behind
+  pub came : Contains at.came f
+  pub stays : (later : Changes) → Contains behind later → ¬ Contains later.went f
+
+-- where reports on the way tell only what changed, what was told as new and not as gone since is, at each report, exactly the violations of that moment
+abbrev pub ChangesTellAll : Type 0
+ChangesTellAll = (terms : Terms) (items : List SourcedItem) (last : SourcedItem) (f : Finding) → terms.only_new ≡ true
+    → is_due terms.every (progress_through terms start (items ++ last ∷ [])).decided ≡ true
+    → IsToldStill (changes_through terms start (items ++ last ∷ [])) f ↔ Contains (violations_at (progress_through terms start (items ++ last ∷ []))) f
+
+-- whether they do changes neither the last report nor the status
+abbrev pub ChangesEndAlike : Type 0
+ChangesEndAlike = (terms : Terms) (only_new : Bool) (items : List SourcedItem) → let other : Terms = record terms { only_new = only_new } in
+    (report_at other (progress_through other start items) ≡ report_at terms (progress_through terms start items)) × (status_of other items ≡ status_of terms items)

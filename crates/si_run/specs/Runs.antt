@@ -24,7 +24,7 @@ pub record IsRunnable (options : Options) : Type 0 where
 
 -- what the options say of the text: nothing of the shards, so their number changes none
 abbrev pub terms_by : Options → Terms
-terms_by options = record { limit = options.limit; every = options.every; explain = options.explain }
+terms_by options = record { limit = options.limit; every = options.every; only_new = options.only_new; explain = options.explain; expected = options.expected }
 
 -- ---- one input
 

@@ -9,7 +9,7 @@ use Rattle.si_intake.specs.Ends.{Accepting, AllEnded}
 use Rattle.si_run.specs.declared.statuses.ExitStatus.{ExitStatus}
 use Rattle.si_run.specs.declared.faults.RunFault.{RunFault}
 use Rattle.si_run.specs.declared.faults.RunFault.TheVariants as fault
-use Rattle.si_run.specs.Outputs.{SourcedItem, sourced, Terms, Progress, item_text, items_text, output_of, progress_after, progress_through, reason_after, report_at, start, status_of}
+use Rattle.si_run.specs.Outputs.{SourcedItem, sourced, Terms, Progress, decided_after, item_text, items_text, output_of, progress_after, progress_through, reason_after, report_at, start, status_of}
 use Rattle.si_run.specs.Runs.{AppendsBeginning, IsUnwritten}
 
 -- the item of a line, if it is one
@@ -60,11 +60,11 @@ abbrev pub IsUndecided : Terms → Progress → SourcedItem → Progress → Typ
 IsUndecided terms p item q = (q ≡ p) × (reason_after terms.limit p.journal item.1.1 ≡ None)
 
 -- how far the decisions are where the text of an item wasn't written whole: with the item where the writer failed; where memory was refused, without
--- it, or with it where there is a text for it
+-- it, or with it and before the report behind it, where there is a text for it
 abbrev pub IsLeftAt : Terms → Progress → SourcedItem → Progress → RunFault → Type 0
 IsLeftAt terms p item q (fault.Input source) = ⊥
 IsLeftAt terms p item q fault.Output = q ≡ progress_after terms p item
-IsLeftAt terms p item q fault.Memory = IsUndecided terms p item q ⊎ ((q ≡ progress_after terms p item) × (item_text terms p item ≢ []))
+IsLeftAt terms p item q fault.Memory = IsUndecided terms p item q ⊎ ((q ≡ decided_after terms p item) × (item_text terms p item ≢ []))
 IsLeftAt terms p item q (fault.Open o) = ⊥
 
 -- the fault was met at this item, which is then not done with: it wasn't decided, or its text wasn't written whole

@@ -145,13 +145,13 @@ fn finish<N: Name, R: Wait, W: ByteSink>(
 ) -> Result<ExitStatus, RunFault>
     requires { W.failed writer.old ≡ false }
     ensures written { OnOk result (Appends (W.written writer.old) (W.written writer.new) (report_at engine.old.terms engine.old.progress)) }
-    ensures status { IfOk result (λ status. status ≡ status_at engine.old.progress) }
+    ensures status { IfOk result (λ status. status ≡ status_at engine.old.terms engine.old.progress) }
     ensures works { OnOk result (W.failed writer.new ≡ false) }
     ensures err { IfErr result (IsUnwritten (W.written writer.old) (W.written writer.new) (W.failed writer.new) (report_at engine.old.terms engine.old.progress)) }
     ensures engine { engine.new ≡ engine.old }
 {
     text.clear();
-    let verdict = engine.report(rt, checker, text)?;
+    let status = engine.last_report(rt, checker, text)?;
     write_all(writer, text)?;
-    Ok(ExitStatus::of(verdict, engine.refused()))
+    Ok(status)
 }

@@ -2,21 +2,26 @@
 //!
 //! Every number of shards gives the same text: no clause here names it.
 
-ghost use Rattle.std.specs.Prelude.{◌≡◌, ◌+◌, ◌<◌, ◌-◌, ◌^◌, ◌++◌, [], None, ℕ, length, true, IfOk, OnOk, OnErr, IsSome};
+ghost use Rattle.std.specs.Prelude.{◌≡◌, ◌+◌, ◌<◌, ◌-◌, ◌^◌, ◌++◌, [], None, ℕ, length, true, is_some, IfOk, OnOk, OnErr, IsSome};
 ghost use Rattle.si_model.specs.Findings.{findings};
 ghost use Rattle.si_model.specs.Journals.{present};
-ghost use Rattle.si_text.specs.Texts.{verdict_of};
+ghost use Rattle.si_accept.specs.Statuses.{committed_among, doubtful_among};
+ghost use Rattle.si_text.specs.Texts.{shortage_lines};
 ghost use Rattle.si_words.specs.Seats.{seated};
 ghost use Rattle.si_words.specs.Views.{new_pass};
 ghost use Rattle.si_run.specs.declared.faults.RunFault.TheVariants.{Memory};
 ghost use Rattle.si_run.specs.Runs.{terms_by};
 ghost use Rattle.si_run.specs.Takings.{IsLeftAt};
-ghost use Rattle.si_run.specs.Outputs.{counted, is_due, item_text, journal_after, progress_after, reason_after, refusal_line, report_at, report_due, sourced, start};
+ghost use Rattle.si_run.specs.Outputs.{behind_report, changes_at, counted, is_due, is_short_of, item_text, journal_after, progress_after, reason_after, refusal_line, report_at, report_due, short_line, sourced, start, status_at, violations_at, whole_report_at};
 
-use crate::Options;
-use si_checker::{AcceptFault, Checker, Name, Pass, ReportFault, SettledFindings};
-use si_model::{Edit, OutOfMemory};
-use si_text::{LineFault, LineItem, Reason, Verdict, print_refusal, print_report};
+use crate::{ExitStatus, Options};
+use si_checker::{AcceptFault, Checker, Name, Pass, ReportFault, SettledFindings, Statuses};
+use si_model::sorting::put_in_order;
+use si_model::{Edit, Finding, OutOfMemory};
+use si_text::{
+    LineFault, LineItem, Reason, Shortage, Verdict, keep_violations, print_changes,
+    print_last_report, print_refusal, print_report, print_summary,
+};
 use si_words::laws::{edits_append, lone_pass_issues_all};
 use std::alloc::{AllocError, Global};
 use std::marker::{Model, PhantomData};
@@ -29,9 +34,13 @@ pub struct Engine<N: Name> {
     alloc: Global,
     pass: Pass,
     every: Option<u64>,
+    only_new: bool,
     explain: bool,
+    expected: Option<u64>,
     decided: u64,
     refused: u64,
+    // The violations at the last report on the way, where these tell only what changed.
+    told: Vec<Finding>,
     of: PhantomData<N>,
 }
 
@@ -40,9 +49,9 @@ impl<N: Name> Model for Engine<N> {
 
     ghost Value = { EngineState };
 
-    ghost view = { λ e. engine_state N.limit e.every e.explain e.pass.view e.decided e.refused };
+    ghost view = { λ e. engine_state (record { limit = N.limit; every = e.every; only_new = e.only_new; explain = e.explain; expected = e.expected }) e.pass.view e.decided e.refused e.told.items };
 
-    ghost invariant = { λ e. IsEngine N.board e.pass e.decided e.refused };
+    ghost invariant = { λ e. IsEngine N.board e.pass e.decided e.refused e.told.items };
 }
 
 impl<N: Name> Engine<N> {
@@ -58,15 +67,18 @@ impl<N: Name> Engine<N> {
             alloc,
             pass,
             every: options.every,
+            only_new: options.only_new,
             explain: options.explain,
+            expected: options.expected,
             decided: 0,
             refused: 0,
+            told: Vec::new(alloc),
             of: PhantomData,
         }
     }
 
     /// Decides an item, and appends what is written for it.
-    #[tactic(auto, unfolding(crate::specs::Outputs::item_text, crate::specs::Outputs::progress_after))]
+    #[tactic(auto, unfolding(crate::specs::Outputs::item_text, crate::specs::Outputs::progress_after, crate::specs::Outputs::decided_after))]
     pub fn decide<R: Wait>(
         &mut self,
         rt: &R,
@@ -155,7 +167,8 @@ impl<N: Name> Engine<N> {
         }
     }
 
-    /// Appends the report on the way, where it is due.
+    /// Appends the report on the way, where it is due. If memory is refused, the engine is as before.
+    #[tactic(auto, unfolding(crate::specs::Outputs::behind_report))]
     fn report_where_due<R: Wait>(
         &mut self,
         rt: &R,
@@ -163,25 +176,30 @@ impl<N: Name> Engine<N> {
         text: &mut Vec<u8>,
     ) -> Result<(), OutOfMemory>
         ensures text { OnOk result (text.new.items ≡ text.old.items ++ report_due self.old.terms self.old.progress) }
-        ensures err { OnErr result (is_due self.old.terms.every self.old.progress.decided ≡ true) }
-        ensures state { self.new ≡ self.old }
+        ensures progress { OnOk result (self.new.progress ≡ behind_report self.old.terms self.old.progress) }
+        ensures terms { self.new.terms ≡ self.old.terms }
+        ensures due { OnErr result (is_due self.old.terms.every self.old.progress.decided ≡ true) }
+        ensures err { OnErr result (self.new ≡ self.old) }
     {
-        if is_due(self.every, self.decided) {
-            self.report(rt, checker, text)?;
+        if !is_due(self.every, self.decided) {
+            return Ok(());
         }
-        Ok(())
+        if self.only_new {
+            self.tell_changes(rt, checker, text)
+        } else {
+            self.tell_all(rt, checker, text)
+        }
     }
 
-    /// Appends the report of what is present, and answers its verdict.
-    #[tactic(auto, unfolding(crate::specs::Outputs::report_at))]
-    pub fn report<R: Wait>(
+    /// Appends a report of what is present.
+    #[tactic(auto, unfolding(crate::specs::Outputs::whole_report_at))]
+    fn tell_all<R: Wait>(
         &mut self,
         rt: &R,
         checker: &Checker<N>,
         text: &mut Vec<u8>,
-    ) -> Result<Verdict, OutOfMemory>
-        ensures text { OnOk result (text.new.items ≡ text.old.items ++ report_at self.old.terms self.old.progress) }
-        ensures verdict { IfOk result (λ verdict. verdict ≡ verdict_of (findings (present self.old.progress.journal))) }
+    ) -> Result<(), OutOfMemory>
+        ensures text { OnOk result (text.new.items ≡ text.old.items ++ whole_report_at self.old.terms self.old.progress) }
         ensures state { self.new ≡ self.old }
     {
         let settled = self.settled(rt, checker)?;
@@ -192,7 +210,99 @@ impl<N: Name> Engine<N> {
             &settled.findings,
             self.refused,
             self.explain,
-        )
+        )?;
+        Ok(())
+    }
+
+    /// Appends a report of the violations that came or went since the one before, and keeps those that there are. If memory is refused, the
+    /// engine is as before.
+    #[tactic(auto, unfolding(crate::specs::Outputs::changes_at, crate::specs::Outputs::summary_at))]
+    fn tell_changes<R: Wait>(
+        &mut self,
+        rt: &R,
+        checker: &Checker<N>,
+        text: &mut Vec<u8>,
+    ) -> Result<(), OutOfMemory>
+        ensures text { OnOk result (text.new.items ≡ text.old.items ++ changes_at self.old.terms self.old.progress) }
+        ensures ok { OnOk result (self.new ≡ record self.old { progress = record self.old.progress { told = violations_at self.old.progress } }) }
+        ensures err { OnErr result (self.new ≡ self.old) }
+    {
+        let SettledFindings {
+            transactions,
+            findings: mut violations,
+            ..
+        } = self.settled(rt, checker)?;
+        let (count, verdict) = (violations.len(), Verdict::of(&violations));
+        keep_violations(&mut violations);
+        print_changes(self.alloc, text, &self.told, &violations, self.explain)?;
+        print_summary(self.alloc, text, transactions, count, self.refused, verdict)?;
+        self.told = violations;
+        Ok(())
+    }
+
+    /// Appends the last report, with what the run is short of, and answers the status.
+    #[tactic(auto, unfolding(crate::specs::Outputs::report_at, crate::specs::Outputs::summary_at, crate::specs::Outputs::status_at))]
+    pub fn last_report<R: Wait>(
+        &mut self,
+        rt: &R,
+        checker: &Checker<N>,
+        text: &mut Vec<u8>,
+    ) -> Result<ExitStatus, OutOfMemory>
+        ensures text { OnOk result (text.new.items ≡ text.old.items ++ report_at self.old.terms self.old.progress) }
+        ensures status { IfOk result (λ status. status ≡ status_at self.old.terms self.old.progress) }
+        ensures state { self.new ≡ self.old }
+    {
+        let end = self.settled(rt, checker)?;
+        let shortage = self.shortage(rt, checker)?;
+        let (refused, explain) = (self.refused, self.explain);
+        let verdict = print_last_report(
+            self.alloc,
+            text,
+            end.transactions,
+            &end.findings,
+            refused,
+            explain,
+            &shortage,
+        )?;
+        Ok(ExitStatus::of(verdict, refused, shortage.is_some()))
+    }
+
+    /// What the run is short of, where a number of transactions is expected and it is short.
+    fn shortage<R: Wait>(
+        &mut self,
+        rt: &R,
+        checker: &Checker<N>,
+    ) -> Result<Option<Shortage>, OutOfMemory>
+        ensures line { IfOk result (λ shortage. shortage_lines shortage ≡ short_line self.old.terms.expected (present self.old.progress.journal).txns) }
+        ensures short { IfOk result (λ shortage. is_some shortage ≡ is_short_of self.old.terms.expected (present self.old.progress.journal).txns) }
+        ensures state { self.new ≡ self.old }
+    {
+        let Some(expected) = self.expected else {
+            return Ok(None);
+        };
+        let Statuses {
+            committed,
+            mut in_doubt,
+        } = self.statuses(rt, checker)?;
+        if expected <= committed as u64 && in_doubt.is_empty() {
+            return Ok(None);
+        }
+        put_in_order(&mut in_doubt);
+        Ok(Some(Shortage {
+            committed,
+            expected,
+            in_doubt,
+        }))
+    }
+
+    /// What became of the present transactions.
+    fn statuses<R: Wait>(&mut self, rt: &R, checker: &Checker<N>) -> Result<Statuses, OutOfMemory>
+        ensures committed { IfOk result (λ s. s.committed ≡ committed_among (present self.old.progress.journal).txns) }
+        ensures in_doubt { IfOk result (λ s. s.in_doubt.items ≡ doubtful_among (present self.old.progress.journal).txns) }
+        ensures state { self.new ≡ self.old }
+    {
+        lone_pass_issues_all();
+        checker.statuses(rt, &mut self.pass)
     }
 
     /// Lets the shards apply all that is left, and takes the findings.

@@ -1,9 +1,26 @@
 //! The laws of the output. Each is the contract of a function with an empty body: to call one is to have its fact.
 
-ghost use Rattle.si_run.specs.Laws.{PlainOutputIsExact};
+ghost use Rattle.si_run.specs.Laws.{ChangesAreText, ChangesEndAlike, ChangesTellAll, PlainOutputIsExact};
 
 /// Where no reports on the way are asked for, the output is the lines of the refused items, in order, and then one report, of
 /// what is present after all of them.
 pub fn plain_output_is_exact()
     ensures { PlainOutputIsExact }
+{}
+
+/// Where reports on the way tell only what changed, what is written for one that is due is the lines of what came and of what is gone, and
+/// the summary.
+pub fn changes_are_text()
+    ensures { ChangesAreText }
+{}
+
+/// Where reports on the way tell only what changed, the violations that were told and that aren't gone since are, at each report,
+/// exactly those of that moment.
+pub fn changes_tell_all()
+    ensures { ChangesTellAll }
+{}
+
+/// Whether reports on the way tell only what changed makes no difference to the last report, or to the status.
+pub fn changes_end_alike()
+    ensures { ChangesEndAlike }
 {}

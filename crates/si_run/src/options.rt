@@ -8,8 +8,12 @@ pub struct Options {
     pub shards: usize,
     /// After how many decided items each report on the way comes, at least 1; none comes where it isn't given.
     pub every: Option<u64>,
+    /// Whether a report on the way tells only which violations came or went since the one before.
+    pub only_new: bool,
     /// Whether a finding that has evidence is followed by it.
     pub explain: bool,
+    /// How many committed transactions are to be present at the end, and none in doubt. Nothing is asked where it isn't given.
+    pub expected: Option<u64>,
     /// The most edits that are accepted, 1 to `MOST_EDITS`.
     pub limit: usize,
 }

@@ -6,22 +6,22 @@ use si_text::Verdict;
 /// What a run that ended says of its input.
 #[derive(Clone, Copy, Debug, PartialEq, Eq)]
 pub enum ExitStatus {
-    /// Nothing was found and nothing refused.
+    /// Nothing was found and nothing refused, and the run is short of nothing that was expected.
     Clean,
-    /// The verdict is open, or an item was refused.
+    /// The verdict is open, or an item was refused, or the run is short.
     Open,
     /// The last verdict is a violation.
     Violation,
 }
 
 impl ExitStatus {
-    /// The status by the last verdict and by how many items were refused.
-    pub fn of(verdict: Verdict, refused: u64) -> ExitStatus
-        ensures { result ≡ status_by verdict refused }
+    /// The status by the last verdict, by how many items were refused, and by whether the run is short of what was expected.
+    pub fn of(verdict: Verdict, refused: u64, short: bool) -> ExitStatus
+        ensures { result ≡ status_by verdict refused short }
     {
         match verdict {
             Verdict::Violation => ExitStatus::Violation,
-            Verdict::Clean if refused == 0 => ExitStatus::Clean,
+            Verdict::Clean if refused == 0 && !short => ExitStatus::Clean,
             Verdict::Open | Verdict::Clean => ExitStatus::Open,
         }
     }

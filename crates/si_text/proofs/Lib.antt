@@ -8,6 +8,7 @@ pub mod MemoryReads
 pub mod Between
 pub mod LineFeeds
 pub mod Appended
+pub mod Walked
 pub mod PlainTexts
 pub mod InputItems
 pub mod StepwiseLines

@@ -1,6 +1,6 @@
 -- The texts that are printed: findings and their evidence, refused items, the summary and the whole report.
-use Rattle.std.specs.Prelude.{ℕ, List, [], ◌∷◌, ◌++◌, length, codes, decimal, Bool, nat_lt, if◌then◌else◌, Option, Some, None}
-use Rattle.std.specs.List.{flat_map, list_any}
+use Rattle.std.specs.Prelude.{ℕ, List, [], ◌∷◌, ◌++◌, length, take, codes, decimal, Bool, not, nat_lt, if◌then◌else◌, Option, Some, None}
+use Rattle.std.specs.List.{filter, flat_map, list_any}
 use Rattle.serde_json.specs.Data.{string}
 use Rattle.serde_json.specs.Written.{compact_text}
 use Rattle.si_model.specs.declared.findings.Finding.{Finding}
@@ -17,12 +17,14 @@ use Rattle.si_model.specs.declared.evidence.Label.TheVariants as label
 use Rattle.si_model.specs.declared.evidence.Evidence.{Evidence}
 use Rattle.si_model.specs.declared.evidence.Evidence.TheVariants as evidence
 use Rattle.si_model.specs.Evidence.{evidence_of}
-use Rattle.si_model.specs.Order.{number}
+use Rattle.si_model.specs.Order.{finding_eq, number}
 use Rattle.si_text.specs.Faults.{field_name, fault_code}
 use Rattle.si_text.specs.declared.faults.LineFault.{LineFault}
 use Rattle.si_text.specs.declared.faults.LineFault.TheVariants.{TooLong, NotJson, NotObject, BadKind, BadField, BadStatus, TooManyOps, BadOp, OutOfMemory}
 use Rattle.si_text.specs.declared.reasons.Reason.{Reason}
 use Rattle.si_text.specs.declared.reasons.Reason.TheVariants.{Malformed, Refused}
+use Rattle.si_text.specs.declared.shortages.Shortage.{Shortage}
+use Rattle.si_text.specs.declared.shortages.TheConstants.{MOST_IDS_TOLD}
 use Rattle.si_text.specs.declared.verdicts.Verdict.{Verdict}
 use Rattle.si_text.specs.declared.verdicts.Verdict.TheVariants.{Clean, Open, Violation}
 
@@ -200,3 +202,44 @@ summary_text transactions findings refused verdict =
 abbrev pub report_text : Bool → ℕ → List Finding → ℕ → List ℕ
 report_text explain transactions findings refused =
     flat_map (finding_lines explain) findings ++ summary_text transactions (length findings) refused (verdict_of findings)
+
+-- ---- what changed since the report before
+
+-- the findings that are violations
+abbrev pub violations_of : List Finding → List Finding
+violations_of findings = filter (λ f. is_violation f.kind) findings
+
+-- those of the findings that aren't among the others
+abbrev pub not_among : List Finding → List Finding → List Finding
+not_among others findings = filter (λ f. not (list_any (finding_eq f) others)) findings
+
+-- the line of a violation that is there no more
+abbrev pub gone_text : Finding → List ℕ
+gone_text f = codes "gone " ++ finding_text f
+
+-- the findings that weren't told before, each in its lines, and then a line for each that was told and is gone
+abbrev pub changes_text : Bool → List Finding → List Finding → List ℕ
+changes_text explain told findings = flat_map (finding_lines explain) (not_among told findings) ++ flat_map gone_text (not_among findings told)
+
+-- ---- what a run is short of
+
+-- ids behind a space, as ` ids=3,17,21`
+abbrev pub ids_text : List TxnId → List ℕ
+ids_text [] = []
+ids_text (first ∷ others) = codes " ids=" ++ decimal first.0 ++ flat_map (λ id. codes "," ++ decimal id.0) others
+
+-- the line of how many transactions are committed, how many were expected, and how many are in doubt, with the least ids of these
+abbrev pub short_text : ℕ → ℕ → List TxnId → List ℕ
+short_text committed expected in_doubt =
+    codes "short committed=" ++ decimal committed ++ codes " expected=" ++ decimal expected ++ codes " indoubt=" ++ decimal (length in_doubt)
+    ++ ids_text (take MOST_IDS_TOLD in_doubt) ++ line_end
+
+-- the line of a shortage, if there is one
+abbrev pub shortage_lines : Option Shortage → List ℕ
+shortage_lines None = []
+shortage_lines (Some s) = short_text s.committed s.expected s.in_doubt.items
+
+-- a report with the line of what the run is short of right before its summary
+abbrev pub last_report_text : Bool → ℕ → List Finding → Option Shortage → ℕ → List ℕ
+last_report_text explain transactions findings shortage refused =
+    flat_map (finding_lines explain) findings ++ (shortage_lines shortage ++ summary_text transactions (length findings) refused (verdict_of findings))

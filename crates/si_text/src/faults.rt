@@ -67,6 +67,12 @@ pub enum LineFault {
 
 impl LineFault {
     /// The number that a refused line is printed with. Want of memory has none.
+    ///
+    /// # Examples
+    ///
+    /// ```
+    /// let code = LineFault::NotJson.code(); // Some(2)
+    /// ```
     pub fn code(&self) -> Option<u64>
         ensures { result ≡ fault_code self.now }
     {

@@ -7,6 +7,7 @@
 #![tactic(auto)]
 
 mod appending;
+pub mod changes;
 pub mod devices;
 pub mod explaining;
 pub mod faults;
@@ -21,19 +22,22 @@ mod pieces;
 pub mod printing;
 pub mod readings;
 pub mod reasons;
+pub mod shortages;
 pub mod streams;
 mod tokens;
 mod usual_arrivals;
 pub mod verdicts;
 
+pub use changes::{keep_violations, print_changes};
 pub use devices::{ByteSink, ByteSource, DeviceFailed};
 pub use explaining::print_evidence;
 pub use faults::{Field, LineFault};
 pub use known_keys::KnownKeys;
 pub use line_buffers::{InputFault, LineBuffer};
 pub use line_items::LineItem;
-pub use printing::{print_finding, print_refusal, print_report};
+pub use printing::{print_finding, print_last_report, print_refusal, print_report, print_summary};
 pub use readings::read_edit;
 pub use reasons::Reason;
+pub use shortages::Shortage;
 pub use streams::{StdSink, StdSource};
 pub use verdicts::Verdict;

@@ -70,6 +70,12 @@ impl LineBuffer {
     ghost use Rattle.si_text.specs.LineBuffers.{lines_ended, bytes_held, bytes_to_come, CountsBytes, IsFresh, IsSpent, Passes};
 
     /// A buffer before the first line.
+    ///
+    /// # Examples
+    ///
+    /// ```
+    /// let mut lines = LineBuffer::new(rt.alloc())?;
+    /// ```
     pub fn new(alloc: Global) -> Result<Self, OutOfMemory>
         ensures { IfOk result IsFresh }
     {
@@ -83,6 +89,14 @@ impl LineBuffer {
     }
 
     /// The next line that isn't blank; none at the end of the source. After an error the lines to come are as before.
+    ///
+    /// # Examples
+    ///
+    /// ```
+    /// while let Some((line, answer)) = lines.next_item(&mut source, &mut keys)? {
+    ///     take(line, answer); // the line's number, and its edit or its fault
+    /// }
+    /// ```
     pub fn next_item<S: ByteSource>(
         &mut self,
         source: &mut S,

@@ -1,16 +1,23 @@
 ghost use Rattle.std.specs.Prelude.{◌≡◌, ◌++◌, decimal, codes, length, OnOk, OnErr, IfOk};
 ghost use Rattle.std.specs.List.{flat_map, list_all};
 ghost use Rattle.si_text.specs.Printing.{Appends, is_plain};
-ghost use Rattle.si_text.specs.Texts.{code_text, fault_text, finding_lines, finding_text, key_text, kind_text, own_text, read_text, reading_text, reason_text, refusal_text, refused_text, report_text, summary_text, verdict_of};
+ghost use Rattle.si_text.specs.Texts.{code_text, fault_text, finding_lines, finding_text, key_text, kind_text, own_text, read_text, reading_text, reason_text, refusal_text, refused_text, last_report_text, report_text, summary_text, verdict_of};
 
 use crate::appending::{put, put_number, whole_or_none};
 use crate::explaining::put_explanation;
-use crate::{LineFault, Reason, Verdict};
+use crate::shortages::put_shortage;
+use crate::{LineFault, Reason, Shortage, Verdict};
 use serde_json::Value;
 use si_model::{Finding, Key, Kind, OutOfMemory, Refusal, TxnId};
 use std::alloc::Global;
 
 /// Appends the line of a finding. If memory is refused, the bytes are as before.
+///
+/// # Examples
+///
+/// ```
+/// print_finding(rt.alloc(), &mut out, &finding)?; // stale key="x" txn=2 op=0 read=initial missed=1
+/// ```
 pub fn print_finding(
     _alloc: Global,
     out: &mut Vec<u8>,
@@ -26,6 +33,12 @@ pub fn print_finding(
 
 /// Appends the line of a refused item: its source, counted from 0, its line, counted from 1, and why it is refused.
 /// If memory is refused, the bytes are as before.
+///
+/// # Examples
+///
+/// ```
+/// print_refusal(rt.alloc(), &mut out, 0, 3, &reason)?; // refused source=0 line=3 code=12 reason=id-present
+/// ```
 pub fn print_refusal(
     _alloc: Global,
     out: &mut Vec<u8>,
@@ -46,6 +59,12 @@ pub fn print_refusal(
 /// there are, and how many items were refused so far. With `explain` each finding of the kinds 4 to 8, which is a phenomenon, is
 /// followed by the line of its evidence. The answer is the verdict that the summary tells. If memory is refused, the bytes are as
 /// before.
+///
+/// # Examples
+///
+/// ```
+/// let verdict = print_report(rt.alloc(), &mut out, world.len(), found.as_slice(), 0, true)?;
+/// ```
 pub fn print_report(
     alloc: Global,
     out: &mut Vec<u8>,
@@ -60,13 +79,52 @@ pub fn print_report(
     ensures err { OnErr result (out.new.items ≡ out.old.items) }
 {
     let before = out.len();
-    let appended = put_report(alloc, out, transactions, found, refused, explain);
+    let appended = put_report(alloc, out, transactions, found, refused, explain, &None);
+    whole_or_none(out, before, appended)
+}
+
+/// Appends a report as [`print_report`] does, with the line of what the run is short of, if it is short, right before the summary.
+pub fn print_last_report(
+    alloc: Global,
+    out: &mut Vec<u8>,
+    transactions: usize,
+    found: &[Finding],
+    refused: u64,
+    explain: bool,
+    shortage: &Option<Shortage>,
+) -> Result<Verdict, OutOfMemory>
+    ensures verdict { IfOk result (λ verdict. verdict ≡ verdict_of found.now) }
+    ensures ok { OnOk result
+        (out.new.items ≡ out.old.items ++ last_report_text explain transactions found.now shortage.now refused) }
+    ensures err { OnErr result (out.new.items ≡ out.old.items) }
+{
+    let before = out.len();
+    let appended = put_report(alloc, out, transactions, found, refused, explain, shortage);
+    whole_or_none(out, before, appended)
+}
+
+/// Appends a summary: how many transactions are present, how many findings there are, how many items were refused so far, and the
+/// verdict. If memory is refused, the bytes are as before.
+pub fn print_summary(
+    _alloc: Global,
+    out: &mut Vec<u8>,
+    transactions: usize,
+    findings: usize,
+    refused: u64,
+    verdict: Verdict,
+) -> Result<(), OutOfMemory>
+    ensures ok { OnOk result
+        (out.new.items ≡ out.old.items ++ summary_text transactions findings refused verdict) }
+    ensures err { OnErr result (out.new.items ≡ out.old.items) }
+{
+    let before = out.len();
+    let appended = put_summary(out, transactions, findings, refused, verdict);
     whole_or_none(out, before, appended)
 }
 
 // ---- findings
 
-fn put_finding(out: &mut Vec<u8>, finding: &Finding) -> Result<(), OutOfMemory>
+pub(crate) fn put_finding(out: &mut Vec<u8>, finding: &Finding) -> Result<(), OutOfMemory>
     ensures { Appends result out.old.items out.new.items (finding_text finding.now) }
 {
     put_kind(out, &finding.key, &finding.kind)?;
@@ -336,13 +394,15 @@ fn put_report(
     found: &[Finding],
     refused: u64,
     explain: bool,
+    shortage: &Option<Shortage>,
 ) -> Result<Verdict, OutOfMemory>
     ensures verdict { IfOk result (λ verdict. verdict ≡ verdict_of found.now) }
     ensures text { Appends result out.old.items out.new.items
-        (report_text explain transactions found.now refused) }
+        (last_report_text explain transactions found.now shortage.now refused) }
 {
     let verdict = Verdict::of(found);
     put_findings(alloc, out, found, explain)?;
+    put_shortage(out, shortage)?;
     put_summary(out, transactions, found.len(), refused, verdict)?;
     Ok(verdict)
 }
@@ -363,7 +423,7 @@ fn put_findings(
 }
 
 /// Appends the line of a finding, and of its evidence if that is asked for.
-fn put_lines(
+pub(crate) fn put_lines(
     alloc: Global,
     out: &mut Vec<u8>,
     finding: &Finding,

@@ -18,6 +18,12 @@ pub struct StdSource<R> {
 
 impl<R: Read> StdSource<R> {
     /// A source of what the reader gives.
+    ///
+    /// # Examples
+    ///
+    /// ```
+    /// let mut source = StdSource::new(rt.stdin());
+    /// ```
     pub fn new(reader: R) -> Self
         ensures left { ⟦<StdSource<R> as ByteSource>⟧.left result ≡ R.remaining reader }
         ensures failed { ⟦<StdSource<R> as ByteSource>⟧.failed result ≡ false }
@@ -67,6 +73,12 @@ pub struct StdSink<W> {
 
 impl<W: Write> StdSink<W> {
     /// A sink to what the writer takes.
+    ///
+    /// # Examples
+    ///
+    /// ```
+    /// let mut sink = StdSink::new(rt.stdout());
+    /// ```
     pub fn new(writer: W) -> Self
         ensures written { ⟦<StdSink<W> as ByteSink>⟧.written result ≡ W.contents writer }
         ensures failed { ⟦<StdSink<W> as ByteSink>⟧.failed result ≡ false }

@@ -17,6 +17,12 @@ pub enum Verdict {
 
 impl Verdict {
     /// The verdict that these findings give.
+    ///
+    /// # Examples
+    ///
+    /// ```
+    /// let verdict = Verdict::of(report.findings.as_slice()); // Clean where there is none
+    /// ```
     pub fn of(findings: &[Finding]) -> Verdict
         ensures { result ≡ verdict_of findings.now }
     {
@@ -31,6 +37,12 @@ impl Verdict {
     }
 
     /// The verdict's word in a summary.
+    ///
+    /// # Examples
+    ///
+    /// ```
+    /// let word = Verdict::Violation.word(); // violation
+    /// ```
     pub fn word(&self) -> &'static str
         ensures { result.now ≡ verdict_text self.now }
     {
@@ -48,7 +60,8 @@ fn has_violation(findings: &[Finding]) -> bool
     findings.iter().any(|finding| is_violation(&finding.kind))
 }
 
-fn is_violation(kind: &Kind) -> bool
+/// Whether a kind says so by itself.
+pub(crate) fn is_violation(kind: &Kind) -> bool
     ensures { result ≡ is_violation kind.now }
 {
     !matches!(kind, Kind::Unknown { .. } | Kind::Doubt { .. })

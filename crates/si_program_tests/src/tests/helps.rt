@@ -26,7 +26,7 @@ fn tells<H: Host, F: NamedFiles>(rt: &H, files: &F, line: &str, parts: &str) {
 
 /// What a client has to know before it logs, between bars.
 const TO_LOG: &str =
-    "{\"do\":\"txn\",|{\"do\":\"resolve\",|{\"do\":\"withdraw\",|{\"do\":\"setup\",|2c + 1|2s + 2|2s.|A transaction that only reads may have one stamp|In place of a deletion|a value of your own|The status is the gate|clean beside|docs/LOGGING.md|at most 1048576 bytes, a key 1 to 128, a transaction 4096 OPs|The commit stamp of a transaction that writes is no stamp of another one|docs/FORMAT.md\nhas the code and reason of each refused line|each verdict|20 where snapshot isolation is violated; else 10 where";
+    "{\"do\":\"txn\",|{\"do\":\"resolve\",|{\"do\":\"withdraw\",|{\"do\":\"setup\",|2c + 1|2s + 2|2s.|A transaction that only reads may have one stamp|In place of a deletion|a value of your own|The status is the gate|clean beside|docs/LOGGING.md|at most 1048576 bytes, a key 1 to 128, a transaction 4096 OPs|The commit stamp of a transaction that writes is no stamp of another one|docs/FORMAT.md\nhas the code and reason of each refused line|each verdict|20 where snapshot isolation is violated; else 10 where|Status 0 says\nnothing of what wasn't logged|`gone `|`short`";
 
 /// The words that findings begin with, between bars.
 const KINDS: &str =
@@ -39,6 +39,7 @@ fn help_tells_how_to_log(rt: HostRuntime) {
         tells(&rt, &files, line, TO_LOG);
         tells(&rt, &files, line, KINDS);
     }
-    let usage = "Usage: sicheck check [--shards K] [--every N] [--explain] [FILE]...\n";
+    let usage =
+        "Usage: sicheck check [--shards K] [--every N [--new]] [--explain] [--expect N]\n                     [FILE]...\n";
     tells(&rt, &files, "check --help", usage);
 }

@@ -75,6 +75,19 @@ const COMMAND_LINES: &str = "
     check --explain=1 | 2 complains
     check --shards=16 | 20 writes
     check --every=1 --every=2 | 2 complains
+    check --every=1 --new | 20 writes
+    check --new --every=1 | 20 writes
+    check --new | 2 complains
+    check --every=1 --new=1 | 2 complains
+    check --every=1 --new --new | 2 complains
+    check --expect | 2 complains
+    check --expect= | 2 complains
+    check --expect=-1 | 2 complains
+    check --expect=x | 2 complains
+    check --expect=16777217 | 2 complains
+    check --expect=1 --expect=1 | 2 complains
+    check --expect=0 | 20 writes
+    check --expect=16777216 | 20 writes
     check --version | 2 complains";
 
 #[test]
@@ -94,7 +107,8 @@ fn every_told(rt: &impl Host, every: Option<u64>) -> String {
     every.expect(rt, "memory")
 }
 
-/// `4 - plain`: how many shards, after how many lines a report comes, and whether its findings are `explained`.
+/// `4 - plain`: how many shards, after how many lines a report comes, and whether its findings are `explained`; then `new`, if
+/// only what changed is told on the way, and `expects 1`, if so many are expected.
 fn options_told(rt: &impl Host, options: Options) -> String {
     let every = every_told(rt, options.every);
     let explained = if options.explain {
@@ -102,7 +116,18 @@ fn options_told(rt: &impl Host, options: Options) -> String {
     } else {
         "plain"
     };
-    format!(in rt.alloc(); "{} {every} {explained}", options.shards).expect(rt, "memory")
+    let asked = asked_told(rt, options);
+    format!(in rt.alloc(); "{} {every} {explained}{asked}", options.shards).expect(rt, "memory")
+}
+
+/// The last two of these.
+fn asked_told(rt: &impl Host, options: Options) -> String {
+    let new = if options.only_new { " new" } else { "" };
+    let told = match options.expected {
+        None => String::from_str(rt.alloc(), new),
+        Some(expected) => format!(in rt.alloc(); "{new} expects {expected}"),
+    };
+    told.expect(rt, "memory")
 }
 
 /// What the words ask for.
@@ -144,7 +169,13 @@ const ASKED: &str = "
     check b --explain a b | 4 - explained | b a b
     check a b c d e f g h | 4 - plain | a b c d e f g h
     check --shards 1 | 1 - plain |
-    check --shards=16 | 16 - plain |";
+    check --shards=16 | 16 - plain |
+    check --new --every 5 | 4 5 plain new |
+    check --every 5 --explain --new a | 4 5 explained new | a
+    check --expect 0 | 4 - plain expects 0 |
+    check --expect=16777216 a | 4 - plain expects 16777216 | a
+    check --expect 3 --every 2 --new | 4 2 plain new expects 3 |
+    check -- --new | 4 - plain | --new";
 
 #[test]
 fn what_words_ask_for(rt: HostRuntime) {
@@ -160,10 +191,35 @@ fn nine_files_are_too_many(rt: HostRuntime) {
     assert!(rt; matches!(nine, Err(SettingsFault::TooManyFiles)));
 }
 
+/// On these words there is nothing that `--new` could be about.
+fn is_new_alone(rt: &impl Host, line: &str) {
+    let words = words_of(rt, line);
+    let alone = settings_of(rt.alloc(), words.as_slice());
+    assert!(rt; matches!(alone, Err(SettingsFault::NewAlone)));
+}
+
+#[test]
+fn new_wants_reports_on_the_way(rt: HostRuntime) {
+    is_new_alone(&rt, "check --new");
+    is_new_alone(&rt, "check --new --explain --expect 1 a");
+    is_new_alone(&rt, "check --new a b c d e f g h a");
+    let words = words_of(&rt, "check --new");
+    let complaint = ("", "sicheck: --new without --every\n", 2);
+    writes(
+        &rt,
+        &StdFiles::new(&rt),
+        words.as_slice(),
+        LOST_UPDATE,
+        complaint,
+    );
+}
+
 #[test]
 fn a_fault_of_words_is_printed(rt: HostRuntime) {
     let text = format!(in rt.alloc(); "{}", SettingsFault::TooManyFiles).expect(&rt, "memory");
     are_same(&rt, text.as_str(), "too many files");
+    let text = format!(in rt.alloc(); "{}", SettingsFault::NewAlone).expect(&rt, "memory");
+    are_same(&rt, text.as_str(), "--new without --every");
 }
 
 #[test]
@@ -257,7 +313,8 @@ const WITHOUT_KEY: &str = "
     --version | 0 sicheck 0.1.0
     check | 2 sicheck: no random bytes for the hash maps
     check a b | 2 sicheck: no random bytes for the hash maps
-    check a b c d e f g h a | 2 sicheck: too many files";
+    check a b c d e f g h a | 2 sicheck: too many files
+    check --new a b c d e f g h a | 2 sicheck: --new without --every";
 
 #[test]
 fn without_a_secret_key(rt: HostRuntime) {

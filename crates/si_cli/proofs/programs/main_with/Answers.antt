@@ -1,4 +1,4 @@
-use Rattle.std.proofs.Common.{inr}
+use Rattle.std.proofs.Common.{inl, inr, refl}
 use Rattle.si_cli.proofs.programs.main_with.Goals as goal
 
 pub returns-in-Ok : goal.returns-in-Ok
@@ -7,4 +7,4 @@ returns-in-Ok g c =
     let named = rw c.deref.ensures.value at c.check_by.ensures in
     let files = rw given.files at named in
     let ends = rw given.options at files in
-    inr (c.in-Ok.ensures.0, inr (given.few, ends))
+    inr (c.in-Ok.ensures.0, inr ((given.together, given.few), ends))

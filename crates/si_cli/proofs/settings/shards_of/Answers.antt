@@ -6,9 +6,9 @@ use Rattle.si_cli.proofs.GivenValues.{number_within}
 use Rattle.si_cli.proofs.settings.shards_of.Goals as goal
 
 pub number_of-requires : goal.number_of-requires
-number_of-requires c = (MOST_SHARDS, c.requires.shards)
+number_of-requires c = (1, MOST_SHARDS, c.requires.shards)
 
 pub returns-in-Some-clause-range : goal.returns-in-Some-clause-range
 returns-in-Some-clause-range c =
     let rows = rows_of (found_of c.args.check.now) in
-    subst (λ o. IfSome o (λ n. (1 ≤ n) × (n ≤ MOST_SHARDS))) (sym c.number_of.ensures ∙ c.in-Some.is) (number_within (codes "shards") MOST_SHARDS rows c.requires.shards)
+    subst (λ o. IfSome o (λ n. (1 ≤ n) × (n ≤ MOST_SHARDS))) (sym c.number_of.ensures ∙ c.in-Some.is) (number_within (codes "shards") 1 MOST_SHARDS rows c.requires.shards)

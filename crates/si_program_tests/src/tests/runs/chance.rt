@@ -123,7 +123,17 @@ fn options_by(dice: &mut Dice) -> Options {
         shards: dice.below(16) as usize + 1,
         every,
         explain: dice.below(2) == 0,
+        only_new: dice.below(2) == 0,
+        expected: expected_by(dice),
         ..PLAIN
+    }
+}
+
+/// No number, or a small one.
+fn expected_by(dice: &mut Dice) -> Option<u64> {
+    match dice.below(3) {
+        0 => None,
+        _ => Some(dice.below(20)),
     }
 }
 

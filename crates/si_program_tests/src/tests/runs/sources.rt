@@ -1,5 +1,6 @@
 //! Two sources and one.
 
+use super::super::repeated;
 use super::{DOUBT, Host, PLAIN, RESOLUTION, RunEnd, are_same, ended, is_resolved_or_not};
 use si_run::{ExitStatus, Options, RunFault};
 
@@ -51,4 +52,52 @@ fn options_out_of_range_are_told(rt: HostRuntime) {
     is_not_begun(&rt, 17, 1);
     is_not_begun(&rt, 1, 0);
     is_not_begun(&rt, 1, 16_777_217);
+}
+
+/// A run over both texts with these options, and any number of shards, writes the output and has that status, in whatever order their
+/// lines come.
+fn both_write(
+    rt: &impl Host,
+    texts: [&str; 2],
+    options: Options,
+    output: &str,
+    status: ExitStatus,
+) {
+    for shards in [1, 4, 16] {
+        let options = Options { shards, ..options };
+        let ended = ended(rt, texts.as_slice(), (3, 1), options);
+        are_same(rt, ended.status, Ok(status));
+        are_same(rt, ended.out.as_slice(), output.as_bytes());
+    }
+}
+
+/// One that reads the key before it.
+const READER: &str =
+    "{\"do\":\"txn\",\"id\":2,\"start\":3,\"status\":\"committed\",\"commit\":4,\"ops\":[[\"r\",\"x\",null]]}";
+
+#[test]
+fn two_sources_are_short(rt: HostRuntime) {
+    let doubt = "{\"do\":\"txn\",\"id\":7,\"start\":5,\"status\":\"indoubt\",\"ops\":[]}";
+    let options = Options {
+        expected: Some(2),
+        ..PLAIN
+    };
+    let output =
+        "short committed=1 expected=2 indoubt=1 ids=7\ntransactions=2 findings=0 refused=0 verdict=clean\n";
+    both_write(&rt, [ONE, doubt], options, output, ExitStatus::Open);
+}
+
+#[test]
+fn what_changed_in_two_sources(rt: HostRuntime) {
+    let options = Options {
+        every: Some(2),
+        only_new: true,
+        explain: true,
+        ..PLAIN
+    };
+    let report =
+        "stale key=\"x\" txn=2 op=0 read=initial missed=1\n  G-SI(b) 2-rw->1 1-st->2\ntransactions=2 findings=1 refused=0 verdict=violation\n";
+    let output = repeated(&rt, report, 2);
+    let output = output.as_str();
+    both_write(&rt, [ONE, READER], options, output, ExitStatus::Violation);
 }
