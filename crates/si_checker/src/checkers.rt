@@ -243,6 +243,13 @@ impl<N: Name> Checker<N> {
     }
 
     /// What became of the transactions that are present after the whole journal, which the pass sees. It walks over all of them.
+    ///
+    /// # Examples
+    ///
+    /// ```
+    /// let statuses = checker.statuses(rt, &mut pass)?;
+    /// let is_whole = statuses.committed >= 1_000 && statuses.in_doubt.is_empty();
+    /// ```
     pub fn statuses<R: Wait>(&self, rt: &R, pass: &mut Pass) -> Result<Statuses, OutOfMemory>
         requires { pass.old.table ≡ N.board.table }
         ensures committed { IfOk result (λ s. s.committed ≡ committed_among (present (edits_of pass.new.view.seen)).txns) }

@@ -18,6 +18,12 @@ pub enum Field {
 
 impl Field {
     /// The member's name, as a line spells it.
+    ///
+    /// # Examples
+    ///
+    /// ```
+    /// let name = Field::Start.name(); // start
+    /// ```
     pub fn name(&self) -> &'static str
         ensures { result.now ≡ field_name self.now }
     {

@@ -32,6 +32,12 @@ impl Model for KnownKeys {
 
 impl KnownKeys {
     /// No key is known yet. The secret key of the hash is what keeps a text from being chosen for the hash of another.
+    ///
+    /// # Examples
+    ///
+    /// ```
+    /// let mut keys = KnownKeys::new(rt.alloc(), RandomState::new(rt)?);
+    /// ```
     pub fn new(alloc: Global, hash: RandomState) -> Self
         ensures { result ≡ [] }
     {
@@ -53,6 +59,12 @@ impl KnownKeys {
 
     /// The key with this text. Of a longer one it is a copy of the known one, which shares its text, or else a new one, which is
     /// known from then on unless another known text has its hash.
+    ///
+    /// # Examples
+    ///
+    /// ```
+    /// let key = keys.key("accounts/00000018/balance in cents")?;
+    /// ```
     pub fn key(&mut self, text: &str) -> Result<Key, OutOfMemory>
         requires { IsKeyText text.now }
         ensures key { IfOk result (λ key. key ≡ text.now) }

@@ -84,6 +84,13 @@ pub fn print_report(
 }
 
 /// Appends a report as [`print_report`] does, with the line of what the run is short of, if it is short, right before the summary.
+///
+/// # Examples
+///
+/// ```
+/// let shortage = Some(Shortage { committed: 3, expected: 5, in_doubt });
+/// let verdict = print_last_report(rt.alloc(), &mut out, 3, found.as_slice(), 0, false, &shortage)?; // short committed=3 expected=5 indoubt=0
+/// ```
 pub fn print_last_report(
     alloc: Global,
     out: &mut Vec<u8>,
@@ -105,6 +112,12 @@ pub fn print_last_report(
 
 /// Appends a summary: how many transactions are present, how many findings there are, how many items were refused so far, and the
 /// verdict. If memory is refused, the bytes are as before.
+///
+/// # Examples
+///
+/// ```
+/// print_summary(rt.alloc(), &mut out, 3, 0, 0, Verdict::Clean)?; // transactions=3 findings=0 refused=0 verdict=clean
+/// ```
 pub fn print_summary(
     _alloc: Global,
     out: &mut Vec<u8>,
