@@ -15,6 +15,7 @@ pub mod Told
 pub mod Nearest
 pub mod Ranges
 pub mod ReaderLists
+pub mod OwnApart
 pub mod Seen
 pub mod Gathered
 pub mod Touching

@@ -1,6 +1,7 @@
 -- The range of the readers of a value has them all.
 use Rattle.std.proofs.Common.{Ordering}
 use Rattle.std.proofs.Common.{◌≡◌, ◌∙◌, ℕ, ◌+◌, ◌-◌, ◌^◌, ◌≤◌, Bool, true, false, cond, ◌&&◌, not, nat_eq, List, [], ◌∷◌, Option, Some, None, refl, sym, ap, ap₂, subst, arith, true≢false}
+use Rattle.std.specs.List.{filter_map}
 use Rattle.std.specs.BTreeMap.Range.{entries_between, is_from_start, is_past_end, range_contains}
 use Rattle.std.specs.Cmp.{ranked, nat_cmp_is}
 use Rattle.std.specs.Option.{option_cmp, option_eq}
@@ -13,8 +14,9 @@ use Rattle.si_model.specs.declared.numbers.Value.{Value}
 use Rattle.si_model.specs.Operations.{same_value}
 use Rattle.si_model.proofs.Equalities.{read_is}
 use Rattle.si_judge.specs.declared.reads.Reader.{Reader}
-use Rattle.si_judge.specs.Readers.{beyond, is_later, is_reader_of, least_of, least_reader, reader_cmp, readers_among}
+use Rattle.si_judge.specs.Readers.{beyond, is_later, is_reader_of, least_of, least_reader, reader_cmp, readers_among, with_own}
 use Rattle.si_judge.specs.Spread.{value_cmp}
+use Rattle.si_sorted.specs.Entries.{value_at}
 
 -- ---- from the least reader on
 
@@ -78,19 +80,23 @@ in_range v after r e =
     let from = subst (λ w. is_from_start reader_cmp (least_reader w after) r ≡ true) value (from_its_least after r both.1) in
     ap₂ (λ a b. a && not b) from (up_to_next v r value)
 
--- no reader of the value is outside
-pub range_has_all : (v : Option Value) (after : Option Stamp) (es : List (Reader × Option Value))
-    → readers_among (entries_between reader_cmp (least_reader v after) (beyond v) es) v after ≡ readers_among es v after
-range_has_all v after [] = refl
-range_has_all v after (e ∷ es) = by (range_contains reader_cmp (least_reader v after) (beyond v) e.0) (is_reader_of v after e.0) refl refl (range_has_all v after es)
+-- no reader of the value is outside, and each is told with its own value
+pub range_tells_all : {X : Type 0} (v : Option Value) (after : Option Stamp) (own : List (Reader × Value)) (es : List (Reader × X))
+    → filter_map (λ e. cond (is_reader_of v after e.0) (Some (e.0, value_at reader_cmp own e.0)) None) (entries_between reader_cmp (least_reader v after) (beyond v) es)
+    ≡ readers_among (with_own own es) v after
+range_tells_all v after own [] = refl
+range_tells_all {X} v after own (e ∷ es) = by (range_contains reader_cmp (least_reader v after) (beyond v) e.0) (is_reader_of v after e.0) refl refl (range_tells_all v after own es)
   where
-    inside : List (Reader × Option Value)
+    tells : Reader × X → Option (Reader × Option Value)
+    tells d = cond (is_reader_of v after d.0) (Some (d.0, value_at reader_cmp own d.0)) None
+
+    inside : List (Reader × X)
     inside = entries_between reader_cmp (least_reader v after) (beyond v) es
 
     by : (a b : Bool) → range_contains reader_cmp (least_reader v after) (beyond v) e.0 ≡ a → is_reader_of v after e.0 ≡ b
-        → readers_among inside v after ≡ readers_among es v after
-        → readers_among (cond a (e ∷ inside) inside) v after ≡ cond b (e ∷ readers_among es v after) (readers_among es v after)
-    by true true s g rest = rw g (ap (λ l. e ∷ l) rest)
+        → filter_map tells inside ≡ readers_among (with_own own es) v after
+        → filter_map tells (cond a (e ∷ inside) inside) ≡ cond b ((e.0, value_at reader_cmp own e.0) ∷ readers_among (with_own own es) v after) (readers_among (with_own own es) v after)
+    by true true s g rest = rw g (ap (λ l. (e.0, value_at reader_cmp own e.0) ∷ l) rest)
     by true false s g rest = rw g rest
     by false true s g rest = absurd (true≢false (sym (in_range v after e.0 g) ∙ s))
     by false false s g rest = rest

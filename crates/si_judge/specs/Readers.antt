@@ -1,5 +1,5 @@
 -- The reads of a key's committed transactions. All of it is this project's choice.
-use Rattle.std.specs.Prelude.{◌≡◌, ℕ, ◌<◌, ◌+◌, ◌-◌, ◌^◌, Bool, true, ◌&&◌, if◌then◌else◌, nat_eq, nat_lt, List, Some, None, Option, ⊤}
+use Rattle.std.specs.Prelude.{◌≡◌, ℕ, ◌<◌, ◌+◌, ◌-◌, ◌^◌, Bool, true, ◌&&◌, if◌then◌else◌, nat_eq, nat_lt, List, Some, None, Option, ⊤, map}
 use Rattle.std.specs.List.{filter}
 use Rattle.std.specs.List.Sorted.{IsStrictlySortedBy}
 use Rattle.std.specs.Map.{keys_of}
@@ -19,6 +19,14 @@ use Rattle.si_judge.specs.declared.reads.Reader.{Reader}
 abbrev pub reader_cmp : Reader → Reader → Ordering
 reader_cmp r s = ordering_then (option_cmp value_cmp r.value s.value)
     (ordering_then (nat_cmp r.start.0 s.start.0) (ordering_then (nat_cmp r.txn.0 s.txn.0) (nat_cmp r.place s.place)))
+
+-- each reader with its transaction's own value there, which stands apart, if it has one
+abbrev pub with_own : {X : Type 0} → List (Reader × Value) → List (Reader × X) → List (Reader × Option Value)
+with_own own = map (λ e. (e.0, value_at reader_cmp own e.0))
+
+-- an own value stands apart only for a reader that is there
+abbrev pub AreOfReaders : {X : Type 0} → List (Reader × Value) → List (Reader × X) → Type 0
+AreOfReaders own es = (r : Reader) → value_at reader_cmp es r ≡ None → value_at reader_cmp own r ≡ None
 
 -- what stands beside the reader: its transaction's own value there, if it has one
 abbrev pub own_at : List (Reader × Option Value) → Reader → Option (Option Value)

@@ -197,7 +197,7 @@ impl<J: Judge + Drop> KeyFindings<J> {
             None => 0,
         };
         let reader = match self.indexes.readers.last() {
-            Some((reader, _)) => reader.start.0,
+            Some(reader) => reader.start.0,
             None => 0,
         };
         version ^ reader

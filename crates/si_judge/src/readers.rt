@@ -1,49 +1,66 @@
 //! The reads of a key's committed transactions, found by what they returned.
 
-ghost use Rattle.std.specs.Prelude.{◌≡◌, ◌↔◌, ◌++◌, ◌-◌, None, IsTrue, OnOk, Some, length, slice_get};
+ghost use Rattle.std.specs.Prelude.{◌≡◌, ◌↔◌, ◌++◌, ◌-◌, None, IsTrue, OnErr, OnOk, Some, length, slice_get};
+ghost use Rattle.std.specs.Map.{keys_of};
 ghost use Rattle.std.specs.Ordering.{eq_by_cmp};
+ghost use Rattle.si_sorted.specs.Entries.{Sets, value_at};
 ghost use Rattle.si_judge.specs.Maps.{AreInserted, AreTakenOut};
 ghost use Rattle.si_judge.specs.Readers.{AreInOrder, SetsOwn, beyond, is_later, is_reader_of, least_reader, own_at, reader_cmp, readers_among};
 
 use crate::reads::{OwnRead, Reader};
 use si_model::{OutOfMemory, Stamp, TxnId, Value};
-use si_sorted::{KeyTest, SortedMap};
+use si_sorted::{Choice, SortedMap};
 use std::alloc::Global;
 use std::marker::Model;
 use std::ops::Bound;
+
+/// The own values of readers.
+type OwnValues = SortedMap<Reader, Value>;
 
 /// The reads of the committed transactions of a key, each with its transaction's own value there, if it has one.
 ///
 /// Contracts see the list of pairs, in the order of readers.
 #[derive(Drop)]
 pub struct Readers {
-    all: SortedMap<Reader, Option<Value>>,
+    all: SortedMap<Reader, ()>,
+    // For those few alone whose transaction has one.
+    own: OwnValues,
 }
 
 impl Model for Readers {
     ghost use Rattle.std.specs.Prelude.{List, Option};
     ghost use Rattle.si_model.specs.declared.numbers.Value.{Value as Written};
     ghost use Rattle.si_judge.specs.declared.reads.Reader.{Reader};
+    ghost use Rattle.si_judge.specs.Readers.{AreOfReaders, with_own};
 
     ghost Value = { List (Reader × Option Written) };
 
-    ghost view = { λ s. s.all };
+    ghost view = { λ s. with_own s.own s.all };
+
+    ghost invariant = { λ s. AreOfReaders s.own s.all };
 }
 
 /// The reads of a value, by readers that started after a stamp, if there is one.
-#[derive(Clone, Copy, Debug)]
-struct OfValue {
+#[derive(Clone, Copy)]
+struct OfValue<'a> {
     value: Option<Value>,
     after: Option<Stamp>,
+    own: &'a OwnValues,
 }
 
-impl KeyTest<Reader> for OfValue {
-    ghost use Rattle.si_judge.specs.Readers.{is_reader_of};
+impl<'a> Choice<Reader, (), OwnRead> for OfValue<'a> {
+    ghost use Rattle.std.specs.Prelude.{None, Some};
+    ghost use Rattle.std.specs.Prelude.{if◌then◌else◌};
+    ghost use Rattle.si_sorted.specs.Entries.{value_at};
+    ghost use Rattle.si_judge.specs.Readers.{is_reader_of, reader_cmp};
 
-    ghost passes = { λ w r. is_reader_of w.value w.after r };
+    ghost tells = { λ w r _. if is_reader_of w.value w.after r then Some (r, value_at reader_cmp w.own.now r) else None };
 
-    fn wants(&self, reader: Reader) -> bool {
-        is_reader_of(self.value, self.after, reader)
+    fn told(&self, reader: Reader, _nothing: ()) -> Option<OwnRead> {
+        if is_reader_of(self.value, self.after, reader) {
+            return Some((reader, own_of(self.own, reader)));
+        }
+        None
     }
 }
 
@@ -56,6 +73,7 @@ impl Readers {
     {
         Readers {
             all: SortedMap::new(alloc),
+            own: SortedMap::new(alloc),
         }
     }
 
@@ -73,11 +91,12 @@ impl Readers {
         self.all.len()
     }
 
-    /// The last one, in their order, with its transaction's own value.
-    pub fn last(&self) -> Option<(Reader, Option<Value>)>
-        ensures { result ≡ slice_get self.now (length self.now - 1) }
+    /// The last reader, in their order.
+    pub fn last(&self) -> Option<Reader>
+        ensures { result ≡ slice_get (keys_of self.now) (length self.now - 1) }
     {
-        self.all.last()
+        let (reader, ()) = self.all.last()?;
+        Some(reader)
     }
 
     /// Puts the reads in.
@@ -95,7 +114,8 @@ impl Readers {
         ensures value { OnOk result (SetsOwn reader (Some own) self.old self.new) }
         ensures ordered { OnOk result (AreInOrder self.new) }
     {
-        self.all.insert(reader, own)?;
+        self.all.insert(reader, ())?;
+        set_own(&mut self.own, reader, own)?;
         Ok(())
     }
 
@@ -114,6 +134,7 @@ impl Readers {
         ensures ordered { AreInOrder self.new }
     {
         self.all.remove(reader);
+        forget_own(&mut self.own, reader);
     }
 
     /// Adds the reads that returned the value, by readers that started after the stamp, if there is one.
@@ -126,9 +147,40 @@ impl Readers {
         ensures { OnOk result (reads.new.items ≡ reads.old.items ++ readers_among self.now value after) }
     {
         let (least, beyond) = (least_reader(value, after), beyond(value));
-        self.all
-            .add_between(least, beyond, &OfValue { value, after }, reads)?;
+        let own = &self.own;
+        let of_value = OfValue { value, after, own };
+        self.all.add_between(least, beyond, &of_value, reads)?;
         Ok(())
+    }
+}
+
+/// The own value of the reader, if there is one. Mostly no reader has one, and then nothing is looked up.
+fn own_of(own: &OwnValues, reader: Reader) -> Option<Value>
+    ensures { result ≡ value_at reader_cmp own.now reader }
+{
+    if own.is_empty() {
+        return None;
+    }
+    own.get(reader)
+}
+
+/// Puts the own value under the reader, or takes the one out that stands there.
+fn set_own(own: &mut OwnValues, reader: Reader, value: Option<Value>) -> Result<(), OutOfMemory>
+    ensures ok { OnOk result (Sets reader_cmp reader value own.old own.new) }
+    ensures err { OnErr result (own.new ≡ own.old) }
+{
+    match value {
+        Some(value) => own.insert(reader, value)?,
+        None => forget_own(own, reader),
+    }
+    Ok(())
+}
+
+fn forget_own(own: &mut OwnValues, reader: Reader)
+    ensures { Sets reader_cmp reader None own.old own.new }
+{
+    if !own.is_empty() {
+        own.remove(reader);
     }
 }
 

@@ -3,7 +3,7 @@
 ghost use Rattle.std.specs.Prelude.{◌≡◌, ◌<◌, ◌≤◌, ◌++◌, ◌-◌, None, IfNone, IfOk, IfSome, OnErr, OnOk, length, slice_get};
 ghost use Rattle.std.specs.BTreeMap.{insert_entry, is_at};
 ghost use Rattle.std.specs.BTreeMap.Range.{IsLeBy, IsLtBy, entries_between};
-ghost use Rattle.std.specs.List.{filter, find};
+ghost use Rattle.std.specs.List.{filter_map, find};
 ghost use Rattle.std.specs.Range.Bound.{IsForward};
 ghost use Rattle.std.specs.List.Sorted.{IsStrictlySortedBy};
 ghost use Rattle.std.specs.Map.{keys_of, lookup, remove_entry};
@@ -14,7 +14,7 @@ use crate::finds::{ValueTest, find_in, find_in_tree};
 use crate::flat::{
     entry_after, entry_before, insert_in, moved_by, moved_without, remove_from, value_in,
 };
-use crate::runs::{KeyTest, add_from, add_from_tree};
+use crate::runs::{Choice, add_from, add_from_tree};
 use crate::trees::{after_in, before_in, tree_of, tree_with};
 use std::alloc::{AllocError, Global};
 use std::collections::BTreeMap;
@@ -146,20 +146,20 @@ impl<K: Ord + Copy + Drop, V: Copy + Drop> Form<K, V> {
         }
     }
 
-    pub fn add_between<T: KeyTest<K>>(
+    pub fn add_between<E: Drop, C: Choice<K, V, E>>(
         &self,
         low: Bound<K>,
         high: Bound<K>,
-        test: &T,
-        out: &mut Vec<(K, V)>,
+        choice: &C,
+        out: &mut Vec<E>,
     ) -> Result<(), AllocError>
         requires rising { IsStrictlySortedBy K.cmp (keys_of (entries_in self.now)) }
         requires forward { IsForward (IsLeBy K.cmp) (IsLtBy K.cmp) low high }
-        ensures { OnOk result (out.new.items ≡ out.old.items ++ filter (λ e. T.passes test.now e.0) (entries_between K.cmp low high (entries_in self.now))) }
+        ensures { OnOk result (out.new.items ≡ out.old.items ++ filter_map (λ e. C.tells choice.now e.0 e.1) (entries_between K.cmp low high (entries_in self.now))) }
     {
         match self {
-            Form::Flat(entries) => add_from(entries.as_slice(), low, high, test, out),
-            Form::Tree(tree) => add_from_tree(tree, low, high, test, out),
+            Form::Flat(entries) => add_from(entries.as_slice(), low, high, choice, out),
+            Form::Tree(tree) => add_from_tree(tree, low, high, choice, out),
         }
     }
 

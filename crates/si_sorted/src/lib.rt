@@ -11,5 +11,5 @@ pub mod sorted_maps;
 mod trees;
 
 pub use finds::ValueTest;
-pub use runs::KeyTest;
+pub use runs::Choice;
 pub use sorted_maps::SortedMap;

@@ -2,7 +2,7 @@
 
 ghost use Rattle.std.specs.Prelude.{◌≡◌, ◌++◌, OnOk};
 ghost use Rattle.std.specs.BTreeMap.Range.{IsLeBy, IsLtBy, entries_between, is_from_start, is_past_end};
-ghost use Rattle.std.specs.List.{filter};
+ghost use Rattle.std.specs.List.{filter_map};
 ghost use Rattle.std.specs.List.Sorted.{IsStrictlySortedBy};
 ghost use Rattle.std.specs.Map.{keys_of};
 ghost use Rattle.std.specs.Range.Bound.{IsForward};
@@ -13,16 +13,16 @@ use std::alloc::AllocError;
 use std::collections::BTreeMap;
 use std::ops::Bound;
 
-/// A test of keys.
-pub trait KeyTest<K> {
-    ghost use Rattle.std.specs.Prelude.{◌≡◌, Bool};
+/// A choice among entries, and what is told of each one that is chosen.
+pub trait Choice<K, V, E> {
+    ghost use Rattle.std.specs.Prelude.{◌≡◌, Option};
 
-    /// Whether a key passes.
-    ghost passes: { Self → K → Bool };
+    /// What is told of an entry, if it is chosen.
+    ghost tells: { Self → K → V → Option E };
 
-    /// Whether the key passes.
-    fn wants(&self, key: K) -> bool
-        ensures { result ≡ passes self.now key };
+    /// What is told of the entry, if it is chosen.
+    fn told(&self, key: K, value: V) -> Option<E>
+        ensures { result ≡ tells self.now key value };
 }
 
 /// The first place within the lower bound.
@@ -66,51 +66,51 @@ fn part_of<K: Ord + Copy + Drop, V: Copy + Drop>(
     &[]
 }
 
-/// Adds the entries whose keys pass.
-fn add_passing<K: Copy + Drop, V: Copy + Drop, T: KeyTest<K>>(
+/// Adds what is told of the entries that are chosen.
+fn add_told<K: Copy + Drop, V: Copy + Drop, E: Drop, C: Choice<K, V, E>>(
     entries: &[(K, V)],
-    test: &T,
-    out: &mut Vec<(K, V)>,
+    choice: &C,
+    out: &mut Vec<E>,
 ) -> Result<(), AllocError>
-    ensures { OnOk result (out.new.items ≡ out.old.items ++ filter (λ e. T.passes test.now e.0) entries.now) }
+    ensures { OnOk result (out.new.items ≡ out.old.items ++ filter_map (λ e. C.tells choice.now e.0 e.1) entries.now) }
 {
     for entry in entries {
-        if test.wants(entry.0) {
-            out.push(*entry)?;
+        if let Some(told) = choice.told(entry.0, entry.1) {
+            out.push(told)?;
         }
     }
     Ok(())
 }
 
-/// Adds the entries between the bounds whose keys pass.
-pub fn add_from<K: Ord + Copy + Drop, V: Copy + Drop, T: KeyTest<K>>(
+/// Adds what is told of the entries between the bounds that are chosen.
+pub fn add_from<K: Ord + Copy + Drop, V: Copy + Drop, E: Drop, C: Choice<K, V, E>>(
     entries: &[(K, V)],
     low: Bound<K>,
     high: Bound<K>,
-    test: &T,
-    out: &mut Vec<(K, V)>,
+    choice: &C,
+    out: &mut Vec<E>,
 ) -> Result<(), AllocError>
     requires { IsStrictlySortedBy K.cmp (keys_of entries.now) }
-    ensures { OnOk result (out.new.items ≡ out.old.items ++ filter (λ e. T.passes test.now e.0) (entries_between K.cmp low high entries.now)) }
+    ensures { OnOk result (out.new.items ≡ out.old.items ++ filter_map (λ e. C.tells choice.now e.0 e.1) (entries_between K.cmp low high entries.now)) }
 {
-    add_passing(part_of(entries, low, high), test, out)?;
+    add_told(part_of(entries, low, high), choice, out)?;
     Ok(())
 }
 
 /// The same of a tree.
-pub fn add_from_tree<K: Ord + Copy + Drop, V: Copy + Drop, T: KeyTest<K>>(
+pub fn add_from_tree<K: Ord + Copy + Drop, V: Copy + Drop, E: Drop, C: Choice<K, V, E>>(
     tree: &BTreeMap<K, V>,
     low: Bound<K>,
     high: Bound<K>,
-    test: &T,
-    out: &mut Vec<(K, V)>,
+    choice: &C,
+    out: &mut Vec<E>,
 ) -> Result<(), AllocError>
     requires { IsForward (IsLeBy K.cmp) (IsLtBy K.cmp) low high }
-    ensures { OnOk result (out.new.items ≡ out.old.items ++ filter (λ e. T.passes test.now e.0) (entries_between K.cmp low high tree.now.entries)) }
+    ensures { OnOk result (out.new.items ≡ out.old.items ++ filter_map (λ e. C.tells choice.now e.0 e.1) (entries_between K.cmp low high tree.now.entries)) }
 {
     for (key, value) in tree.range((low, high)) {
-        if test.wants(*key) {
-            out.push((*key, *value))?;
+        if let Some(told) = choice.told(*key, *value) {
+            out.push(told)?;
         }
     }
     Ok(())

@@ -3,7 +3,7 @@
 ghost use Rattle.std.specs.Prelude.{◌≡◌, ◌++◌, ◌-◌, [], None, Some, IsTrue, OnErr, OnOk, ◌↔◌, length, slice_get};
 ghost use Rattle.std.specs.BTreeMap.{insert_entry, is_at};
 ghost use Rattle.std.specs.BTreeMap.Range.{IsLeBy, IsLtBy, entries_between};
-ghost use Rattle.std.specs.List.{filter, find};
+ghost use Rattle.std.specs.List.{filter_map, find};
 ghost use Rattle.std.specs.Range.Bound.{IsForward};
 ghost use Rattle.std.specs.List.Sorted.{IsStrictlySortedBy};
 ghost use Rattle.std.specs.Map.{keys_of, remove_entry};
@@ -12,7 +12,7 @@ ghost use Rattle.si_sorted.specs.Forms.{entries_in};
 
 use crate::finds::ValueTest;
 use crate::forms::Form;
-use crate::runs::KeyTest;
+use crate::runs::Choice;
 use std::alloc::{AllocError, Global};
 use std::marker::Model;
 use std::ops::Bound;
@@ -98,20 +98,20 @@ impl<K: Ord + Copy + Drop, V: Copy + Drop> SortedMap<K, V> {
         self.form.above(key)
     }
 
-    /// Adds the entries between the bounds whose keys pass the test, in order. The lower bound is not above the upper one.
+    /// Adds what is told of the entries between the bounds that are chosen, in order. The lower bound is not above the upper one.
     ///
     /// Where the growth of some memory is refused a part of them may have been added.
-    pub fn add_between<T: KeyTest<K>>(
+    pub fn add_between<E: Drop, C: Choice<K, V, E>>(
         &self,
         low: Bound<K>,
         high: Bound<K>,
-        test: &T,
-        out: &mut Vec<(K, V)>,
+        choice: &C,
+        out: &mut Vec<E>,
     ) -> Result<(), AllocError>
         requires { IsForward (IsLeBy K.cmp) (IsLtBy K.cmp) low high }
-        ensures { OnOk result (out.new.items ≡ out.old.items ++ filter (λ e. T.passes test.now e.0) (entries_between K.cmp low high self.now)) }
+        ensures { OnOk result (out.new.items ≡ out.old.items ++ filter_map (λ e. C.tells choice.now e.0 e.1) (entries_between K.cmp low high self.now)) }
     {
-        self.form.add_between(low, high, test, out)?;
+        self.form.add_between(low, high, choice, out)?;
         Ok(())
     }
 

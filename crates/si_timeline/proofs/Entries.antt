@@ -1,6 +1,6 @@
 -- What the entries of a map by commit stamps are as a timeline.
 use Rattle.std.proofs.Common.{◌≡◌, ◌∙◌, inl, inr, ◌⊎◌, ℕ, ◌<◌, Bool, true, false, cond, List, [], ◌∷◌, Option, Some, None, unwrap_or, is_some, refl, sym, ap, ap₂, subst, arith, true≢false}
-use Rattle.std.specs.List.{AllByRecursion, Contains, filter}
+use Rattle.std.specs.List.{AllByRecursion, Contains, filter_map}
 use Rattle.std.specs.BTreeMap.Range.{entries_between}
 use Rattle.std.specs.Option.{MatchOption}
 use Rattle.std.specs.declared.ops.Bound.TheVariants.{Unbounded}
@@ -105,6 +105,6 @@ under k ds None rises e = λ v c. found ds (k, v) c (sym e)
 under k ds (Some v) rises e = let is = stands k v ds (sym e) in (is, λ w c. alone k v w ds rises is c)
 
 -- between no bounds stand all
-pub all_of : (ds : List Dated) → filter (λ d. true) (entries_between stamp_cmp Unbounded Unbounded ds) ≡ ds
+pub all_of : (ds : List Dated) → filter_map (λ d. Some (d.0, d.1)) (entries_between stamp_cmp Unbounded Unbounded ds) ≡ ds
 all_of [] = refl
 all_of (d ∷ ds) = ap (λ l. d ∷ l) (all_of ds)

@@ -6,7 +6,7 @@ ghost use Rattle.si_timeline.specs.Timelines.{Adds, Has, IsAt, IsNearestAfter, I
 
 use crate::Version;
 use si_model::{OutOfMemory, Stamp, Value};
-use si_sorted::{KeyTest, SortedMap, ValueTest};
+use si_sorted::{Choice, SortedMap, ValueTest};
 use std::alloc::Global;
 use std::marker::Model;
 use std::ops::Bound;
@@ -49,13 +49,13 @@ impl ValueTest<Version> for OfValue {
 #[derive(Clone, Copy, Debug)]
 struct Every;
 
-impl KeyTest<Stamp> for Every {
-    ghost use Rattle.std.specs.Prelude.{true};
+impl Choice<Stamp, Version, (Stamp, Version)> for Every {
+    ghost use Rattle.std.specs.Prelude.{Some};
 
-    ghost passes = { λ _ _. true };
+    ghost tells = { λ _ commit version. Some (commit, version) };
 
-    fn wants(&self, _commit: Stamp) -> bool {
-        true
+    fn told(&self, commit: Stamp, version: Version) -> Option<(Stamp, Version)> {
+        Some((commit, version))
     }
 }
 

@@ -1,16 +1,21 @@
-use Rattle.std.proofs.Common.{◌∙◌, ◌++◌, List, Option, ap, ap₂}
+use Rattle.std.proofs.Common.{◌∙◌, ◌++◌, ap, ap₂, cond, Some, None}
 use Rattle.std.specs.BTreeMap.Range.{entries_between}
-use Rattle.si_model.specs.declared.numbers.Value.{Value}
+use Rattle.std.specs.List.{filter_map}
+use Rattle.std.specs.declared.ops.Bound.{Bound}
 use Rattle.si_judge.specs.declared.reads.Reader.{Reader}
-use Rattle.si_judge.specs.Readers.{reader_cmp, readers_among}
-use Rattle.si_judge.proofs.Ranges.{range_has_all}
+use Rattle.si_sorted.specs.Entries.{value_at}
+use Rattle.si_judge.specs.Readers.{is_reader_of, reader_cmp, readers_among}
+use Rattle.si_judge.proofs.Ranges.{range_tells_all}
 use Rattle.si_judge.proofs.readers.Readers.add_to.Goals as goal
 
 pub returns : goal.returns
 returns c =
+    let v = c.args.value in
+    let after = c.args.after in
+    let own = c.self.inside.own in
     let all = c.self.inside.all in
-    let among = λ (es : List (Reader × Option Value)). readers_among es c.args.value c.args.after in
+    let told = λ (lo hi : Bound Reader). filter_map (λ e. cond (is_reader_of v after e.0) (Some (e.0, value_at reader_cmp own e.0)) None) (entries_between reader_cmp lo hi all) in
     c.in_ok-add_between.ensures
     ∙ ap (λ l. c.args.reads.now.items ++ l)
-    (ap₂ (λ lo hi. among (entries_between reader_cmp lo hi all)) c.least_reader-least.ensures c.beyond-beyond.ensures
-    ∙ range_has_all c.args.value c.args.after all ∙ ap among c.self.view_is)
+    (ap₂ told c.least_reader-least.ensures c.beyond-beyond.ensures
+    ∙ range_tells_all v after own all ∙ ap (λ es. readers_among es v after) c.self.view_is)

@@ -1,6 +1,12 @@
-use Rattle.std.proofs.Common.{None, subst}
-use Rattle.si_judge.specs.Readers.{SetsOwn}
+use Rattle.std.proofs.Common.{None, subst, sym}
+use Rattle.std.specs.List.Sorted.{IsStrictlySortedBy}
+use Rattle.si_judge.specs.Readers.{SetsOwn, reader_cmp, with_own}
+use Rattle.si_judge.proofs.OwnApart.{both_set, keys_with_own}
 use Rattle.si_judge.proofs.readers.Readers.remove.Goals as goal
 
 pub returns-clause-value : goal.returns-clause-value
-returns-clause-value c = subst (λ l. SetsOwn c.args.reader None l c.remove.new.self) c.self.view_is c.remove.ensures.sets
+returns-clause-value c = subst (λ l. SetsOwn c.args.reader None l (with_own c.forget_own.new.own c.remove.new.self)) c.self.view_is
+    (both_set c.args.reader None None c.self.inside.all c.remove.new.self c.self.inside.own c.forget_own.new.own c.remove.ensures.sets c.forget_own.ensures)
+
+pub returns-clause-ordered : goal.returns-clause-ordered
+returns-clause-ordered c = subst (IsStrictlySortedBy reader_cmp) (sym (keys_with_own c.forget_own.new.own c.remove.new.self)) c.remove.ensures.rising
