@@ -1,5 +1,5 @@
 -- The arrivals of transactions, entered edit by edit.
-use Rattle.std.proofs.Common.{◌≡◌, ◌∙◌, ◌<◌, ◌+◌, arith, slice_index_or, inl, inr, ℕ, zero, suc, Bool, true, false, cond, not, nat_eq, List, [], ◌∷◌, ◌++◌, map, length, take, Option, Some, None, refl, sym, ap, subst, eqb-true, eq-eqb, slice_get}
+use Rattle.std.proofs.Common.{◌≡◌, ◌∙◌, ◌<◌, inl, inr, ℕ, zero, suc, ◌+◌, Bool, true, false, cond, not, nat_eq, List, [], ◌∷◌, ◌++◌, map, length, take, Option, Some, None, refl, sym, ap, subst, eqb-true, eq-eqb, slice_get, slice_index_or, arith}
 use Rattle.std.specs.List.{Contains, filter}
 use Rattle.std.specs.HashMap.{get}
 use Rattle.std.specs.Option.{option_map}
@@ -20,9 +20,9 @@ use Rattle.si_model.proofs.Acceptance.{present_push}
 use Rattle.si_model.proofs.PresentHistories.{present_history}
 use Rattle.si_shard.specs.declared.arrivals.Arrival.{Arrival}
 use Rattle.si_shard.specs.declared.arrivals.Arrivals.{Arrivals}
-use Rattle.si_shard.proofs.Beginnings.{one_more_taken}
 use Rattle.si_shard.specs.Applied.{head_at, head_in_some, ops_at, ops_in_some}
 use Rattle.si_shard.specs.Arrivals.{AreArrivals, AreKnown, IsArrivalOf, SetsArrival, resolved_arrival}
+use Rattle.si_shard.proofs.Beginnings.{one_more_taken}
 
 -- what stands at a place stays there as the list grows, and what comes last stands after it
 pub stays_at : {X : Type 0} (xs ys : List X) (i : ℕ) (x : X) → slice_get xs i ≡ Some x → slice_get (xs ++ ys) i ≡ Some x
@@ -185,9 +185,10 @@ module _ (edits : List Edit) (at new : ℕ → Option Arrival) (sound : AreArriv
   pub arrivals_next : (e : Edit) → SetsArrival e (length edits) at new → AreArrivals (edits ++ e ∷ []) (present (edits ++ e ∷ [])).txns new
   arrivals_next e sets = subst (λ P. AreArrivals (edits ++ e ∷ []) P.txns new) (sym (present_push edits e)) (arrivals_by e sets)
 
--- ---- a transaction that is present, by its arrival
+-- ---- a transaction that is present
 
 module _ (edits : List Edit) (at : ℕ → Option Arrival) (accepted : IsAccepted edits) (arrivals : AreArrivals edits (present edits).txns at) (T : Txn) (c : Contains (present edits).txns T) where
+  -- its arrival, from which come its operations
   arrival_of : (a : Arrival) × (at T.id.0 ≡ Some a) × IsArrivalOf edits a T
   arrival_of =
       let k = arrivals.had T c in
@@ -197,11 +198,11 @@ module _ (edits : List Edit) (at : ℕ → Option Arrival) (accepted : IsAccepte
   pub same_ops : ops_at edits (at T.id.0) ≡ T.ops
   same_ops = (let a = arrival_of in ap (ops_at edits) a.1 ∙ ap ops_in_some a.2.at ∙ a.2.ops)
 
-  -- with the status beside it that is what the transaction is, but for its operations
+  -- and, with the status beside it, what it is else
   pub same_head : head_at edits (at T.id.0) ≡ record { id = T.id; start = T.start; status = T.status }
   same_head = (let a = arrival_of in ap (head_at edits) a.1 ∙ ap (head_in_some a.0.status) a.2.at ∙ (λ i. record { id = a.2.id i; start = a.2.start i; status = a.2.status i }))
 
--- ---- what is known of them
+-- ---- the known edits
 
 -- one more edit may come without being known
 pub known_longer : (edits : List Edit) (a : Arrivals) (e : Edit) → AreKnown edits a → AreKnown (edits ++ e ∷ []) a
