@@ -5,7 +5,6 @@ use Rattle.std.proofs.lemmas.List.{length-append}
 use Rattle.si_lists.proofs.Members.{same_some}
 use Rattle.si_model.specs.declared.parts.OnKey.{OnKey}
 use Rattle.si_model.specs.declared.edits.Edit.{Edit}
-use Rattle.si_model.specs.declared.edits.Edit.TheVariants as edit
 use Rattle.si_model.specs.Operations.{same_key}
 use Rattle.si_model.specs.Parts.{Present, on_key}
 use Rattle.si_model.specs.Edits.{IsAcceptable, after}
@@ -14,47 +13,34 @@ use Rattle.si_model.proofs.Acceptance.{accepted_push, present_push}
 use Rattle.si_judge.specs.Following.{empty_key}
 use Rattle.si_shard.specs.declared.shard_ids.ShardId.{ShardId}
 use Rattle.si_shard.specs.declared.applied.Applied.{Applied}
-use Rattle.si_shard.specs.declared.applied.Arrival.{Arrival}
+use Rattle.si_shard.specs.declared.arrivals.Arrival.{Arrival}
 use Rattle.si_shard.specs.declared.changes.Change.{Change}
 use Rattle.si_shard.specs.declared.waiting.Waits.{Waits}
 use Rattle.si_shard.specs.ShardIds.{is_ours}
-use Rattle.si_shard.specs.Applied.{AreArrivals, IsChangeOn, SetsArrival, head_for, ops_for}
+use Rattle.si_shard.specs.Applied.{IsChangeOn, head_for, ops_for}
+use Rattle.si_shard.specs.Arrivals.{AreKnown, IsReadyFor}
 use Rattle.si_shard.specs.Changes.{LeadsTo}
 use Rattle.si_shard.specs.Keeping.{Concerns, IsTaken}
 use Rattle.si_shard.specs.Keyed.{IsOn}
 use Rattle.si_shard.specs.Waiting.{AreGatheredTo, IsGathered, IsTold, changes_in, waiting_at}
-use Rattle.si_shard.proofs.ArrivalPlaces.{after_arrival, after_resolution, after_set_up, after_withdrawal}
-use Rattle.si_shard.proofs.Concerning.{arrivals_stay, told_concerns}
+use Rattle.si_shard.proofs.ArrivalPlaces.{known_longer}
+use Rattle.si_shard.proofs.Concerning.{told_concerns}
 use Rattle.si_shard.proofs.KeyChanges.{can_change, change_or_not, follows_change, stays}
 use Rattle.si_shard.proofs.Leading.{leads_on}
 
--- the arrivals after one more edit
-module _ (id : ShardId) (edits : List Edit) (e : Edit) (old : Applied) (arrivals : AreArrivals id edits (present edits).txns (get nat_eq old.arrivals)) (new : Applied) (touches : Bool)
-    (told : (touches ≡ true) ↔ Concerns id (present edits) e)
-    (sets : SetsArrival e touches (length edits) (get nat_eq old.arrivals) (get nat_eq new.arrivals)) where
-  arrivals_by : (f : Edit) → (touches ≡ true) ↔ Concerns id (present edits) f → SetsArrival f touches (length edits) (get nat_eq old.arrivals) (get nat_eq new.arrivals) → AreArrivals id (edits ++ f ∷ []) (after f (present edits)).txns (get nat_eq new.arrivals)
-  unfolding after
-  arrivals_by (edit.Arrive T) told sets = after_arrival id edits (present edits).txns (get nat_eq old.arrivals) (get nat_eq new.arrivals) arrivals T touches told sets
-  arrivals_by (edit.Resolve u o) told sets = after_resolution id edits (present edits).txns (get nat_eq old.arrivals) (get nat_eq new.arrivals) arrivals u o touches sets
-  arrivals_by (edit.Withdraw u) told sets = after_withdrawal id edits (present edits).txns (get nat_eq old.arrivals) (get nat_eq new.arrivals) arrivals u touches sets
-  arrivals_by (edit.SetUp x v) told sets = after_set_up id edits (present edits).txns (get nat_eq old.arrivals) (get nat_eq new.arrivals) arrivals x v touches sets
-
-  pub arrivals_next : AreArrivals id (edits ++ e ∷ []) (present (edits ++ e ∷ [])).txns (get nat_eq new.arrivals)
-  arrivals_next = subst (λ P. AreArrivals id (edits ++ e ∷ []) P.txns (get nat_eq new.arrivals)) (sym (present_push edits e)) (arrivals_by e told sets)
-
-module _ {S : Type 0} (id : ShardId) (edits : List Edit) (e : Edit) (old : Applied) (lists : HashMap (List ℕ) Waits S) (sound : AreGatheredTo id edits old lists)
-    (new : Applied) (touches : Bool) (tells : IsTold id (ops_for (get nat_eq old.arrivals) edits e) (head_for (get nat_eq old.arrivals) edits e) e touches) (keys : new.keys ≡ old.keys)
-    (more : HashMap (List ℕ) Waits S) (adds : IsGathered id (ops_for (get nat_eq old.arrivals) edits e) (head_for (get nat_eq old.arrivals) edits e) e (length edits) lists more)
-    (sets : SetsArrival e touches (length edits) (get nat_eq old.arrivals) (get nat_eq new.arrivals)) where
+module _ {S : Type 0} (id : ShardId) (edits : List Edit) (accepted : IsAccepted edits) (e : Edit) (old : Applied) (lists : HashMap (List ℕ) Waits S) (sound : AreGatheredTo id edits old lists)
+    (new : Applied) (keys : new.keys ≡ old.keys) (known : AreKnown edits new.arrivals) (ready : IsReadyFor e edits (get nat_eq new.arrivals.by_id))
+    (touches : Bool) (tells : IsTold id (ops_for (get nat_eq new.arrivals.by_id) edits e) (head_for (get nat_eq new.arrivals.by_id) edits e) e touches)
+    (more : HashMap (List ℕ) Waits S) (adds : IsGathered id (ops_for (get nat_eq new.arrivals.by_id) edits e) (head_for (get nat_eq new.arrivals.by_id) edits e) e (length edits) lists more) where
   abbrev at : ℕ → Option Arrival
-  at = get nat_eq old.arrivals
+  at = get nat_eq new.arrivals.by_id
 
   told : (touches ≡ true) ↔ Concerns id (present edits) e
-  told = told_concerns id edits at sound.arrivals e touches tells
+  told = told_concerns id edits at accepted e ready touches tells
 
-  module _ (accepted : IsAccepted (edits ++ e ∷ [])) where
-    both : IsAccepted edits × IsAcceptable (present edits) e
-    both = (accepted_push edits e).0 accepted
+  module _ (longer : IsAccepted (edits ++ e ∷ [])) where
+    ok : IsAcceptable (present edits) e
+    ok = ((accepted_push edits e).0 longer).1
 
     abbrev next : Present
     next = after e (present edits)
@@ -70,8 +56,8 @@ module _ {S : Type 0} (id : ShardId) (edits : List Edit) (e : Edit) (old : Appli
           was.0,
           was.1,
           subst (λ ys. LeadsTo ys was.0 (on_key x next)) (sym (ap changes_in added.1 ∙ added.3))
-              (subst (LeadsTo (waiting_at lists x ++ c ∷ []) was.0) (follows_change id edits at sound.arrivals both.0 x ours e both.1 c k)
-              (leads_on (waiting_at lists x) was.0 (on_key x (present edits)) c was.2 (can_change id edits at sound.arrivals both.0 x ours e both.1 c k))),
+              (subst (LeadsTo (waiting_at lists x ++ c ∷ []) was.0) (follows_change edits at accepted x e ready ok c k)
+              (leads_on (waiting_at lists x) was.0 (on_key x (present edits)) c was.2 (can_change edits at accepted x e ready ok c k))),
         )
 
     -- and where it is none
@@ -81,7 +67,7 @@ module _ {S : Type 0} (id : ShardId) (edits : List Edit) (e : Edit) (old : Appli
           was.0,
           was.1,
           subst (λ o. LeadsTo (changes_in o) was.0 (on_key x next)) (sym (adds.others x (λ o. none)))
-              (subst (LeadsTo (waiting_at lists x) was.0) (stays id edits at sound.arrivals both.0 x ours e both.1 none) was.2),
+              (subst (LeadsTo (waiting_at lists x) was.0) (stays edits at accepted x e ready ok none) was.2),
         )
 
     -- the last changes are of edits up to this one
@@ -93,7 +79,7 @@ module _ {S : Type 0} (id : ShardId) (edits : List Edit) (e : Edit) (old : Appli
 
         by_ours : (b : Bool) → is_ours id x ≡ b → list.last ≤ length edits
         by_ours false other = older (adds.others x (λ o. (let no : true ≡ false = sym o ∙ other in cc)))
-        by_ours true ours = elim (change_or_not id edits at sound.arrivals both.0 x ours e both.1) [
+        by_ours true ours = elim (change_or_not edits at accepted x e ready ok) [
           | inl k ↦ (let added = adds.changed x k.0 ours k.1 in let same : added.0 ≡ list = same_some (sym added.1 ∙ f) in let is : list.last ≡ length edits = ap (λ (l : Waits). l.last) (sym same) ∙ added.2 in omega arith)
           | inr none ↦ older (adds.others x (λ o. none))
         ]
@@ -104,13 +90,13 @@ module _ {S : Type 0} (id : ShardId) (edits : List Edit) (e : Edit) (old : Appli
         record {
           ours = λ x ours. subst (λ P. (Q : OnKey) × IsOn new.keys x Q × LeadsTo (waiting_at more x) Q (on_key x P)) now
               (subst (λ ks. (Q : OnKey) × IsOn ks x Q × LeadsTo (waiting_at more x) Q (on_key x next)) (sym keys)
-              (elim (change_or_not id edits at sound.arrivals both.0 x ours e both.1) [ inl k ↦ leads_by x ours k.0 k.1 | inr none ↦ leads_past x ours none ]));
+              (elim (change_or_not edits at accepted x e ready ok) [ inl k ↦ leads_by x ours k.0 k.1 | inr none ↦ leads_past x ours none ]));
           others = λ x other. (
             subst (λ ks. IsOn ks x empty_key) (sym keys) (sound.others x other).0,
             adds.others x (λ o. (let no : true ≡ false = sym o ∙ other in cc)) ∙ (sound.others x other).1,
           );
           before = λ x list f. (let long : length (edits ++ e ∷ []) ≡ length edits + 1 = length-append edits (e ∷ []) in let near = soon x list f in omega arith);
-          arrivals = arrivals_next id edits e old sound.arrivals new touches told sets;
+          arrivals = known_longer edits new.arrivals e known;
         }
 
   -- where it is nothing on the keys nothing more waits
@@ -121,7 +107,7 @@ module _ {S : Type 0} (id : ShardId) (edits : List Edit) (e : Edit) (old : Appli
         (was.0, subst (λ ks. IsOn ks x was.0) (sym keys) was.1, subst (λ o. LeadsTo (changes_in o) was.0 (on_key x (present edits))) (sym (same x)) was.2));
     others = λ x other. (subst (λ ks. IsOn ks x empty_key) (sym keys) (sound.others x other).0, same x ∙ (sound.others x other).1);
     before = λ x list f. sound.before x list (sym (same x) ∙ f);
-    arrivals = arrivals_stay id edits at sound.arrivals e touches (length edits) (get nat_eq new.arrivals) told quiet sets;
+    arrivals = known;
   }
     where
       same : (x : List ℕ) → get same_key more x ≡ get same_key lists x

@@ -20,6 +20,10 @@ none_accepted before e rest is = by before is
     by [] f = cc
     by (x ∷ xs) f = cc
 
+-- a beginning is accepted
+pub beginning_accepted : (edits : List Edit) (i : ℕ) → IsAccepted edits → IsAccepted (take i edits)
+beginning_accepted edits i accepted = accepted_begins (take i edits) (drop i edits) (subst IsAccepted (sym (take-append-drop i edits)) accepted)
+
 -- a beginning with one more edit is accepted, after edits that were stored before
 pub begins_after : (stored edits : List Edit) (i : ℕ) (e : Edit) → i < length edits → e ≡ slice_index_or edits i e → IsAccepted (stored ++ edits) → IsAccepted ((stored ++ take i edits) ++ e ∷ [])
 begins_after stored edits i e within is accepted =

@@ -1,5 +1,5 @@
 -- Changes that wait, and where they lead.
-use Rattle.std.proofs.Common.{◌≡◌, ◌∙◌, ℕ, Bool, true, false, nat_eq, List, [], ◌∷◌, ◌++◌, Option, Some, None, refl, sym, ap, subst}
+use Rattle.std.proofs.Common.{◌≡◌, ◌∙◌, ℕ, Bool, true, false, List, [], ◌∷◌, ◌++◌, Option, Some, None, refl, sym, ap, subst}
 use Rattle.std.specs.HashMap.{HashMap, get}
 use Rattle.si_model.specs.declared.parts.OnKey.{OnKey}
 use Rattle.si_model.specs.declared.edits.Edit.{Edit}
@@ -12,7 +12,8 @@ use Rattle.si_shard.specs.declared.applied.Applied.{Applied}
 use Rattle.si_shard.specs.declared.changes.Change.{Change}
 use Rattle.si_shard.specs.declared.waiting.Waits.{Waits}
 use Rattle.si_shard.specs.ShardIds.{is_ours}
-use Rattle.si_shard.specs.Applied.{AreApplied, AreArrivals}
+use Rattle.si_shard.specs.Applied.{AreApplied}
+use Rattle.si_shard.specs.Arrivals.{AreKnown}
 use Rattle.si_shard.specs.Changes.{CanChange, LeadsTo, changed_on}
 use Rattle.si_shard.specs.Keyed.{AreChangedAll, CanChangeAll, IsOn}
 use Rattle.si_shard.specs.Waiting.{AreGatheredTo, changes_in}
@@ -50,7 +51,7 @@ module _ {S : Type 0} (id : ShardId) (edits : List Edit) (a : Applied) (lists : 
   all_made new made same = record {
     ours = λ x e. by x (get same_key lists x) refl (sound.ours x e);
     others = λ x e. made.others x (sound.others x e).1 empty_key (sound.others x e).0;
-    arrivals = subst (λ m. AreArrivals id edits (present edits).txns (get nat_eq m)) (sym same) sound.arrivals;
+    arrivals = subst (AreKnown edits) (sym same) sound.arrivals;
   }
     where
       by : (x : List ℕ) (o : Option Waits) → get same_key lists x ≡ o → (Q : OnKey) × IsOn a.keys x Q × LeadsTo (changes_in (get same_key lists x)) Q (on_key x (present edits)) → IsOn new.keys x (on_key x (present edits))

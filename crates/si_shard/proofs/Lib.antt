@@ -2,6 +2,7 @@ pub mod OnKeys
 pub mod Together
 pub mod Gathering
 pub mod LastChange
+pub mod Beginnings
 pub mod ArrivalPlaces
 pub mod KeyChanges
 pub mod Concerning
@@ -13,7 +14,6 @@ pub mod EachKey
 pub mod Applying
 pub mod AppliedEach
 pub mod ShardFindings
-pub mod Beginnings
 pub mod Coming
 pub mod ShardsTogether
 pub mod Changing

@@ -1,15 +1,11 @@
 -- What stored edits made of the keys of one shard. All of it is this project's choice.
-use Rattle.std.specs.Prelude.{◌≡◌, ℕ, Bool, true, false, nat_eq, if◌then◌else◌, List, [], Some, None, Option, slice_get}
+use Rattle.std.specs.Prelude.{◌≡◌, ℕ, true, false, List, [], Some, None, Option, slice_get}
 use Rattle.std.specs.List.{Contains}
-use Rattle.std.specs.HashMap.{get}
-use Rattle.std.specs.Option.{option_map}
 use Rattle.si_model.specs.declared.operations.Op.{Op}
 use Rattle.si_model.specs.declared.parts.Part.{Part}
 use Rattle.si_model.specs.declared.parts.Placed.{Placed}
-use Rattle.si_model.specs.declared.transactions.Outcome.{Outcome}
 use Rattle.si_model.specs.declared.transactions.Status.{Status}
 use Rattle.si_model.specs.declared.transactions.Status.TheVariants as status
-use Rattle.si_model.specs.Edits.{status_after}
 use Rattle.si_model.specs.declared.transactions.Txn.{Txn}
 use Rattle.si_model.specs.declared.edits.Edit.{Edit}
 use Rattle.si_model.specs.declared.edits.Edit.TheVariants as edit
@@ -18,38 +14,24 @@ use Rattle.si_model.specs.Journals.{present}
 use Rattle.si_judge.specs.Following.{empty_key}
 use Rattle.si_shard.specs.declared.shard_ids.ShardId.{ShardId}
 use Rattle.si_shard.specs.declared.applied.Applied.{Applied}
-use Rattle.si_shard.specs.declared.applied.Arrival.{Arrival}
+use Rattle.si_shard.specs.declared.arrivals.Arrival.{Arrival}
 use Rattle.si_shard.specs.declared.waiting.Head.{Head}
 use Rattle.si_shard.specs.declared.changes.Change.{Change}
 use Rattle.si_shard.specs.declared.changes.Change.TheVariants as change
+use Rattle.si_shard.specs.Arrivals.{AreKnown}
 use Rattle.si_shard.specs.ShardIds.{is_ours}
 use Rattle.si_shard.specs.Keyed.{IsOn}
-
--- ---- the stored arrivals
-
--- the edit at its place is the arrival of T, and its status is that of T
-pub record IsArrivalOf (edits : List Edit) (a : Arrival) (T : Txn) : Type 0 where
-  pub arrived : Txn
-  pub at : slice_get edits a.place ≡ Some (edit.Arrive arrived)
-  pub id : arrived.id ≡ T.id
-  pub start : arrived.start ≡ T.start
-  pub ops : arrived.ops ≡ T.ops
-  pub status : a.status ≡ T.status
 
 -- T does something on a key of the shard
 abbrev pub TouchesShard : ShardId → Txn → Type 0
 TouchesShard id T = (x : List ℕ) × (a : Placed) × (is_ours id x ≡ true) × Contains (accesses x T.ops) a
 
--- under the id of each transaction that does something on the shard's keys stand the place of its arrival and its status, and nothing else
-pub record AreArrivals (id : ShardId) (edits : List Edit) (txns : List Txn) (at : ℕ → Option Arrival) : Type 0 where
-  pub had : (T : Txn) → Contains txns T → TouchesShard id T → (a : Arrival) × (at T.id.0 ≡ Some a)
-  pub right : (n : ℕ) (a : Arrival) → at n ≡ Some a → (T : Txn) × Contains txns T × (T.id.0 ≡ n) × TouchesShard id T × IsArrivalOf edits a T
-
--- what the edits made of the shard: on each of its keys is what is present there, and on other keys nothing
+-- what the edits made of the shard: on each of its keys is what is present there, and on other keys nothing; the index of arrivals is
+-- that of a beginning
 pub record AreApplied (id : ShardId) (edits : List Edit) (a : Applied) : Type 0 where
   pub ours : (x : List ℕ) → is_ours id x ≡ true → IsOn a.keys x (on_key x (present edits))
   pub others : (x : List ℕ) → is_ours id x ≡ false → IsOn a.keys x empty_key
-  pub arrivals : AreArrivals id edits (present edits).txns (get nat_eq a.arrivals)
+  pub arrivals : AreKnown edits a.arrivals
 
 -- ---- one edit
 
@@ -69,7 +51,7 @@ abbrev pub ops_at : List Edit → Option Arrival → List Op
 ops_at edits None = []
 ops_at edits (Some a) = ops_in_some (slice_get edits a.place)
 
--- the operations of the edit's transaction, whose arrival is looked for among the stored edits
+-- the operations of the edit's transaction, whose arrival is looked for among the kept edits
 abbrev pub ops_for : (ℕ → Option Arrival) → List Edit → Edit → List Op
 ops_for at edits (edit.Arrive T) = T.ops
 ops_for at edits (edit.Resolve u o) = ops_at edits (at u.0)
@@ -96,7 +78,7 @@ abbrev pub head_at : List Edit → Option Arrival → Head
 head_at edits None = no_head
 head_at edits (Some a) = head_in_some a.status (slice_get edits a.place)
 
--- the edit's transaction, whose arrival is looked for among the stored edits
+-- the edit's transaction, whose arrival is looked for among the kept edits
 abbrev pub head_for : (ℕ → Option Arrival) → List Edit → Edit → Head
 head_for at edits (edit.Arrive T) = record { id = T.id; start = T.start; status = T.status }
 head_for at edits (edit.Resolve u o) = head_at edits (at u.0)
@@ -124,17 +106,3 @@ IsChangeOn ops h (edit.Arrive T) x c = IsAccessChange ops h (edit.Arrive T) x c
 IsChangeOn ops h (edit.Resolve u o) x c = IsAccessChange ops h (edit.Resolve u o) x c
 IsChangeOn ops h (edit.Withdraw u) x c = IsAccessChange ops h (edit.Withdraw u) x c
 IsChangeOn ops h (edit.SetUp y v) x c = (x ≡ y) × (c ≡ change.SetUp v)
-
--- an arrival after the transaction was resolved
-abbrev pub resolved_arrival : Outcome → Arrival → Arrival
-resolved_arrival o a = record a { status = status_after o }
-
--- the arrival is kept where it touches the shard's keys, with the status, and that of a withdrawn transaction forgotten
-abbrev pub arrivals_after : Edit → Bool → ℕ → (ℕ → Option Arrival) → ℕ → Option Arrival
-arrivals_after (edit.Arrive T) touches i at n = if touches then (if nat_eq T.id.0 n then Some (record { place = i; status = T.status }) else at n) else at n
-arrivals_after (edit.Resolve u o) touches i at n = if nat_eq u.0 n then option_map (resolved_arrival o) (at n) else at n
-arrivals_after (edit.Withdraw u) touches i at n = if nat_eq u.0 n then None else at n
-arrivals_after (edit.SetUp x v) touches i at n = at n
-
-abbrev pub SetsArrival : Edit → Bool → ℕ → (ℕ → Option Arrival) → (ℕ → Option Arrival) → Type 0
-SetsArrival e touches i old new = (n : ℕ) → new n ≡ arrivals_after e touches i old n

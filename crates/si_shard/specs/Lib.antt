@@ -1,5 +1,6 @@
 -- What the contracts of the shards cite.
 pub mod ShardIds
+pub mod Arrivals
 pub mod Applied
 pub mod Changes
 pub mod Keeping

@@ -1,5 +1,5 @@
 -- Changes of many edits that wait until they are made. All of it is this project's choice.
-use Rattle.std.specs.Prelude.{◌≡◌, ◌≢◌, ◌<◌, ℕ, Bool, true, false, nat_eq, List, [], ◌∷◌, ◌++◌, Some, None, Option, length}
+use Rattle.std.specs.Prelude.{◌≡◌, ◌≢◌, ◌<◌, ℕ, Bool, true, false, List, [], ◌∷◌, ◌++◌, Some, None, Option, length}
 use Rattle.std.specs.HashMap.{HashMap, Updates, get}
 use Rattle.si_model.specs.declared.edits.Edit.{Edit}
 use Rattle.si_model.specs.declared.operations.Op.{Op}
@@ -14,7 +14,8 @@ use Rattle.si_shard.specs.declared.changes.Change.{Change}
 use Rattle.si_shard.specs.declared.shard_ids.ShardId.{ShardId}
 use Rattle.si_shard.specs.declared.waiting.Head.{Head}
 use Rattle.si_shard.specs.declared.waiting.Waits.{Waits}
-use Rattle.si_shard.specs.Applied.{AreArrivals, IsChangeOn, change_by}
+use Rattle.si_shard.specs.Applied.{IsChangeOn, change_by}
+use Rattle.si_shard.specs.Arrivals.{AreKnown}
 use Rattle.si_shard.specs.Changes.{LeadsTo, with_access}
 use Rattle.si_shard.specs.Keyed.{IsOn}
 use Rattle.si_shard.specs.ShardIds.{is_ours}
@@ -91,4 +92,4 @@ pub record AreGatheredTo {S : Type 0} (id : ShardId) (edits : List Edit) (a : Ap
   pub ours : (x : List ℕ) → is_ours id x ≡ true → (Q : OnKey) × IsOn a.keys x Q × LeadsTo (waiting_at lists x) Q (on_key x (present edits))
   pub others : (x : List ℕ) → is_ours id x ≡ false → IsOn a.keys x empty_key × (get same_key lists x ≡ None)
   pub before : AreBefore (length edits) lists
-  pub arrivals : AreArrivals id edits (present edits).txns (get nat_eq a.arrivals)
+  pub arrivals : AreKnown edits a.arrivals

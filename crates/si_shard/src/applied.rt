@@ -4,20 +4,20 @@ ghost use Rattle.std.specs.Prelude.{◌≡◌, ◌<◌, ℕ, List, [], ◌∷◌
 ghost use Rattle.std.specs.HashMap.{get};
 ghost use Rattle.std.specs.Prelude.{nat_eq};
 ghost use Rattle.si_model.specs.Journals.{IsAccepted, present};
-ghost use Rattle.si_shard.specs.Applied.{AreApplied, SetsArrival, head_for, head_in, no_head, ops_for, ops_in};
+ghost use Rattle.si_shard.specs.Applied.{AreApplied, head_for, head_in, no_head, ops_for, ops_in};
+ghost use Rattle.si_shard.specs.Arrivals.{IsReadyFor};
 ghost use Rattle.si_shard.specs.Keeping.{AreKept, BeginsWith, Concerns, IsTaken, kept_after};
 ghost use Rattle.si_shard.specs.Shards.{findings_in};
 ghost use Rattle.si_shard.specs.Waiting.{AreGatheredTo};
 
+use crate::arrivals::Arrivals;
 use crate::keyed::KeyStates;
 use crate::past::Stored;
 use crate::shard_ids::ShardId;
 use crate::straight::{are_few, make_each};
 use crate::waiting::{Head, Waiting};
-use si_hashing::NumberHash;
 use si_model::{Edit, Finding, Op, OutOfMemory, Stamp, Status, TxnId};
 use std::alloc::Global;
-use std::collections::HashMap;
 use std::hash::RandomState;
 use std::mem;
 
@@ -27,22 +27,14 @@ const MOST_WAITING: usize = 65_536;
 /// So many edits and fewer are applied one after the other, each straight to its keys: gathering them costs more than it saves.
 const MOST_AT_ONCE: usize = 1_024;
 
-/// Where a transaction arrived among the kept edits, and what became of it since.
-#[derive(Clone, Copy)]
-pub struct Arrival {
-    pub place: usize,
-    pub status: Status,
-}
-
-/// What is kept of a shard's keys after some edits, and of the arrivals of the transactions that are on them.
+/// What is kept of a shard's keys after some edits, and of the arrivals of the present transactions.
 #[derive(Drop)]
 pub struct Applied {
     alloc: Global,
     hash: RandomState,
     keys: KeyStates,
-    // From the id of each present transaction that is on the shard's keys to its arrival, which tells a resolution and a
-    // withdrawal the keys, and what the transaction does on them.
-    arrivals: HashMap<u64, Arrival, NumberHash>,
+    // These tell a resolution and a withdrawal the keys, and what the transaction does on them.
+    arrivals: Arrivals,
 }
 
 impl Applied {
@@ -54,17 +46,19 @@ impl Applied {
             alloc,
             hash,
             keys: KeyStates::new(alloc, hash),
-            arrivals: HashMap::with_hasher(alloc, NumberHash::new(hash)),
+            arrivals: Arrivals::new(alloc, hash),
         }
     }
 
     /// Applies the edit, which comes after the kept ones, and answers whether it is anything on the shard's keys.
     pub fn apply(&mut self, kept: &[Edit], edit: &Edit, id: ShardId) -> Result<bool, OutOfMemory>
         requires shards { 0 < id.shards }
+        requires accepted { IsAccepted kept.now }
         requires applied { AreApplied id kept.now self.old }
-        requires accepted { Concerns id (present kept.now) edit.now → IsAccepted (kept.now ++ edit.now ∷ []) }
+        requires next { Concerns id (present kept.now) edit.now → IsAccepted (kept.now ++ edit.now ∷ []) }
         ensures { IfOk result (λ touches. IsTaken id kept.now edit.now touches (λ edits. AreApplied id edits self.new)) }
     {
+        self.arrivals.prepare(kept, edit)?;
         let ops = self.ops_of(kept, edit);
         if are_few(ops) {
             return self.apply_straight(kept, ops, edit, id);
@@ -81,14 +75,15 @@ impl Applied {
         id: ShardId,
     ) -> Result<bool, OutOfMemory>
         requires shards { 0 < id.shards }
+        requires accepted { IsAccepted kept.now }
         requires applied { AreApplied id kept.now self.old }
-        requires accepted { Concerns id (present kept.now) edit.now → IsAccepted (kept.now ++ edit.now ∷ []) }
-        requires ops { ops.now ≡ ops_for (get nat_eq self.old.arrivals) kept.now edit.now }
+        requires next { Concerns id (present kept.now) edit.now → IsAccepted (kept.now ++ edit.now ∷ []) }
+        requires ready { IsReadyFor edit.now kept.now (get nat_eq self.old.arrivals.by_id) }
+        requires ops { ops.now ≡ ops_for (get nat_eq self.old.arrivals.by_id) kept.now edit.now }
         ensures { IfOk result (λ touches. IsTaken id kept.now edit.now touches (λ edits. AreApplied id edits self.new)) }
     {
         let head = self.head_of(kept, edit);
         let touches = make_each(self.alloc, &mut self.keys, ops, head, edit, id)?;
-        set_arrival(&mut self.arrivals, edit, touches, kept.len())?;
         Ok(touches)
     }
 
@@ -100,8 +95,9 @@ impl Applied {
         id: ShardId,
     ) -> Result<bool, OutOfMemory>
         requires shards { 0 < id.shards }
+        requires accepted { IsAccepted kept.now }
         requires applied { AreApplied id kept.now self.old }
-        requires accepted { Concerns id (present kept.now) edit.now → IsAccepted (kept.now ++ edit.now ∷ []) }
+        requires next { Concerns id (present kept.now) edit.now → IsAccepted (kept.now ++ edit.now ∷ []) }
         ensures { IfOk result (λ touches. IsTaken id kept.now edit.now touches (λ edits. AreApplied id edits self.new)) }
     {
         let mut waiting = Waiting::new(self.alloc, self.hash);
@@ -229,13 +225,14 @@ impl Applied {
         id: ShardId,
     ) -> Result<bool, OutOfMemory>
         requires shards { 0 < id.shards }
+        requires accepted { IsAccepted kept.now }
         requires gathered { AreGatheredTo id kept.now self.old waiting.old.lists }
         ensures { IfOk result (λ touches. IsTaken id kept.now edit.now touches (λ edits. AreGatheredTo id edits self.new waiting.new.lists)) }
     {
+        self.arrivals.prepare(kept, edit)?;
         let ops = self.ops_of(kept, edit);
         let head = self.head_of(kept, edit);
         let touches = waiting.gather(ops, head, edit, kept.len(), id)?;
-        set_arrival(&mut self.arrivals, edit, touches, kept.len())?;
         Ok(touches)
     }
 
@@ -261,8 +258,9 @@ impl Applied {
         Ok(())
     }
 
-    /// Reads what is kept of the keys of these edits, all at once, so that a processor has it near when they are applied. Nothing
-    /// depends on the number, which comes of what was read; `places` is a room for the reading.
+    /// Reads what is kept of the keys of these edits, all at once, so that a processor has it near when they are applied. A resolution
+    /// whose arrival isn't known yet leads to no key. Nothing depends on the number, which comes of what was read; `places` is a room
+    /// for the reading.
     pub fn look_ahead(
         &self,
         kept: &[Edit],
@@ -296,14 +294,14 @@ impl Applied {
         Ok(found)
     }
 
-    /// The operations of the edit's transaction, unless it does nothing on the shard's keys.
+    /// The operations of the edit's transaction. A resolution and a withdrawal have those of the known arrival, if there is one.
     fn ops_of<'a>(&self, kept: &'a [Edit], edit: &'a Edit) -> &'a [Op]
-        ensures { result.now ≡ ops_for (get nat_eq self.now.arrivals) kept.now edit.now }
+        ensures { result.now ≡ ops_for (get nat_eq self.now.arrivals.by_id) kept.now edit.now }
     {
         let (Edit::Resolve(id, _) | Edit::Withdraw(id)) = edit else {
             return ops_in(edit);
         };
-        match self.arrivals.get(&id.0) {
+        match self.arrivals.find(*id) {
             Some(arrival) => match kept.get(arrival.place) {
                 Some(arrived) => ops_in(arrived),
                 None => &[],
@@ -312,14 +310,14 @@ impl Applied {
         }
     }
 
-    /// The edit's transaction before the edit, unless it does nothing on the shard's keys.
+    /// The edit's transaction before the edit. A resolution and a withdrawal have that of the known arrival, if there is one.
     fn head_of(&self, kept: &[Edit], edit: &Edit) -> Head
-        ensures { result ≡ head_for (get nat_eq self.now.arrivals) kept.now edit.now }
+        ensures { result ≡ head_for (get nat_eq self.now.arrivals.by_id) kept.now edit.now }
     {
         match edit {
             Edit::Arrive(txn) => head_in(txn.status, edit),
             Edit::SetUp(..) => no_head(),
-            Edit::Resolve(id, _) | Edit::Withdraw(id) => match self.arrivals.get(&id.0) {
+            Edit::Resolve(id, _) | Edit::Withdraw(id) => match self.arrivals.find(*id) {
                 Some(arrival) => match kept.get(arrival.place) {
                     Some(arrived) => head_in(arrival.status, arrived),
                     None => no_head(),
@@ -373,35 +371,6 @@ fn keep(kept: &mut Vec<Edit>, edit: &Edit, touches: bool) -> Result<(), OutOfMem
     if touches {
         kept.push(edit.try_clone()?)?;
         return Ok(());
-    }
-    Ok(())
-}
-
-/// Keeps an arrival that touches the shard's keys, with its transaction's status, and forgets that of one that is withdrawn.
-fn set_arrival(
-    arrivals: &mut HashMap<u64, Arrival, NumberHash>,
-    edit: &Edit,
-    touches: bool,
-    place: usize,
-) -> Result<(), OutOfMemory>
-    ensures { OnOk result (SetsArrival edit.now touches place (get nat_eq arrivals.old) (get nat_eq arrivals.new)) }
-{
-    match edit {
-        Edit::Arrive(txn) => {
-            if touches {
-                let status = txn.status;
-                arrivals.insert(txn.id.0, Arrival { place, status })?;
-            }
-        }
-        Edit::Resolve(id, outcome) => {
-            if let Some(arrival) = arrivals.get_mut(&id.0) {
-                arrival.status = outcome.status();
-            }
-        }
-        Edit::Withdraw(id) => {
-            arrivals.remove(&id.0);
-        }
-        Edit::SetUp(..) => {}
     }
     Ok(())
 }

@@ -5,6 +5,7 @@
 #![tactic(auto)]
 
 mod applied;
+mod arrivals;
 mod changes;
 mod keyed;
 pub mod laws;

@@ -1,12 +1,15 @@
 use Rattle.std.proofs.Common.{rules, ◌≡◌, ◌++◌, [], ◌∷◌, true, false, sym, subst}
 use Rattle.si_model.specs.Journals.{IsAccepted, present}
 use Rattle.si_shard.specs.Applied.{AreApplied}
-use Rattle.si_shard.specs.Keeping.{AreKept, Concerns, IsTaken}
-use Rattle.si_shard.proofs.Keeps.{accepted_next, taken_next}
+use Rattle.si_shard.specs.Keeping.{AreKept, BeginsWith, Concerns, IsTaken}
+use Rattle.si_shard.proofs.Keeps.{accepted_next, begins_same, taken_next}
 use Rattle.si_shard.proofs.shards.apply_and_keep.Goals as goal
 
 pub apply-requires-clause-accepted : goal.apply-requires-clause-accepted
-apply-requires-clause-accepted c =
+apply-requires-clause-accepted c = subst IsAccepted (sym c.as_slice.ensures.value) c.requires.kept.accepted
+
+pub apply-requires-clause-next : goal.apply-requires-clause-next
+apply-requires-clause-next c =
     subst (λ l. Concerns c.args.id (present l) c.args.edit → IsAccepted (l ++ c.args.edit ∷ [])) (sym c.as_slice.ensures.value)
     (accepted_next c.args.id c.args._stored.now c.args.kept.now.items c.args.edit c.requires.kept c.requires.accepted)
 
@@ -31,3 +34,6 @@ returns-clause-kept c =
     let taken = subst (λ l. IsTaken c.args.id l c.args.edit c.in_ok-apply.field-0 (λ edits. AreApplied c.args.id edits c.apply.new.self)) c.as_slice.ensures.value c.in_ok-apply.ensures in
     (taken_next c.args.id c.args._stored.now c.args.kept.now.items c.args.edit c.requires.kept c.requires.accepted false (λ edits. AreApplied c.args.id edits c.apply.new.self)
     (subst (λ b. IsTaken c.args.id c.args.kept.now.items c.args.edit b (λ edits. AreApplied c.args.id edits c.apply.new.self)) c.if-branch.false taken)).0
+
+pub returns-in_err-push-clause-begins : goal.returns-in_err-push-clause-begins
+returns-in_err-push-clause-begins c = (let same : c.push.new.self.items ≡ c.args.kept.now.items = search rules in subst (BeginsWith c.args.kept.now.items) (sym same) (begins_same c.args.kept.now.items))

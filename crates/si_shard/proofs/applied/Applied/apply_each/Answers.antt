@@ -6,7 +6,10 @@ use Rattle.si_shard.proofs.Coming.{all_come, next_accepted, next_come}
 use Rattle.si_shard.proofs.applied.Applied.apply_each.Goals as goal
 
 pub apply-requires-clause-accepted : goal.apply-requires-clause-accepted
-apply-requires-clause-accepted c =
+apply-requires-clause-accepted c = subst IsAccepted (sym c.as_slice.ensures.value) c.loop-edit.invariant.kept.accepted
+
+pub apply-requires-clause-next : goal.apply-requires-clause-next
+apply-requires-clause-next c =
     let e = c.edit-item.result in
     subst (λ l. Concerns c.args.id (present l) e → IsAccepted (l ++ e ∷ [])) (sym c.as_slice.ensures.value)
     (next_accepted c.args.id c.args._stored.now c.args.edits.now c.args.kept.now.items c.loop-edit.kept.items c.requires.accepted c.loop-edit.edit-index e c.loop-edit-test.true c.edit-item.is

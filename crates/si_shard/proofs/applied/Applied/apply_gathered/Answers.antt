@@ -10,7 +10,7 @@ gather-requires-clause-gathered c = nothing_waits c.args.id c.args.kept.now c.ar
 pub make-requires : goal.make-requires
 make-requires c =
     let touches = c.in_ok-touches.touches in
-    (c.args.id, kept_after touches c.args.kept.now c.args.edit.now, taken_made c.args.id c.args.kept.now c.args.edit.now touches _ c.requires.accepted c.in_ok-touches.ensures)
+    (c.args.id, kept_after touches c.args.kept.now c.args.edit.now, taken_made c.args.id c.args.kept.now c.args.edit.now touches _ c.requires.next c.in_ok-touches.ensures)
 
 pub returns : goal.returns
 returns c = record {

@@ -1,11 +1,14 @@
 use Rattle.std.proofs.Common.{◌+◌, [], take, subst}
 use Rattle.si_shard.specs.Waiting.{AreGatheredTo}
-use Rattle.si_shard.proofs.Beginnings.{all_taken, begins_accepted, one_more_taken}
+use Rattle.si_shard.proofs.Beginnings.{all_taken, beginning_accepted, begins_accepted, one_more_taken}
 use Rattle.si_shard.proofs.Leading.{nothing_waits}
 use Rattle.si_shard.proofs.applied.Applied.apply_kept.Goals as goal
 
 pub loop-place-init : goal.loop-place-init
 loop-place-init c = nothing_waits c.args.id [] c.args.self.now c.new-waiting.result.lists c.new-waiting.ensures c.requires.applied
+
+pub gather-requires-clause-accepted : goal.gather-requires-clause-accepted
+gather-requires-clause-accepted c = beginning_accepted c.args.kept.now c.loop-place.place c.requires.accepted
 
 pub make_many-requires : goal.make_many-requires
 make_many-requires c =

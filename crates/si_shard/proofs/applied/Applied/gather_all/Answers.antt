@@ -1,4 +1,5 @@
-use Rattle.std.proofs.Common.{subst}
+use Rattle.std.proofs.Common.{subst, sym}
+use Rattle.si_model.specs.Journals.{IsAccepted}
 use Rattle.si_shard.specs.Keeping.{IsTaken}
 use Rattle.si_shard.specs.Waiting.{AreGatheredTo}
 use Rattle.si_shard.proofs.Coming.{all_come, next_come, none_come}
@@ -6,6 +7,9 @@ use Rattle.si_shard.proofs.applied.Applied.gather_all.Goals as goal
 
 pub loop-edit-init : goal.loop-edit-init
 loop-edit-init c = none_come c.args.id c.args._stored.now c.args.kept.now.items (λ edits. AreGatheredTo c.args.id edits c.args.self.now c.args.waiting.now.lists) c.requires.kept c.requires.gathered
+
+pub gather-requires-clause-accepted : goal.gather-requires-clause-accepted
+gather-requires-clause-accepted c = subst IsAccepted (sym c.as_slice.ensures.value) c.loop-edit.invariant.kept.accepted
 
 pub make_many-requires : goal.make_many-requires
 make_many-requires c =

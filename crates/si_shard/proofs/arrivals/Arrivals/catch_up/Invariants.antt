@@ -1,0 +1,8 @@
+use Rattle.std.proofs.Common.{nat_eq, take}
+use Rattle.std.specs.HashMap.{get}
+use Rattle.si_model.specs.Journals.{present}
+use Rattle.si_shard.specs.Arrivals.{AreArrivals}
+use Rattle.si_shard.proofs.arrivals.Arrivals.catch_up.Given as goal
+
+abbrev pub invariant-loop-place : goal.invariant-loop-place
+invariant-loop-place l = AreArrivals (take l.place l.kept) (present (take l.place l.kept)).txns (get nat_eq l.self.by_id)
