@@ -1,4 +1,5 @@
-//! A checker shared by the threads of your own program: two submit, then one reports. The status is that of `sicheck check`.
+//! A checker shared by the threads of your own program: two submit, then one reports. It ends with 20 where a violation is found, with 0
+//! where both edits were accepted and nothing is found, with 2 where the checker can't be had or reports nothing, and else with 10.
 #![tactic(auto)]
 
 ghost use Rattle.std.specs.Prelude.{◌≡◌, All};
