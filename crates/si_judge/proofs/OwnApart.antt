@@ -64,3 +64,12 @@ module _ {X : Type 0} where
       by : (b : Bool) → cond b (Some x) (value_at reader_cmp es q) ≡ None → value_at reader_cmp own q ≡ None
       by true e = absurd (true≢false (ap is_some e))
       by false e = are q e
+
+  -- the same where a reader goes, and its own value with it
+  pub fewer_readers : (r : Reader) (own new : List (Reader × Value)) (es ds : List (Reader × X))
+      → Sets reader_cmp r None es ds → Sets reader_cmp r None own new → AreOfReaders own es → AreOfReaders new ds
+  fewer_readers r own new es ds sets own_sets are q none = own_sets q ∙ by (eq_by_cmp reader_cmp r q) (sym (sets q) ∙ none)
+    where
+      by : (b : Bool) → cond b None (value_at reader_cmp es q) ≡ None → cond b None (value_at reader_cmp own q) ≡ None
+      by true e = refl
+      by false e = are q e
