@@ -8,3 +8,4 @@ pub mod Ends
 pub mod Passing
 pub mod Moves
 pub mod Finding
+pub mod Shifts

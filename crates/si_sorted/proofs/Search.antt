@@ -1,5 +1,5 @@
 -- Where a search among entries in order ends.
-use Rattle.std.proofs.Common.{◌≡◌, ◌∙◌, ℕ, ◌+◌, ◌<◌, List, length, get_or, Result, Ok, Err, inl, inr, sym, ap, ap₂, subst, arith, Ordering, is_gt, is_lt}
+use Rattle.std.proofs.Common.{◌≡◌, ◌∙◌, ℕ, ◌+◌, ◌<◌, List, length, get_or, Result, Ok, Err, inl, inr, false, true≢false, refl, sym, ap, ap₂, subst, arith, Ordering, is_gt, is_lt}
 use Rattle.std.specs.Cmp.{IsTotalOrder, tied_back}
 use Rattle.std.specs.List.Sorted.{IsStrictlySortedBy, IsNonDecreasingBy, IsSearchInRange, IsBinarySearchResult}
 use Rattle.std.specs.Map.{keys_of}
@@ -44,23 +44,37 @@ module _ {K : Type 0} {R : K → K → Ordering} (o : IsTotalOrder R) where
       below = λ j d le hi. less _ _ (parts.1 j d le hi);
     }
 
+    -- a key above an entry's is above all before it
+    pub above_before : (k : K) (i : ℕ) (e : K × X) → i < length es → get_or es i e ≡ e → R k e.0 ≡ Greater → IsAboveAllBefore R es k i
+    above_before k i e in_range is above_e j d lt =
+        let here : get_or es i d ≡ e = get_or_default es i d e in_range ∙ is in
+        greater _ _ (o.trans _ _ _ (subst (λ (f : K × X). R (get_or es j d).0 f.0 ≡ Less) here (less_at j i d lt in_range)) (less _ _ above_e))
+
     -- a key above the last one is above all
     pub beyond : (k : K) (i : ℕ) (last : K × X) → length es ≡ i + 1 → get_or es i last ≡ last → R k last.0 ≡ Greater → IsGapFor R es k (length es)
     beyond k i last count is above_last = record { in_range = omega arith; above = above; below = λ j d le hi. absurd (omega (arith, le, hi)) }
       where
-        far : (j : ℕ) (d : K × X) → j < i → R k (get_or es j d).0 ≡ Greater
-        far j d lt =
-            let one = less_at j i d lt (omega (arith, count)) in
-            let here : get_or es i d ≡ last = get_or_default es i d last (omega (arith, count)) ∙ is in
-            greater _ _ (o.trans _ _ _ (subst (λ (e : K × X). R (get_or es j d).0 e.0 ≡ Less) here one) (less _ _ above_last))
-
         above : IsAboveAllBefore R es k (length es)
         above j d lt = elim (cases_lt j i) [
-          | inl before ↦ far j d before
+          | inl before ↦ above_before k i last (omega (arith, count)) is above_last j d before
           | inr at_least ↦
               let same : j ≡ i = omega (arith, at_least, lt, count) in
               subst (λ (e : K × X). R k e.0 ≡ Greater) (sym (ap (λ n. get_or es n d) same ∙ get_or_default es i d last (omega (arith, count)) ∙ is)) above_last
         ]
+
+    -- an entry that has the key stands at its place
+    pub at_entry : (k : K) (i : ℕ) (e : K × X) → i < length es → get_or es i e ≡ e → R k e.0 ≡ Equal → IsPlaceOf R es k i
+    at_entry k i e in_range is same =
+        searched k (Ok i) in_range (λ d. tied_back o _ _ (subst (λ (f : K × X). R k f.0 ≡ Equal) (sym (get_or_default es i d e in_range ∙ is)) same))
+
+    -- a key that isn't below an entry's is above all before it
+    pub above_before_none_less : (k : K) (i : ℕ) (e : K × X) → i < length es → get_or es i e ≡ e → is_lt (R k e.0) ≡ false → IsAboveAllBefore R es k i
+    above_before_none_less k i e in_range is never_less = go (R k e.0) refl never_less
+      where
+        go : (r : Ordering) → R k e.0 ≡ r → is_lt r ≡ false → IsAboveAllBefore R es k i
+        go Less order never = absurd (true≢false never)
+        go Equal order never = (at_entry k i e in_range is order).above
+        go Greater order never = above_before k i e in_range is order
 
 -- ---- by a place and by a gap
 

@@ -8,9 +8,13 @@ ghost use Rattle.si_sorted.specs.Entries.{IsFirstAbove, IsLastBelow, moved_by, m
 ghost use Rattle.si_sorted.specs.Places.{IsAboveAllBefore, IsAboveNoneFrom, IsBelowAllFrom, IsBelowNoneBefore, IsGapFor, IsPlaceOf};
 
 use std::alloc::AllocError;
+use std::cmp::Ordering;
 
 /// For so many entries there is room where there is any.
 const LEAST_ROOM: usize = 4;
+
+/// A search from the end looks so far before it first.
+const FIRST_STEP: usize = 2;
 
 /// Where the key is, or where it would go.
 pub fn place_of<K: Ord + Copy + Drop, V: Copy + Drop>(
@@ -20,19 +24,50 @@ pub fn place_of<K: Ord + Copy + Drop, V: Copy + Drop>(
     requires { IsStrictlySortedBy K.cmp (keys_of entries.now) }
     ensures { MatchResult result (IsPlaceOf K.cmp entries.now key) (IsGapFor K.cmp entries.now key) }
 {
-    if is_beyond(entries, key) {
-        return Err(entries.len());
+    let len = entries.len();
+    if len == 0 {
+        return Err(0);
     }
-    searched(entries, key)
+    match key.cmp(&entries[len - 1].0) {
+        Ordering::Greater => Err(len),
+        Ordering::Equal => Ok(len - 1),
+        Ordering::Less => searched_from(entries, key, near_end(entries, key)),
+    }
 }
 
-/// Whether the key is greater than all others, as one mostly is that comes last.
-fn is_beyond<K: Ord + Copy + Drop, V: Copy + Drop>(entries: &[(K, V)], key: K) -> bool
+/// A place that the key is greater than all before, looked for in steps from the end that double: most keys that are looked for are near
+/// the end, and a search from the middle reads memory that other look-ups don't.
+fn near_end<K: Ord + Copy + Drop, V: Copy + Drop>(entries: &[(K, V)], key: K) -> usize
     requires { IsStrictlySortedBy K.cmp (keys_of entries.now) }
-    ensures { IsTrue result → IsGapFor K.cmp entries.now key (length entries.now) }
+    ensures bound { result ≤ length entries.now }
+    ensures above { IsAboveAllBefore K.cmp entries.now key result }
 {
     let len = entries.len();
-    len == 0 || key.cmp(&entries[len - 1].0).is_gt()
+    let mut low = len.saturating_sub(FIRST_STEP);
+    while low > 0 {
+        if !key.cmp(&entries[low].0).is_lt() {
+            return low;
+        }
+        low = low.saturating_sub(len - low);
+    }
+    0
+}
+
+/// Where the key is, or where it would go, if it is greater than all before the place `low`.
+fn searched_from<K: Ord + Copy + Drop, V: Copy + Drop>(
+    entries: &[(K, V)],
+    key: K,
+    low: usize,
+) -> Result<usize, usize>
+    requires bound { low ≤ length entries.now }
+    requires rising { IsStrictlySortedBy K.cmp (keys_of entries.now) }
+    requires above { IsAboveAllBefore K.cmp entries.now key low }
+    ensures { MatchResult result (IsPlaceOf K.cmp entries.now key) (IsGapFor K.cmp entries.now key) }
+{
+    match searched(&entries[low..], key) {
+        Ok(place) => Ok(low + place),
+        Err(place) => Err(low + place),
+    }
 }
 
 fn searched<K: Ord + Copy + Drop, V: Copy + Drop>(
