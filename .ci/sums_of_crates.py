@@ -44,8 +44,9 @@ class Stamp:
         return self.sums.get(crate.name) == sum_of(crate, besides)
 
     def keep(self, sums, crates, kit):
-        """Writes these sums beside those of the file that are of these crates."""
-        kept = {name: it for name, it in {**self.sums, **sums}.items() if name in crates}
+        """Writes these sums beside those of the file that are of these crates and of this kit."""
+        old = self.sums if self.sums.get("kit") == kit else {}
+        kept = {name: it for name, it in {**old, **sums}.items() if name in crates}
         with open(self.path, "w", encoding="utf-8") as it:
             it.write(HEAD + f"kit {kit}\n" + "".join(f"{name} {kept[name]}\n" for name in sorted(kept)))
         self.sums = {"kit": kit, **kept}
