@@ -43,6 +43,12 @@ impl<N: Name> Model for Bay<N> {
 
 impl<N: Name> Bay<N> {
     /// The shard of the seat, among so many. It has stored no edit.
+    ///
+    /// # Examples
+    ///
+    /// ```
+    /// let bay = Bay::new(alloc, hash, shards, seat);
+    /// ```
     pub fn new(alloc: Global, hash: RandomState, shards: usize, seat: ShardSeat) -> Self
         requires shards { shards ≡ N.board.shards }
         requires most { shards ≤ MOST_SHARDS }
@@ -59,6 +65,12 @@ impl<N: Name> Bay<N> {
     }
 
     /// Which shard it is.
+    ///
+    /// # Examples
+    ///
+    /// ```
+    /// let is_asked = bay.number() == k;
+    /// ```
     pub fn number(&self) -> usize
         ensures number { result ≡ self.now.seat.number }
         ensures within { self.now.seat.number < N.board.shards }
@@ -67,6 +79,12 @@ impl<N: Name> Bay<N> {
     }
 
     /// How many edits the shard has applied.
+    ///
+    /// # Examples
+    ///
+    /// ```
+    /// let applied = bay.position();
+    /// ```
     pub fn position(&self) -> u64
         ensures position { result ≡ self.now.seat.done }
         ensures within { result ≤ length self.now.seat.due }
@@ -76,6 +94,14 @@ impl<N: Name> Bay<N> {
     }
 
     /// Whether memory was refused to an edit, which is left then, and no rebuild came since.
+    ///
+    /// # Examples
+    ///
+    /// ```
+    /// if bay.is_spoiled() {
+    ///     bay.rebuild(bay.number())?; // once there is memory again
+    /// }
+    /// ```
     pub fn is_spoiled(&self) -> bool
         ensures spoiled { result ≡ self.now.spoiled }
         ensures left { result ≡ true → self.now.seat.done < length self.now.seat.due }
@@ -84,6 +110,12 @@ impl<N: Name> Bay<N> {
     }
 
     /// The shard is due the whole journal, which goes on where that ended which it was due before.
+    ///
+    /// # Examples
+    ///
+    /// ```
+    /// bay.pull(&words, &mut desk); // the shard is due what the desk has
+    /// ```
     pub fn pull(&mut self, words: &Words, desk: &mut Desk<N>)
         requires { words.now ≡ N.board }
         ensures seat { self.new ≡ record self.old { seat = with_due desk.old.journal self.old.seat } }
@@ -97,6 +129,14 @@ impl<N: Name> Bay<N> {
     /// Applies the edits, which are the next of those that the shard is due, and publishes how far it came.
     ///
     /// If memory is refused to one of them, those before it stand, and the shard is spoiled. One that was spoiled before stays so.
+    ///
+    /// # Examples
+    ///
+    /// ```
+    /// bay.pull(&words, &mut desk);
+    /// let edits = desk.copy(alloc, bay.position());
+    /// bay.apply(&words, edits); // the desk isn't needed for it
+    /// ```
     pub fn apply(&mut self, words: &Words, edits: Vec<Edit>)
         requires words { words.now ≡ N.board }
         requires next { edits.items ≡ take (vec_len edits) (drop self.old.seat.done (edits_of self.old.seat.due)) }
@@ -114,6 +154,12 @@ impl<N: Name> Bay<N> {
     /// The shard is due the whole journal, applies what is left of it and publishes that, unless nothing is left.
     ///
     /// Where it is spoiled, by this or before, it has applied no more than before.
+    ///
+    /// # Examples
+    ///
+    /// ```
+    /// bay.settle(&words, &mut desk)?; // the shard has applied the whole journal
+    /// ```
     pub fn settle(&mut self, words: &Words, desk: &mut Desk<N>) -> Result<(), ReportFault>
         requires words { words.now ≡ N.board }
         ensures desk { desk.new ≡ desk.old }
@@ -139,6 +185,13 @@ impl<N: Name> Bay<N> {
     }
 
     /// Adds the findings on the shard's keys of what is present after the edits that it has applied.
+    ///
+    /// # Examples
+    ///
+    /// ```
+    /// bay.settle(&words, &mut desk)?;
+    /// bay.add_findings(&mut all)?; // behind those of other shards
+    /// ```
     pub fn add_findings(&self, found: &mut Vec<Finding>) -> Result<(), ReportFault>
         ensures ok { OnOk result (found.new.items ≡ found.old.items ++ findings_in (shard_id self.now.seat.number N.board.shards) (present (stored_by self.now.seat))) }
         ensures spoiled { (k : ℕ) → IfErr result (λ f. f ≡ fault.Spoiled k → (k ≡ self.now.seat.number) × (self.now.spoiled ≡ true)) }
@@ -149,6 +202,12 @@ impl<N: Name> Bay<N> {
     }
 
     /// The findings on the shard's keys of what is present after the edits that it has applied, in order.
+    ///
+    /// # Examples
+    ///
+    /// ```
+    /// let found = bay.findings()?; // on the keys of this shard alone
+    /// ```
     pub fn findings(&self) -> Result<Vec<Finding>, ReportFault>
         ensures ok { IfOk result (λ found. found.items ≡ findings_in (shard_id self.now.seat.number N.board.shards) (present (stored_by self.now.seat))) }
         ensures spoiled { (k : ℕ) → IfErr result (λ f. f ≡ fault.Spoiled k → (k ≡ self.now.seat.number) × (self.now.spoiled ≡ true)) }
@@ -162,6 +221,12 @@ impl<N: Name> Bay<N> {
 
     /// The pass learns how much the shard has applied, and sees what the shard is due where that is more than it has seen; and the
     /// findings are told. After a fault the pass is as before.
+    ///
+    /// # Examples
+    ///
+    /// ```
+    /// let ShardReport { position, findings } = bay.report(&words, &mut pass)?;
+    /// ```
     pub fn report(&mut self, words: &Words, pass: &mut Pass) -> Result<ShardReport, ReportFault>
         requires words { words.now ≡ N.board }
         requires own { pass.old.table ≡ N.board.table }
@@ -190,6 +255,12 @@ impl<N: Name> Bay<N> {
     /// Makes all that the shard of this number knows anew from the edits that it has applied, and so ends a spoiled state.
     ///
     /// If memory is refused, everything stays as it was.
+    ///
+    /// # Examples
+    ///
+    /// ```
+    /// bay.rebuild(k)?; // the shard isn't spoiled any more
+    /// ```
     pub fn rebuild(&mut self, number: usize) -> Result<(), OutOfMemory>
         requires { number ≡ self.old.seat.number }
         ensures ok { OnOk result (self.new ≡ record self.old { spoiled = false }) }
@@ -200,6 +271,12 @@ impl<N: Name> Bay<N> {
     }
 
     /// Whether more edits were issued than the shard has applied. It takes no lock of the book.
+    ///
+    /// # Examples
+    ///
+    /// ```
+    /// let has_work = bay.is_behind(&words) || bay.is_closed(&words);
+    /// ```
     pub fn is_behind(&mut self, words: &Words) -> bool
         requires { words.now ≡ N.board }
         ensures { (n : ℕ) × (self.new ≡ record self.old { seat = shard_counted n self.old.seat }) × (IsTrue result ↔ (self.old.seat.done < n)) }
@@ -209,6 +286,12 @@ impl<N: Name> Bay<N> {
     }
 
     /// Whether the words are closed. Once they were found so they are found so again.
+    ///
+    /// # Examples
+    ///
+    /// ```
+    /// let may_end = bay.is_closed(&words) && !bay.is_behind(&words);
+    /// ```
     pub fn is_closed(&mut self, words: &Words) -> bool
         requires { words.now ≡ N.board }
         ensures seat { self.new ≡ record self.old { seat = shard_closed result self.old.seat } }

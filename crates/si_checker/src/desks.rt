@@ -41,6 +41,12 @@ impl<N: Name> Model for Desk<N> {
 
 impl<N: Name> Desk<N> {
     /// A book with an empty journal, and its seat.
+    ///
+    /// # Examples
+    ///
+    /// ```
+    /// let desk = Desk::new(Book::new(alloc, hash, limit), seat);
+    /// ```
     pub fn new(book: Book, seat: BookSeat) -> Self
         requires book { book ≡ record { limit = N.limit; journal = [] } }
         requires seat { seat ≡ seated N.board.table (new_book N.board.passes) }
@@ -58,6 +64,12 @@ impl<N: Name> Desk<N> {
     /// Accepts the edit, or tells the first reason against it. Then the pass sees the journal.
     ///
     /// The answer is the edit's number, and it bears the pass. After a fault the journal is as before.
+    ///
+    /// # Examples
+    ///
+    /// ```
+    /// let number = desk.submit(&words, &mut pass, edit)?; // the pass has seen the journal, which ends with this edit
+    /// ```
     pub fn submit(
         &mut self,
         words: &Words,
@@ -95,6 +107,12 @@ impl<N: Name> Desk<N> {
     }
 
     /// The pass sees the journal.
+    ///
+    /// # Examples
+    ///
+    /// ```
+    /// desk.show(&words, &mut pass); // the pass has seen the journal
+    /// ```
     pub fn show(&mut self, words: &Words, pass: &mut Pass)
         requires words { words.now ≡ N.board }
         requires own { pass.old.table ≡ N.board.table }
@@ -112,6 +130,12 @@ impl<N: Name> Desk<N> {
     }
 
     /// The words are closed from now on.
+    ///
+    /// # Examples
+    ///
+    /// ```
+    /// desk.close(&words); // each look at the words finds them closed
+    /// ```
     pub fn close(&mut self, words: &Words)
         requires { words.now ≡ N.board }
         ensures { self.new ≡ book_closed self.old }
@@ -121,6 +145,12 @@ impl<N: Name> Desk<N> {
 
     /// Copies of the edits from this position on, [`MOST_AT_ONCE`] at most, which share the operations. If memory is
     /// refused, there are fewer.
+    ///
+    /// # Examples
+    ///
+    /// ```
+    /// let edits = desk.copy(alloc, bay.position()); // the next edits that the shard has left
+    /// ```
     pub fn copy(&self, alloc: Global, position: u64) -> Vec<Edit>
         requires { position ≤ length self.now.journal }
         ensures edits { result.items ≡ take (vec_len result) (drop position (edits_of self.now.journal)) }
@@ -136,6 +166,12 @@ impl<N: Name> Desk<N> {
     }
 
     /// The accepted edits, in the order of their numbers.
+    ///
+    /// # Examples
+    ///
+    /// ```
+    /// let last = desk.journal().last();
+    /// ```
     pub fn journal(&self) -> &[Edit]
         ensures edits { result.now ≡ edits_of self.now.journal }
         ensures accepted { IsAccepted (edits_of self.now.journal) }
@@ -144,6 +180,12 @@ impl<N: Name> Desk<N> {
     }
 
     /// How many edits are accepted.
+    ///
+    /// # Examples
+    ///
+    /// ```
+    /// let left = desk.len() - bay.position(); // behind `pull`
+    /// ```
     pub fn len(&self) -> u64
         ensures journal { result ≡ length self.now.journal }
         ensures within { result ≤ N.limit }
@@ -152,6 +194,12 @@ impl<N: Name> Desk<N> {
     }
 
     /// How many transactions are present.
+    ///
+    /// # Examples
+    ///
+    /// ```
+    /// let transactions = desk.transactions(); // those in doubt and those that aborted too
+    /// ```
     pub fn transactions(&self) -> usize
         ensures { result ≡ length (present (edits_of self.now.journal)).txns }
     {
@@ -159,6 +207,12 @@ impl<N: Name> Desk<N> {
     }
 
     /// What became of the present transactions.
+    ///
+    /// # Examples
+    ///
+    /// ```
+    /// let Statuses { committed, in_doubt } = desk.statuses()?;
+    /// ```
     pub fn statuses(&self) -> Result<Statuses, OutOfMemory>
         ensures committed { IfOk result (λ s. s.committed ≡ committed_among (present (edits_of self.now.journal)).txns) }
         ensures in_doubt { IfOk result (λ s. s.in_doubt.items ≡ doubtful_among (present (edits_of self.now.journal)).txns) }
@@ -170,6 +224,12 @@ impl<N: Name> Desk<N> {
     }
 
     /// Copies of the present transactions, in the order of arrival, which share the operations.
+    ///
+    /// # Examples
+    ///
+    /// ```
+    /// let again = findings_of(desk.present()?.as_slice(), desk.initial()?.as_slice())?; // those of all shards, in order
+    /// ```
     pub fn present(&self) -> Result<Vec<Txn>, OutOfMemory>
         ensures { IfOk result (λ txns. txns.items ≡ (present (edits_of self.now.journal)).txns) }
     {
@@ -177,6 +237,12 @@ impl<N: Name> Desk<N> {
     }
 
     /// Copies of the keys that were set up with their values, in the order of arrival.
+    ///
+    /// # Examples
+    ///
+    /// ```
+    /// let values = desk.initial()?; // [(x, 7)] after `{"do":"setup","key":"x","value":7}`
+    /// ```
     pub fn initial(&self) -> Result<Vec<(Key, Value)>, OutOfMemory>
         ensures { IfOk result (λ initial. initial.items ≡ (present (edits_of self.now.journal)).initial) }
     {

@@ -76,6 +76,12 @@ impl KnownKeys {
     }
 
     /// How many keys are known.
+    ///
+    /// # Examples
+    ///
+    /// ```
+    /// let known = keys.len(); // longer keys alone: a short one is never kept
+    /// ```
     pub fn len(&self) -> usize
         ensures { result ≡ length self.now }
     {
@@ -83,6 +89,14 @@ impl KnownKeys {
     }
 
     /// Forgets the keys that came after the first so many.
+    ///
+    /// # Examples
+    ///
+    /// ```
+    /// let known = keys.len();
+    /// let item = buffer.next_item(&mut source, &mut keys)?;
+    /// keys.truncate(known); // the keys of that line are forgotten
+    /// ```
     pub fn truncate(&mut self, len: usize)
         ensures { self.new ≡ take len self.old }
     {

@@ -21,6 +21,13 @@ impl MemorySource {
     ghost use Rattle.si_text.specs.Memory.{most_given};
 
     /// A source of these bytes, in pieces of at most so many.
+    ///
+    /// # Examples
+    ///
+    /// ```
+    /// let bytes = b"{}\n".to_vec(rt.alloc())?;
+    /// let mut source = MemorySource::new(bytes, 1); // gives one byte at a read
+    /// ```
     pub fn new(bytes: Vec<u8>, piece: usize) -> Self
         requires { 1 ≤ piece }
         ensures left { ⟦<MemorySource as ByteSource>⟧.left result ≡ Some bytes.items }
@@ -76,6 +83,12 @@ impl MemorySink {
     ghost use Rattle.si_text.specs.Memory.{most_taken};
 
     /// An empty sink that takes pieces of at most so many bytes.
+    ///
+    /// # Examples
+    ///
+    /// ```
+    /// let mut sink = MemorySink::new(rt.alloc(), 7); // takes up to seven bytes at a write
+    /// ```
     pub fn new(alloc: Global, piece: usize) -> Self
         requires { 1 ≤ piece }
         ensures written { ⟦<MemorySink as ByteSink>⟧.written result ≡ Some [] }
@@ -90,6 +103,12 @@ impl MemorySink {
     }
 
     /// What was written so far.
+    ///
+    /// # Examples
+    ///
+    /// ```
+    /// let text = sink.as_slice();
+    /// ```
     pub fn as_slice(&self) -> &[u8]
         ensures { ⟦<MemorySink as ByteSink>⟧.written self.now ≡ Some result.now }
     {
@@ -140,6 +159,12 @@ impl<S: ByteSource> FailingSource<S> {
     ghost use Rattle.si_text.specs.Memory.{reads_left, source_behind};
 
     /// A source whose first `reads` reads are those of the other one, and all later ones fail.
+    ///
+    /// # Examples
+    ///
+    /// ```
+    /// let mut source = FailingSource::new(MemorySource::new(bytes, 7), 3); // the fourth read fails, and each one after it
+    /// ```
     pub fn new(source: S, reads: u64) -> Self
         ensures left { ⟦<FailingSource<S> as ByteSource>⟧.left result ≡ S.left source }
         ensures failed { ⟦<FailingSource<S> as ByteSource>⟧.failed result
@@ -203,6 +228,12 @@ impl<W: ByteSink> FailingSink<W> {
     ghost use Rattle.si_text.specs.Memory.{writes_left, sink_behind};
 
     /// A sink whose first `writes` writes are those of the other one, and all later ones fail.
+    ///
+    /// # Examples
+    ///
+    /// ```
+    /// let mut sink = FailingSink::new(MemorySink::new(rt.alloc(), 7), 0); // each write fails
+    /// ```
     pub fn new(sink: W, writes: u64) -> Self
         ensures written { ⟦<FailingSink<W> as ByteSink>⟧.written result ≡ W.written sink }
         ensures failed { ⟦<FailingSink<W> as ByteSink>⟧.failed result ≡ W.failed sink }
