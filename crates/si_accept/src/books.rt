@@ -1,3 +1,6 @@
+//! The book: the journal of accepted edits with its limit, over what is present. What decides an edit stands here; how it is found who
+//! holds what, in `contents.rt` and the indexes below it.
+
 ghost use Rattle.std.specs.Prelude.{◌≡◌, ℕ, ◌≤◌, ◌<◌, [], ◌∷◌, ◌++◌, length, None, IfOk, OnOk, IfErr, OnErr, IfNone, IsTrue, ◌↔◌};
 ghost use Rattle.std.specs.Option.{option_copied};
 ghost use Rattle.si_model.specs.Edits.{IsAcceptable, with_id, after};

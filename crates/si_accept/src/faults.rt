@@ -1,3 +1,5 @@
+//! Why the book didn't accept an edit.
+
 use si_model::Refusal;
 use std::alloc::{AllocError, AllocFailed};
 use thiserror::Error;

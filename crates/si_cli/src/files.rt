@@ -1,3 +1,5 @@
+//! Files that are opened by their names: a trait, so that contracts and tests can have files of their own, and those of the system.
+
 ghost use Rattle.std.specs.Prelude.{◌≡◌, ℕ, List, Bool, Option, None, true, false, IfOk, IsErr};
 ghost use Rattle.std.specs.Io.KnownBytes.{Keeps};
 

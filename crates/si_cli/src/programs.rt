@@ -1,3 +1,5 @@
+//! The program over its devices: from the words of the command line to the exit status, and each fault with its line on standard error.
+
 ghost use Rattle.std.specs.Prelude.{◌≡◌, ◌≤◌, ◌<◌, ◌++◌, ◌∷◌, [], false, true, All, length, map, codes, decimal, is_err, IfOk, IfErr, OnOk, OnErr};
 ghost use Rattle.std.specs.Io.KnownBytes.{Appends};
 ghost use Rattle.std.specs.Mem.{FitsInMemory};

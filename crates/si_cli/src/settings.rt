@@ -1,3 +1,5 @@
+//! What the words of a command line ask for: the options of a run, and the files. A range that is left is told as `clap` tells it.
+
 ghost use Rattle.std.specs.Prelude.{◌≡◌, ◌≤◌, ◌&&◌, ℕ, map, false, is_none, IfOk};
 ghost use Rattle.clap.specs.Words.{found_of, rows_of};
 ghost use Rattle.si_cli.specs.CommandLines.{IsToldBy, IsReadOf, NumberFits, NumbersFit, files_given, every_given, expected_given, options_given, flag_given, number_given, shards_given};

@@ -1,3 +1,5 @@
+//! The machine on one thread: the book and its shards, its steps, and its findings once it is settled.
+
 ghost use Rattle.std.specs.Prelude.{◌≡◌, ◌⊎◌, ◌↔◌, ℕ, ◌+◌, ◌<◌, ◌≤◌, true, false, [], Some, None, Option, Err, length, slice_get, IfOk, OnOk, IfErr, OnErr, ◌++◌};
 ghost use Rattle.std.specs.Option.{option_map};
 ghost use Rattle.si_model.specs.Findings.{findings};

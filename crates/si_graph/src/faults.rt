@@ -1,3 +1,5 @@
+//! Why a finding isn't explained.
+
 ghost use Rattle.std.specs.Prelude.{◌≡◌};
 ghost use Rattle.si_graph.specs.Explanations.{fault_code};
 

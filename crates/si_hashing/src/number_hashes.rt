@@ -1,3 +1,5 @@
+//! A secret hash of numbers and of pairs of numbers, for maps whose keys a log chooses.
+
 ghost use Rattle.std.specs.Prelude.{◌≡◌, fold};
 ghost use Rattle.std.specs.Hash as fed;
 ghost use Rattle.si_hashing.specs.Secrets.{drawn, hash_between};

@@ -1,5 +1,5 @@
 -- A key on which nothing is looked for.
-use Rattle.std.proofs.Common.{◌≡◌, ◌∙◌, inl, inr, ℕ, cond, false, List, [], ◌∷◌, Option, Some, None, refl, sym, ap, subst}
+use Rattle.std.proofs.Common.{◌≡◌, ◌∙◌, inl, inr, ℕ, cond, List, [], ◌∷◌, Option, Some, None, refl, sym, ap, subst}
 use Rattle.std.specs.List.{Contains, find}
 use Rattle.si_lists.proofs.Members.{Contains-nil, here}
 use Rattle.si_model.specs.declared.numbers.Stamp.{Stamp}
@@ -24,7 +24,7 @@ use Rattle.si_judge.specs.Indexes.{AreIndexes, reader_of, reads_in, version_by, 
 use Rattle.si_judge.specs.Following.{empty_key}
 use Rattle.si_judge.specs.Kept.{IsBare, Kept, Shows, found_in}
 use Rattle.si_judge.specs.Readers.{AreInOrder, own_at, reader_cmp}
-use Rattle.si_judge.specs.Spread.{at_value}
+use Rattle.si_judge.specs.Values.{at_value}
 use Rattle.si_sorted.proofs.Rising.{none_rises}
 use Rattle.si_judge.proofs.IndexEdits.{no_value}
 use Rattle.si_judge.proofs.Mended.{reader_read}
@@ -97,8 +97,8 @@ module _ (M : OnKey) (bare : IsBare M) where
 
   -- what keeps nothing shows it
   pub shows_bare : (J : Rules) (s : Kept) → IsOfHistory M → s.indexes.initial ≡ None → s.indexes.timeline ≡ [] → s.indexes.writes ≡ [] → s.indexes.readers ≡ []
-      → ((o : ReadId) → (found_in s).reads o ≡ None) → ((c : Stamp) → (found_in s).overlaps c ≡ None) → s.spoiled ≡ false → Shows J M s
-  shows_bare J s h initial timeline writes readers no_reads no_overlaps whole = record {
+      → ((o : ReadId) → (found_in s).reads o ≡ None) → ((c : Stamp) → (found_in s).overlaps c ≡ None) → Shows J M s
+  shows_bare J s h initial timeline writes readers no_reads no_overlaps = record {
     indexes = record {
       history = h;
       initial = initial ∙ sym bare.initial;
@@ -111,5 +111,4 @@ module _ (M : OnKey) (bare : IsBare M) where
       reads = λ o k. ((λ e. absurd (no_value k (sym (no_reads o) ∙ e))), (λ f. absurd (no_read f.0 o.place f.1 f.2)));
       overlaps = λ c k. ((λ e. absurd (no_value k (sym (no_overlaps c) ∙ e))), (λ f. absurd (no_installer f.0 f.2)));
     };
-    whole = whole;
   }

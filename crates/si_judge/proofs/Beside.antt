@@ -10,11 +10,13 @@ use Rattle.si_model.proofs.Histories.{one_part}
 use Rattle.si_model.specs.declared.transactions.Outcome.{Outcome}
 use Rattle.si_model.specs.Edits.{status_after}
 use Rattle.si_model.specs.KeyEdits.{arrived_on, resolved_on}
-use Rattle.si_judge.specs.Held.{AreNamedApart, IsLeftBy}
+use Rattle.si_judge.specs.KeyParts.{AreNamedApart, IsLeftBy}
 use Rattle.si_judge.specs.Indexes.{Joins}
 use Rattle.si_judge.specs.Kept.{IsInDoubt, IsShown, Kept, Shows}
 use Rattle.si_judge.proofs.Asked.{push_history, push_joins, resolution_joins, same_joined}
 use Rattle.si_judge.specs.States.{AreSameOnKey, HasDoubt, IsMended, present_of}
+use Rattle.si_model.specs.Laws.{HaveSame}
+use Rattle.si_judge.proofs.Coming.{history_within}
 
 -- what is shown is what stands beside, where the transactions are those
 pub beside_is : (J : Rules) (R : OnKey) (s : Kept) (parts : List Part) → Shows J R s → parts ≡ R.parts → R ≡ present_of s parts
@@ -59,3 +61,18 @@ resolved_same T M Q o joins =
 
 pub resolved_history : (T : Part) (M Q : OnKey) (o : Outcome) → Joins T M Q → AreNamedApart M.parts → IsOfHistory (resolved_on T.id o Q) → IsOfHistory (arrived_on (record T { status = status_after o }) M)
 resolved_history T M Q o joins named h = push_history (record T { status = status_after o }) M (resolved_on T.id o Q) (resolution_joins T o M Q joins) h named
+
+-- ---- one comes
+
+-- the transactions that stand beside are those of R in another order
+abbrev pub among : OnKey → List Part → OnKey
+among R parts = record { initial = R.initial; parts = parts }
+
+pub same_among : (A R : OnKey) (parts : List Part) → AreSameOnKey A R → HaveSame R.parts parts → AreSameOnKey A (among R parts)
+same_among A R parts same have = record {
+  initial = same.initial;
+  parts = λ X. ((λ c. (have X).0 ((same.parts X).0 c)), (λ c. (same.parts X).1 ((have X).1 c)));
+}
+
+pub history_among : (R : OnKey) (parts : List Part) → IsOfHistory R → HaveSame R.parts parts → AreNamedApart parts → IsOfHistory (among R parts)
+history_among R parts h have named = history_within R (among R parts) h refl (λ X c. (have X).1 c) named

@@ -12,7 +12,7 @@ use Rattle.si_model.proofs.LastWrites.{last_written}
 use Rattle.si_timeline.specs.Timelines.{Dated}
 use Rattle.si_judge.specs.declared.indexes.Indexes.{Indexes}
 use Rattle.si_judge.specs.Commits.{HaveValuesOnce}
-use Rattle.si_judge.specs.Spread.{at_value, value_cmp}
+use Rattle.si_judge.specs.Values.{at_value, value_cmp}
 use Rattle.si_judge.specs.Maps.{AreInserted, AreTakenOut}
 use Rattle.si_judge.specs.Indexes.{AddsVersion, AreIndexes, Fits, Joins, LacksVersion, HasVersion, KeepsValuesOnce, RemovesVersion, other_writes_of, reads_in, version_by}
 use Rattle.si_judge.specs.Readers.{reader_cmp, own_at, AreInOrder}

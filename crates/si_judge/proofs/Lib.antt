@@ -6,7 +6,7 @@ pub mod Updates
 pub mod IndexEdits
 pub mod Others
 pub mod Orders
-pub mod PartMaps
+pub mod KeyParts
 pub mod PartLists
 pub mod Coming
 pub mod Commits

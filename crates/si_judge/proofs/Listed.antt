@@ -23,7 +23,7 @@ use Rattle.si_model.proofs.InOrder.{Contains-from_in_order, Contains-in_order, s
 use Rattle.si_model.proofs.Sources.{sight_law}
 use Rattle.si_judge.specs.declared.judgements.ReadId.{ReadId}
 use Rattle.si_judge.specs.Mending.{ArePairKinds, AreReadKinds, IsReadKind, read_cmp, stamp_cmp}
-use Rattle.si_judge.proofs.PartMaps.{value_of}
+use Rattle.si_judge.proofs.KeyParts.{value_of}
 
 read_total : IsTotalOrder read_cmp
 read_total = then_total (on_total (λ (o : ReadId). o.txn.0) nat_cmp_total) (on_total (λ (o : ReadId). o.place) nat_cmp_total)

@@ -1,19 +1,15 @@
 -- The orders of the maps' keys are total, and only one key ties with itself.
-use Rattle.std.proofs.Common.{◌≡◌, ◌↔◌, ℕ, ◌%◌, true, Option, Some, None, rules, refl, sym, ap, true≢false}
+use Rattle.std.proofs.Common.{◌≡◌, ◌↔◌, ℕ, true, Option, Some, None, refl, sym, ap, true≢false}
 use Rattle.std.proofs.Common.{Ordering}
-use Rattle.std.specs.Cmp.{IsTotalOrder, ranked, nat_cmp_is}
-use Rattle.std.specs.Cmp.Rules.{comparing}
+use Rattle.std.specs.Cmp.{ranked, nat_cmp_is}
 use Rattle.std.specs.Option.{option_cmp}
 use Rattle.std.specs.Ordering.{eq_by_cmp, is_eq, nat_cmp, ordering_then}
 use Rattle.std.specs.declared.cmp.Ordering.TheVariants.{Less, Equal, Greater}
 use Rattle.si_model.specs.declared.numbers.TxnId.{TxnId}
 use Rattle.si_model.specs.declared.numbers.Value.{Value}
-use Rattle.si_judge.specs.Spread.{spread_cmp, value_cmp}
+use Rattle.si_judge.specs.Values.{value_cmp}
 use Rattle.si_judge.specs.Readers.{reader_cmp}
 use Rattle.si_judge.specs.Mending.{read_cmp, stamp_cmp}
-
-pub spread_total : IsTotalOrder spread_cmp
-spread_total = search (comparing, rules)
 
 -- the test of a tie decides whether two keys are one
 abbrev pub Decides : {K : Type 0} → (K → K → Ordering) → Type 0
@@ -51,12 +47,6 @@ option_decides None None = (λ e. refl, λ e. refl)
 option_decides None (Some w) = (λ e. absurd (true≢false (sym e)), λ e. cc)
 option_decides (Some v) None = (λ e. absurd (true≢false (sym e)), λ e. cc)
 option_decides (Some v) (Some w) = (λ e. ap Some ((value_decides v w).0 e), λ e. (value_decides v w).1 (let s : v ≡ w = cc in s))
-
-pub spread_decides : Decides spread_cmp
-spread_decides m n = (
-  (λ e. let k : m.0 ≡ n.0 = (nat_decides m.0 n.0).0 (both_tie (nat_cmp (m.0 % 256) (n.0 % 256)) (nat_cmp m.0 n.0) e).1 in ap (λ (i : ℕ). record { 0 = i }) k),
-  (λ e. tie_both (nat_cmp (m.0 % 256) (n.0 % 256)) (nat_cmp m.0 n.0) ((nat_decides (m.0 % 256) (n.0 % 256)).1 (ap (λ x. x.0 % 256) e)) ((nat_decides m.0 n.0).1 (ap (λ x. x.0) e))),
-)
 
 pub read_decides : Decides read_cmp
 read_decides o p = (

@@ -10,7 +10,7 @@ use Rattle.si_model.specs.declared.numbers.Value.{Value}
 use Rattle.si_judge.specs.declared.reads.Write.{Write}
 use Rattle.si_judge.specs.Indexes.{is_other, others_among}
 use Rattle.si_judge.specs.Maps.{AreInserted, AreTakenOut}
-use Rattle.si_judge.specs.Spread.{value_cmp}
+use Rattle.si_judge.specs.Values.{value_cmp}
 
 next_others : (ws : List (Value × Write)) (i : ℕ) (e : Value × Write) → i < length ws → others_among (take (i + 1) ws) ≡ others_among (take i ws) ++ others_among (get_or ws i e ∷ [])
 next_others ws i e within = ap others_among (take_more ws i e within) ∙ filter-append (λ w. is_other w.1.fate) (take i ws) (get_or ws i e ∷ [])

@@ -15,7 +15,7 @@ use Rattle.si_model.specs.Operations.{same_value}
 use Rattle.si_model.proofs.Equalities.{read_is}
 use Rattle.si_judge.specs.declared.reads.Reader.{Reader}
 use Rattle.si_judge.specs.Readers.{beyond, is_later, is_reader_of, least_of, least_reader, reader_cmp, readers_among, with_own}
-use Rattle.si_judge.specs.Spread.{value_cmp}
+use Rattle.si_judge.specs.Values.{value_cmp}
 use Rattle.si_sorted.specs.Entries.{value_at}
 
 -- ---- from the least reader on

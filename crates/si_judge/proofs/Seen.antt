@@ -27,7 +27,7 @@ use Rattle.si_judge.specs.declared.reads.Reader.{Reader}
 use Rattle.si_judge.specs.declared.reads.Write.{Write}
 use Rattle.si_judge.specs.declared.indexes.Indexes.{Indexes}
 use Rattle.si_judge.specs.Indexes.{AreIndexes, fate_of, reader_of, reads_in, write_of}
-use Rattle.si_judge.specs.Spread.{at_value}
+use Rattle.si_judge.specs.Values.{at_value}
 use Rattle.si_judge.specs.Sights.{is_version_after, is_write_after, later_with, sight_in, source_in, source_told, source_with, version_in, write_in}
 use Rattle.si_judge.proofs.PartLists.{IsVersionOf, other_from, read_from, version_from, write_from}
 use Rattle.si_judge.proofs.Told.{installed_fate, unwritten}

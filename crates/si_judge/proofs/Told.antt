@@ -22,7 +22,7 @@ use Rattle.si_judge.specs.declared.indexes.Indexes.{Indexes}
 use Rattle.si_judge.specs.Commits.{HaveValuesOnce, IsOfValue}
 use Rattle.si_judge.specs.Indexes.{AreIndexes, fate_of, is_other, write_of, writes_of}
 use Rattle.si_judge.specs.Sights.{version_in}
-use Rattle.si_judge.specs.Spread.{at_value}
+use Rattle.si_judge.specs.Values.{at_value}
 use Rattle.si_judge.proofs.Coming.{values_once}
 use Rattle.si_judge.proofs.IndexEdits.{no_value}
 use Rattle.si_judge.proofs.PartLists.{other_from, version_from, version_to, write_from, write_to}

@@ -5,7 +5,7 @@ use Rattle.si_model.specs.declared.numbers.Stamp.{Stamp}
 use Rattle.si_model.specs.declared.numbers.Value.{Value}
 use Rattle.si_timeline.specs.Timelines.{Dated}
 use Rattle.si_timeline.specs.declared.versions.Version.{Version}
-use Rattle.si_judge.specs.Spread.{at_value}
+use Rattle.si_judge.specs.Values.{at_value}
 
 -- no two of the versions have one value
 abbrev pub HaveValuesOnce : List Dated → Type 0

@@ -20,7 +20,7 @@ use Rattle.si_timeline.specs.Timelines.{Adds, Dated, Has, IsNearestBefore, Lacks
 use Rattle.si_timeline.specs.declared.versions.Version.{Version}
 use Rattle.si_judge.specs.Commits.{HaveValuesOnce}
 use Rattle.si_judge.specs.Readers.{AreInOrder, IsReaderOf, own_at, readers_among}
-use Rattle.si_judge.specs.Spread.{at_value}
+use Rattle.si_judge.specs.Values.{at_value}
 use Rattle.si_judge.specs.declared.indexes.Indexes.{Indexes}
 use Rattle.si_judge.specs.declared.reads.Fate.{Fate}
 use Rattle.si_judge.specs.declared.reads.Fate.TheVariants as fate

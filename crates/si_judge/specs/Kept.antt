@@ -1,5 +1,5 @@
 -- The findings on a key, kept without its transactions, and what they show. All of it is this project's choice.
-use Rattle.std.specs.Prelude.{◌≡◌, ℕ, Bool, false, List, [], None}
+use Rattle.std.specs.Prelude.{◌≡◌, ℕ, List, [], None}
 use Rattle.std.specs.List.{Contains}
 use Rattle.si_model.specs.declared.numbers.TxnId.{TxnId}
 use Rattle.si_model.specs.declared.transactions.Status.TheVariants as status
@@ -24,8 +24,6 @@ pub record Kept : Type 0 where
   pub overlaps : List (Stamp × Kind)
   -- how many answers the judge has given
   pub judged : ℕ
-  -- whether memory was refused to an edit
-  pub spoiled : Bool
 
 -- what the judge found, and its count
 abbrev pub found_in : Kept → Found
@@ -35,7 +33,6 @@ found_in s = record { reads = value_at read_cmp s.reads; overlaps = value_at sta
 pub record Shows (J : Rules) (M : OnKey) (s : Kept) : Type 0 where
   pub indexes : AreIndexes M s.indexes
   pub right : IsRight J M (found_in s)
-  pub whole : s.spoiled ≡ false
 
 -- no write, no read of a committed transaction and no set-up value is on the key
 pub record IsBare (M : OnKey) : Type 0 where

@@ -1,13 +1,13 @@
 pub mod Commits
 pub mod Following
-pub mod Held
 pub mod Indexes
 pub mod Judges
+pub mod KeyParts
 pub mod Kept
 pub mod Maps
 pub mod Mending
 pub mod Readers
 pub mod Sights
-pub mod Spread
 pub mod States
 pub mod Touched
+pub mod Values

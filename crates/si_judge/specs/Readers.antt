@@ -12,7 +12,7 @@ use Rattle.si_model.specs.declared.numbers.Stamp.{Stamp}
 use Rattle.si_model.specs.declared.numbers.Value.{Value}
 use Rattle.si_model.specs.Operations.{same_value}
 use Rattle.si_sorted.specs.Entries.{Sets, value_at}
-use Rattle.si_judge.specs.Spread.{value_cmp}
+use Rattle.si_judge.specs.Values.{value_cmp}
 use Rattle.si_judge.specs.declared.reads.Reader.{Reader}
 
 -- readers in their order

@@ -1,3 +1,5 @@
+//! Who judges: a trait, whose answers are counted, and the judge of snapshot isolation.
+
 ghost use Rattle.std.specs.Prelude.{◌≡◌};
 
 use si_model::cases::{kind_of, overlaps};

@@ -1,3 +1,6 @@
+//! The findings on one key, without the transactions there: how each edit mends the indexes and the judgements. What these are stands in
+//! `indexes.rt` and `judgements.rt`.
+
 ghost use Rattle.std.specs.Prelude.{◌≡◌, ◌↔◌, ◌++◌, List, None, Some, Option, Err, false, true, IfOk, IsTrue, OnErr, OnOk, map};
 ghost use Rattle.std.specs.List.{Contains};
 ghost use Rattle.si_model.specs.declared.parts.OnKey.{OnKey};
@@ -7,7 +10,6 @@ ghost use Rattle.si_model.specs.Edits.{status_after};
 ghost use Rattle.si_model.specs.Findings.{finding_at, findings_on};
 ghost use Rattle.si_model.specs.History.{IsOfHistory};
 ghost use Rattle.si_model.specs.KeyEdits.{arrived_on, resolved_on, set_up_on, withdrawn_on};
-ghost use Rattle.si_judge.specs.declared.states.KeyFault.TheVariants as fault;
 ghost use Rattle.si_judge.specs.Touched.{IsTouched, IsTouchedBySetUp};
 ghost use Rattle.si_judge.specs.States.{AreSameOnKey};
 ghost use Rattle.si_judge.specs.Kept.{IsBare, IsInDoubt, IsShown, Shows};
@@ -19,7 +21,6 @@ use crate::Judge;
 use crate::indexes::{Indexes, TakenOut};
 use crate::judgements::Judgements;
 use crate::reads::{OwnRead, Write, reads_in, version_by, writes_of};
-use crate::states::KeyFault;
 use si_model::sorting::put_in_order;
 use si_model::{Finding, Key, Kind, OutOfMemory, Outcome, Part, Value};
 use std::alloc::Global;
@@ -29,15 +30,14 @@ use std::marker::Model;
 /// The findings on one key, mended after each edit, without the transactions there.
 ///
 /// Who asks for an edit knows what is on the key, and hands over the part of the transaction. Contracts say what the edit makes
-/// of whatever is on the key. An edit for which the growth of some memory is refused spoils the findings for good.
+/// of whatever is on the key. After an edit for which the growth of some memory was refused nothing is known of them but their key: their
+/// owner asks nothing more of them.
 #[derive(Drop)]
 pub struct KeyFindings<J: Judge + Drop> {
     alloc: Global,
     key: Key,
     indexes: Indexes,
     judgements: Judgements<J>,
-    // True from the beginning of an edit until it is whole, and so for good once memory was refused to one.
-    spoiled: bool,
 }
 
 impl<J: Judge + Drop> Model for KeyFindings<J> {
@@ -51,7 +51,6 @@ impl<J: Judge + Drop> Model for KeyFindings<J> {
       reads = s.judgements.reads.entries;
       overlaps = s.judgements.overlaps.entries;
       judged = J.answers s.judgements.judge;
-      spoiled = s.spoiled;
     } };
 }
 
@@ -67,66 +66,42 @@ impl<J: Judge + Drop> KeyFindings<J> {
             key,
             indexes: Indexes::new(alloc),
             judgements: Judgements::new(alloc, judge),
-            spoiled: false,
         }
     }
 
     /// A transaction arrives that does this on the key.
-    ///
-    /// `Spoiled` says that memory was refused to an earlier edit, and nothing changes; `OutOfMemory` that the growth of some memory was
-    /// refused, and the findings are spoiled from then on.
-    pub fn arrive(&mut self, part: &Part) -> Result<(), KeyFault>
-        requires { self.old.spoiled ≡ false → (M : OnKey) × Shows J.rules M self.old × IsOfHistory (arrived_on part.now M) }
-        ensures ok { OnOk result ((M : OnKey) → Shows J.rules M self.old → IsOfHistory (arrived_on part.now M)
-            → IsShown J.rules (IsTouched M (arrived_on part.now M) part.now.id) (arrived_on part.now M) self.old self.new) }
-        ensures spoiled { (result ≡ Err fault.Spoiled) ↔ (self.old.spoiled ≡ true) }
-        ensures unchanged { self.old.spoiled ≡ true → self.new ≡ self.old }
-        ensures wanting { OnErr result (self.new.spoiled ≡ true) }
+    pub fn arrive(&mut self, part: &Part) -> Result<(), OutOfMemory>
+        requires { (M : OnKey) × Shows J.rules M self.old × IsOfHistory (arrived_on part.now M) }
+        ensures ok { OnOk result ((M R : OnKey) → Shows J.rules M self.old → IsOfHistory (arrived_on part.now M) → AreSameOnKey (arrived_on part.now M) R
+            → IsOfHistory R → IsShown J.rules (IsTouched M R part.now.id) R self.old self.new) }
         ensures key { self.new.key ≡ self.old.key }
     {
-        begin(&mut self.spoiled)?;
         add(self.alloc, &mut self.indexes, &mut self.judgements, part)?;
-        self.spoiled = false;
         Ok(())
     }
 
     /// The transaction that does this on the key, and is in doubt, is resolved. It becomes what it is from then on.
-    ///
-    /// `Spoiled` says that memory was refused to an earlier edit, and nothing changes; `OutOfMemory` that the growth of some memory was
-    /// refused, and the findings are spoiled from then on.
-    pub fn resolve(&mut self, part: &mut Part, outcome: Outcome) -> Result<(), KeyFault>
-        requires { self.old.spoiled ≡ false → (M : OnKey) × Shows J.rules M self.old × IsInDoubt part.old M
+    pub fn resolve(&mut self, part: &mut Part, outcome: Outcome) -> Result<(), OutOfMemory>
+        requires { (M : OnKey) × Shows J.rules M self.old × IsInDoubt part.old M
             × IsOfHistory (resolved_on part.old.id outcome M) }
         ensures ok { OnOk result ((M R : OnKey) → Shows J.rules M self.old → IsInDoubt part.old M → AreSameOnKey (resolved_on part.old.id outcome M) R
             → IsOfHistory R → IsShown J.rules (IsTouched M R part.old.id) R self.old self.new) }
         ensures part { OnOk result (part.new ≡ record part.old { status = status_after outcome }) }
-        ensures spoiled { (result ≡ Err fault.Spoiled) ↔ (self.old.spoiled ≡ true) }
-        ensures unchanged { self.old.spoiled ≡ true → self.new ≡ self.old }
-        ensures wanting { OnErr result (self.new.spoiled ≡ true) }
         ensures key { self.new.key ≡ self.old.key }
     {
-        begin(&mut self.spoiled)?;
         self.indexes.take_out(self.alloc, part)?;
         part.status = outcome.status();
         add(self.alloc, &mut self.indexes, &mut self.judgements, part)?;
-        self.spoiled = false;
         Ok(())
     }
 
     /// The transaction that does this on the key is withdrawn.
-    ///
-    /// `Spoiled` says that memory was refused to an earlier edit, and nothing changes; `OutOfMemory` that the growth of some memory was
-    /// refused, and the findings are spoiled from then on.
-    pub fn withdraw(&mut self, part: &Part) -> Result<(), KeyFault>
-        requires { self.old.spoiled ≡ false → (M : OnKey) × Shows J.rules M self.old × Contains M.parts part.now }
+    pub fn withdraw(&mut self, part: &Part) -> Result<(), OutOfMemory>
+        requires { (M : OnKey) × Shows J.rules M self.old × Contains M.parts part.now }
         ensures ok { OnOk result ((M R : OnKey) → Shows J.rules M self.old → Contains M.parts part.now → AreSameOnKey (withdrawn_on part.now.id M) R
             → IsOfHistory R → IsShown J.rules (IsTouched M R part.now.id) R self.old self.new) }
-        ensures spoiled { (result ≡ Err fault.Spoiled) ↔ (self.old.spoiled ≡ true) }
-        ensures unchanged { self.old.spoiled ≡ true → self.new ≡ self.old }
-        ensures wanting { OnErr result (self.new.spoiled ≡ true) }
         ensures key { self.new.key ≡ self.old.key }
     {
-        begin(&mut self.spoiled)?;
         let taken = self.indexes.take_out(self.alloc, part)?;
         drop_out(
             self.alloc,
@@ -135,45 +110,31 @@ impl<J: Judge + Drop> KeyFindings<J> {
             part,
             &taken,
         )?;
-        self.spoiled = false;
         Ok(())
     }
 
     /// The key, which isn't set up, is set up with the value.
-    ///
-    /// `Spoiled` says that memory was refused to an earlier edit, and nothing changes; `OutOfMemory` that the growth of some memory was
-    /// refused, and the findings are spoiled from then on.
-    pub fn set_up(&mut self, value: Value) -> Result<(), KeyFault>
+    pub fn set_up(&mut self, value: Value) -> Result<(), OutOfMemory>
         ensures ok { OnOk result ((M : OnKey) → Shows J.rules M self.old → M.initial ≡ None → IsOfHistory (set_up_on value M)
             → IsShown J.rules (IsTouchedBySetUp (set_up_on value M) value) (set_up_on value M) self.old self.new) }
         ensures initial { OnOk result (self.new.indexes.initial ≡ Some value) }
-        ensures spoiled { (result ≡ Err fault.Spoiled) ↔ (self.old.spoiled ≡ true) }
-        ensures unchanged { self.old.spoiled ≡ true → self.new ≡ self.old }
-        ensures wanting { OnErr result (self.new.spoiled ≡ true) }
         ensures key { self.new.key ≡ self.old.key }
     {
-        begin(&mut self.spoiled)?;
         self.indexes.initial = Some(value);
         let mut reads = Vec::new(self.alloc);
         self.indexes.add_readers(&mut reads, None, None)?;
         self.indexes.add_readers(&mut reads, Some(value), None)?;
         self.judgements
             .judge_reads(&self.indexes, reads.as_slice())?;
-        self.spoiled = false;
         Ok(())
     }
 
     /// The findings on the key, in order.
     ///
-    /// `Spoiled` says that memory was refused to an earlier edit, `OutOfMemory` that the growth of some memory was refused for them.
-    /// Nothing changes.
-    pub fn findings(&self) -> Result<Vec<Finding>, KeyFault>
-        ensures ok { IfOk result (λ found. (M : OnKey) → Shows J.rules M self.now → found.items ≡ findings_on J.rules self.now.key M) }
-        ensures spoiled { (result ≡ Err fault.Spoiled) ↔ (self.now.spoiled ≡ true) }
+    /// `OutOfMemory` says that the growth of some memory was refused for them. Nothing changes.
+    pub fn findings(&self) -> Result<Vec<Finding>, OutOfMemory>
+        ensures { IfOk result (λ found. (M : OnKey) → Shows J.rules M self.now → found.items ≡ findings_on J.rules self.now.key M) }
     {
-        if self.spoiled {
-            return Err(KeyFault::Spoiled);
-        }
         let mut found = Vec::new(self.alloc);
         add_findings(&mut found, &self.key, &self.judgements.reads)?;
         add_findings(&mut found, &self.key, &self.judgements.overlaps)?;
@@ -210,13 +171,6 @@ impl<J: Judge + Drop> KeyFindings<J> {
         self.judgements.judge.calls()
     }
 
-    /// Whether memory was refused to an edit. It stays so for good.
-    pub fn is_spoiled(&self) -> bool
-        ensures { result ≡ self.now.spoiled }
-    {
-        self.spoiled
-    }
-
     /// What the initial version returns.
     pub fn initial(&self) -> Option<Value>
         ensures { result ≡ self.now.indexes.initial }
@@ -225,14 +179,14 @@ impl<J: Judge + Drop> KeyFindings<J> {
     }
 
     /// Whether no write, no read of a committed transaction and no set-up value is on the key, so that new findings of it would
-    /// show the same. It means nothing where they are spoiled.
+    /// show the same.
     pub fn is_bare(&self) -> bool
         ensures { (M : OnKey) → Shows J.rules M self.now → IsTrue result ↔ IsBare M }
     {
         self.indexes.is_empty()
     }
 
-    /// Whether anything is found on the key. It means nothing where the findings are spoiled.
+    /// Whether anything is found on the key.
     pub fn has_findings(&self) -> bool
         ensures { (M : OnKey) → Shows J.rules M self.now → IsTrue result ↔ ((f : Finding) × Contains (findings_on J.rules self.now.key M) f) }
     {
@@ -240,19 +194,6 @@ impl<J: Judge + Drop> KeyFindings<J> {
         let overlaps = self.judgements.overlaps.len();
         reads + overlaps > 0
     }
-}
-
-/// Begins an edit of what is kept of a key, which is spoiled until the edit is whole. Where an earlier one has spoiled it, none begins.
-pub(crate) fn begin(spoiled: &mut bool) -> Result<(), KeyFault>
-    ensures ok { OnOk result (spoiled.old ≡ false) }
-    ensures spoiled { (result ≡ Err fault.Spoiled) ↔ (spoiled.old ≡ true) }
-    ensures begun { spoiled.new ≡ true }
-{
-    if *spoiled {
-        return Err(KeyFault::Spoiled);
-    }
-    *spoiled = true;
-    Ok(())
 }
 
 /// Adds what was found, as findings on the key.

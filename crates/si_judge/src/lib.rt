@@ -6,7 +6,6 @@
 //! stands on `si_model`, `si_sorted` and `si_timeline`, and its proofs on `si_lists`.
 #![tactic(auto)]
 
-mod held;
 mod indexes;
 mod judgements;
 pub mod judges;
@@ -16,7 +15,6 @@ mod maps;
 mod parts;
 mod readers;
 mod reads;
-mod spread;
 pub mod states;
 mod versions;
 

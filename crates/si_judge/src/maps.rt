@@ -5,7 +5,7 @@ ghost use Rattle.std.specs.BTreeMap.{Updates};
 ghost use Rattle.std.specs.Ordering.{eq_by_cmp};
 ghost use Rattle.si_judge.specs.Indexes.{others_among};
 ghost use Rattle.si_judge.specs.Maps.{AreInserted, AreTakenOut};
-ghost use Rattle.si_judge.specs.Spread.{at_value, value_cmp};
+ghost use Rattle.si_judge.specs.Values.{at_value, value_cmp};
 
 use crate::reads::Write;
 use si_model::{OutOfMemory, Value};

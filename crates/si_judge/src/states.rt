@@ -1,3 +1,6 @@
+//! The state of one key: its findings with the transactions beside them, so that an edit is asked for by an id, and whether memory was
+//! refused to one.
+
 ghost use Rattle.std.specs.Prelude.{◌≡◌, ◌↔◌, List, [], None, Option, Err, false, true, IfErr, IfOk, IsTrue, OnErr, OnOk};
 ghost use Rattle.std.specs.List.{Contains};
 ghost use Rattle.si_model.specs.declared.parts.OnKey.{OnKey};
@@ -10,8 +13,8 @@ ghost use Rattle.si_judge.specs.Touched.{IsTouched, IsTouchedBySetUp};
 ghost use Rattle.si_judge.specs.States.{HasDoubt, HasPart, IsMended, IsSpoiledBy, key_fault_code};
 
 use crate::Judge;
-use crate::key_findings::{KeyFindings, begin};
-use crate::parts::HeldParts;
+use crate::key_findings::KeyFindings;
+use crate::parts::KeyParts;
 use si_model::{Finding, Key, Outcome, Part, TxnId, Value};
 use std::alloc::{AllocError, AllocFailed, Global};
 use std::marker::Model;
@@ -69,9 +72,9 @@ impl<T: Drop> From<AllocFailed<T>> for KeyFault {
 /// every later edit and `findings` answers `Spoiled`.
 #[derive(Drop)]
 pub struct KeyState<J: Judge + Drop> {
-    alloc: Global,
     findings: KeyFindings<J>,
-    parts: HeldParts,
+    // The transactions on the key.
+    parts: KeyParts,
     // True from the beginning of an edit until it is whole, and so for good once memory was refused to one.
     spoiled: bool,
 }
@@ -104,9 +107,8 @@ impl<J: Judge + Drop> KeyState<J> {
         } }
     {
         KeyState {
-            alloc,
             findings: KeyFindings::new(alloc, key, judge),
-            parts: HeldParts::new(alloc),
+            parts: KeyParts::new(alloc),
             spoiled: false,
         }
     }
@@ -124,7 +126,7 @@ impl<J: Judge + Drop> KeyState<J> {
     {
         begin(&mut self.spoiled)?;
         self.findings.arrive(&part)?;
-        self.parts.insert(self.alloc, part)?;
+        self.parts.insert(part)?;
         self.spoiled = false;
         Ok(())
     }
@@ -141,9 +143,9 @@ impl<J: Judge + Drop> KeyState<J> {
         ensures wanting { OnErr result (IsSpoiledBy self.old self.new) }
     {
         begin(&mut self.spoiled)?;
-        let mut part = self.parts.remove(self.alloc, id)?;
+        let mut part = self.parts.remove(id);
         self.findings.resolve(&mut part, outcome)?;
-        self.parts.insert(self.alloc, part)?;
+        self.parts.insert(part)?;
         self.spoiled = false;
         Ok(())
     }
@@ -160,7 +162,7 @@ impl<J: Judge + Drop> KeyState<J> {
         ensures wanting { OnErr result (IsSpoiledBy self.old self.new) }
     {
         begin(&mut self.spoiled)?;
-        let part = self.parts.remove(self.alloc, id)?;
+        let part = self.parts.remove(id);
         self.findings.withdraw(&part)?;
         self.spoiled = false;
         Ok(())
@@ -194,7 +196,7 @@ impl<J: Judge + Drop> KeyState<J> {
         if self.spoiled {
             return Err(KeyFault::Spoiled);
         }
-        self.findings.findings()
+        Ok(self.findings.findings()?)
     }
 
     /// How many answers the judge has given, in this state's time and before it.
@@ -224,4 +226,17 @@ impl<J: Judge + Drop> KeyState<J> {
     {
         self.findings.has_findings()
     }
+}
+
+/// Begins an edit of a key's state, which is spoiled until the edit is whole. Where an earlier one has spoiled it, none begins.
+fn begin(spoiled: &mut bool) -> Result<(), KeyFault>
+    ensures ok { OnOk result (spoiled.old ≡ false) }
+    ensures spoiled { (result ≡ Err fault.Spoiled) ↔ (spoiled.old ≡ true) }
+    ensures begun { spoiled.new ≡ true }
+{
+    if *spoiled {
+        return Err(KeyFault::Spoiled);
+    }
+    *spoiled = true;
+    Ok(())
 }

@@ -1,3 +1,5 @@
+//! The edits of a history, and how many a journal may have.
+
 ghost use Rattle.std.specs.Prelude.{◌≡◌, IfOk};
 
 use crate::{Key, OutOfMemory, Outcome, Txn, TxnId, Value};

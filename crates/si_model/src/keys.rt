@@ -1,3 +1,5 @@
+//! Keys: short texts in themselves, longer ones shared, with their order, their hash and the shard of each.
+
 ghost use Rattle.std.specs.Prelude.{◌≡◌, ℕ, ◌<◌, ◌≤◌, ◌↔◌, ◌%◌, IsTrue, IfOk, List, fold, length, take};
 ghost use Rattle.std.specs.String.{string_bytes};
 ghost use Rattle.si_model.specs.KeyTexts.{IsKeyText, shard_hash, shard_hash_with, shard_number};

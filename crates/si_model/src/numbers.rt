@@ -1,3 +1,5 @@
+//! The numbers of a history, each of a type of its own, so that none is taken for another.
+
 /// The id of a transaction, chosen by the tester. No id is special.
 #[derive(Clone, Copy, Debug, PartialEq, Eq, PartialOrd, Ord, Hash)]
 pub struct TxnId(pub u64);

@@ -1,3 +1,5 @@
+//! Operations, and the list of a transaction's, whose copies share it.
+
 ghost use Rattle.std.specs.Prelude.{◌≡◌, ◌≤◌, IfOk, length};
 ghost use Rattle.std.specs.List.{list_any};
 ghost use Rattle.si_model.specs.Operations.{key_of, access_of, is_write, same_write};

@@ -1,3 +1,5 @@
+//! What a judge looks at to judge one read.
+
 use crate::{Stamp, TxnId, Value};
 
 /// A committed transaction that installs a version of a key.

@@ -1,3 +1,5 @@
+//! Transactions, and what becomes of them.
+
 ghost use Rattle.std.specs.Prelude.{◌≡◌, IfOk};
 ghost use Rattle.si_model.specs.Parts.{writes_some};
 ghost use Rattle.si_model.specs.Versions.{commit_of};

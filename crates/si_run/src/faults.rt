@@ -1,3 +1,5 @@
+//! Why a run ended before its inputs did.
+
 use si_checker::OpenFault;
 use si_text::DeviceFailed;
 use std::alloc::AllocError;

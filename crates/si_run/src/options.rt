@@ -1,3 +1,5 @@
+//! What a caller chooses of a run.
+
 /// How many shards there are where nothing asks for another number.
 pub const USUAL_SHARDS: usize = 4;
 

@@ -1,3 +1,6 @@
+//! A run, from the inputs to the status: it opens the checker and the intake, starts a thread for each source and a worker for each shard,
+//! and accepts on the caller's thread. What a source does stands in `sources.rt`, what the accepter does in `accepters.rt`.
+
 ghost use Rattle.std.specs.Prelude.{◌≡◌, ◌≤◌, ◌++◌, All, Err, List, [], false, length, map, IfOk, IfErr, OnOk, OnErr};
 ghost use Rattle.std.specs.Thread.{IsSend, IsSync};
 ghost use Rattle.si_intake.specs.declared.openings.TheConstants.{MOST_SOURCES};

@@ -1,3 +1,5 @@
+//! The exit status of a run, by its last report and by what was refused.
+
 ghost use Rattle.std.specs.Prelude.{◌≡◌};
 ghost use Rattle.si_run.specs.Outputs.{status_by, exit_code};
 

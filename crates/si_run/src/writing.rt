@@ -1,3 +1,5 @@
+//! Writing a text whole, in as many writes as the device asks for.
+
 ghost use Rattle.std.specs.Prelude.{◌≡◌, ◌||◌, ◌++◌, List, ℕ, true, is_err, OnOk, OnErr};
 ghost use Rattle.std.specs.Io.KnownBytes.{Appends};
 ghost use Rattle.si_run.specs.Runs.{AppendsPart};

@@ -1,3 +1,5 @@
+//! Why a script isn't read.
+
 use std::alloc::{AllocError, AllocFailed};
 use thiserror::Error;
 

@@ -1,3 +1,5 @@
+//! What a script leaves present, by the plain definition.
+
 use crate::ScriptFault;
 use crate::edits::{pair_of, txn_of};
 use si_model::{Key, Txn, Value};

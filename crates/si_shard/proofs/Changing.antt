@@ -18,9 +18,9 @@ use Rattle.si_shard.specs.Changes.{IsChanged}
 
 module _ {A E : Type 0} (old new : Kept) (key : new.key ≡ old.key) where
   pub by_arrival : (r : Result A E) (T : Part)
-      → OnOk r ((Q : OnKey) → Shows cases Q old → IsOfHistory (arrived_on T Q) → IsShown cases (IsTouched Q (arrived_on T Q) T.id) (arrived_on T Q) old new)
+      → OnOk r ((Q R : OnKey) → Shows cases Q old → IsOfHistory (arrived_on T Q) → AreSameOnKey (arrived_on T Q) R → IsOfHistory R → IsShown cases (IsTouched Q R T.id) R old new)
       → OnOk r (IsChanged (change.Arrive T) old new)
-  by_arrival (Ok a) T ok = record { key = key; shows = λ Q shows can. (ok Q shows can.history).shows }
+  by_arrival (Ok a) T ok = record { key = key; shows = λ Q shows can. (ok Q (arrived_on T Q) shows can.history (same_itself (arrived_on T Q)) can.history).shows }
   by_arrival (Err e) T ok = tt
 
   pub by_resolution : (r : Result A E) (T : Part) (o : Outcome)

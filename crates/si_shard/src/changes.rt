@@ -6,9 +6,8 @@ ghost use Rattle.si_model.specs.Findings.{cases};
 ghost use Rattle.si_judge.specs.Kept.{Shows};
 ghost use Rattle.si_shard.specs.Changes.{CanChange, IsChanged, with_access};
 
-use si_judge::{Cases, KeyFault, KeyFindings};
+use si_judge::{Cases, KeyFindings};
 use si_model::{OutOfMemory, Outcome, Part, Placed, Value};
-use std::alloc::AllocError;
 
 /// What an edit is on one key that it touches. A resolution and a withdrawal have the part as it is before them.
 #[derive(Debug, Drop)]
@@ -40,18 +39,8 @@ impl Change {
     }
 }
 
-/// Makes the change of one key. Its findings aren't spoiled, so that it fails only where memory is refused.
+/// Makes the change of one key.
 pub fn make_change(kept: &mut KeyFindings<Cases>, change: Change) -> Result<(), OutOfMemory>
-    requires { (Q : OnKey) × Shows cases Q kept.old × CanChange change Q }
-    ensures { OnOk result (IsChanged change kept.old kept.new) }
-{
-    match mend(kept, change) {
-        Ok(()) => Ok(()),
-        Err(_) => Err(AllocError),
-    }
-}
-
-fn mend(kept: &mut KeyFindings<Cases>, change: Change) -> Result<(), KeyFault>
     requires { (Q : OnKey) × Shows cases Q kept.old × CanChange change Q }
     ensures { OnOk result (IsChanged change kept.old kept.new) }
 {

@@ -20,7 +20,7 @@ use indexmap::IndexMap;
 use si_hashing::KeyHash;
 use si_judge::{Cases, KeyFindings};
 use si_model::{Finding, Key, OutOfMemory};
-use std::alloc::{AllocError, Global};
+use std::alloc::Global;
 use std::collections::BTreeSet;
 use std::hash::RandomState;
 
@@ -130,9 +130,7 @@ impl KeyStates {
         ensures { OnOk result ((Q : OnKey) → IsOn self.now key.now Q → all.new.items ≡ all.old.items ++ findings_on cases key.now Q) }
     {
         if let Some(kept) = self.states.get(key) {
-            let Ok(mut found) = kept.findings() else {
-                return Err(AllocError);
-            };
+            let mut found = kept.findings()?;
             all.append(&mut found)?;
         }
         Ok(())

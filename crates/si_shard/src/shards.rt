@@ -1,3 +1,6 @@
+//! A shard: the edits that it was given, those of them that it keeps, and what these make of its keys, or that it is spoiled. What one edit
+//! is on the keys stands in `applied.rt`.
+
 ghost use Rattle.std.specs.Prelude.{◌≡◌, ◌↔◌, ℕ, ◌+◌, ◌<◌, ◌≤◌, true, false, [], ◌∷◌, ◌++◌, length, Err, IfOk, OnOk, OnErr};
 ghost use Rattle.si_model.specs.Journals.{IsAccepted, present};
 ghost use Rattle.si_judge.specs.declared.states.KeyFault.TheVariants as fault;

@@ -1,3 +1,5 @@
+//! Devices as this crate sees them: where bytes come from and where they go to, with what contracts know of each.
+
 ghost use Rattle.std.specs.Prelude.{◌≡◌, ◌≤◌, ◌<◌, ◌||◌, ℕ, List, Bool, Option, length, is_err, IfOk};
 ghost use Rattle.std.specs.Io.{ReadsAtMost, WritesAtMost};
 ghost use Rattle.std.specs.Io.KnownBytes.{ReadConsumes, WriteAppends};

@@ -1,3 +1,5 @@
+//! Evidence as text: a line behind its finding.
+
 ghost use Rattle.std.specs.Prelude.{◌≡◌, ◌++◌, OnOk, OnErr};
 ghost use Rattle.std.specs.List.{flat_map};
 ghost use Rattle.si_text.specs.Printing.{Appends};

@@ -1,3 +1,5 @@
+//! Why a line isn't an edit: the faults with their numbers, and the fields that one can name.
+
 ghost use Rattle.std.specs.Prelude.{◌≡◌};
 ghost use Rattle.si_text.specs.Faults.{field_name, fault_code};
 

@@ -1,3 +1,5 @@
+//! From pieces of bytes to lines: the reader of lines, which joins what a piece begins and a later one ends, and numbers them.
+
 ghost use Rattle.std.specs.Prelude.{◌≡◌, ◌≤◌, ◌<◌, ◌+◌, ◌^◌, ◌-◌, ◌∷◌, ◌++◌, ◌||◌, ◌⊎◌, List, ℕ, [], true, false, not, length, is_err, IfOk, OnOk, OnErr, IfErr, IsNone, take, vec_len, MatchBool};
 ghost use Rattle.std.specs.Option.{option_to_list};
 ghost use Rattle.std.specs.Io.KnownBytes.{Consumes, IsAtEnd, Keeps};

@@ -1,3 +1,5 @@
+//! From a line to its item: none where it is blank, else what reading it gives.
+
 ghost use Rattle.std.specs.Prelude.{◌≡◌, ◌==◌, not, IfOk};
 ghost use Rattle.std.specs.List.{list_all, prefix_len};
 ghost use Rattle.std.specs.Option.{option_to_list};

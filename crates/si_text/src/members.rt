@@ -1,3 +1,5 @@
+//! The members of a JSON object that a line needs, each with its fault.
+
 ghost use Rattle.std.specs.Prelude.{◌≡◌};
 ghost use Rattle.serde_json.specs.View.{view};
 ghost use Rattle.si_text.specs.Lines.{Gives, number_at, text_at, status_at, status_named, outcome_of};

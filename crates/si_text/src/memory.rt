@@ -1,3 +1,5 @@
+//! Devices in memory, and ones that fail after so many calls: for tests, and for callers who have the bytes.
+
 ghost use Rattle.std.specs.Prelude.{◌≡◌, ◌≤◌, ◌<◌, ◌+◌, ◌||◌, ◌==◌, Some, Ok, [], length, drop, min, true, false, vec_len, is_err, IfOk};
 ghost use Rattle.std.specs.Io.{ReadsAtMost, WritesAtMost};
 ghost use Rattle.std.specs.Io.KnownBytes.{ReadConsumes, WriteAppends};

@@ -1,3 +1,5 @@
+//! From a JSON array to a transaction's operations.
+
 ghost use Rattle.std.specs.Prelude.{◌≡◌, ◌≤◌, length, map, is_some};
 ghost use Rattle.si_model.specs.KeyTexts.{IsKeyText};
 ghost use Rattle.serde_json.specs.View.{view};

@@ -1,3 +1,5 @@
+//! The bytes that were read at once, of which lines are taken.
+
 ghost use Rattle.std.specs.Prelude.{◌≡◌, ◌≤◌, ◌||◌, [], length, drop, ◌<◌, IfOk, is_err, OnErr, MatchBool};
 ghost use Rattle.std.specs.Io.KnownBytes.{Consumes, IsAtEnd, Keeps};
 ghost use Rattle.si_text.specs.Devices.{turned_by};

@@ -1,3 +1,5 @@
+//! Findings, refusals and reports as text. Each call appends to the caller's bytes, and cuts them back where memory is refused.
+
 ghost use Rattle.std.specs.Prelude.{◌≡◌, ◌++◌, decimal, codes, length, OnOk, OnErr, IfOk};
 ghost use Rattle.std.specs.List.{flat_map, list_all};
 ghost use Rattle.si_text.specs.Printing.{Appends, is_plain};

@@ -1,3 +1,5 @@
+//! From a line to an edit: first by its tokens, if it is an arrival in the usual form, and else by its JSON value.
+
 ghost use Rattle.std.specs.Prelude.{◌≡◌, ◌≢◌, IfOk, IfErr};
 ghost use Rattle.serde_json.specs.View.{view};
 ghost use Rattle.si_text.specs.Lines.{Gives, value_of, object_edit, arrival_of, resolution_of, withdrawal_of, set_up_of, edit_of};

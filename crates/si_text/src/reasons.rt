@@ -1,3 +1,5 @@
+//! Why a line changed nothing: it isn't an edit, or the edit was refused. Both have their numbers in one row.
+
 ghost use Rattle.std.specs.Prelude.{◌≡◌};
 ghost use Rattle.si_text.specs.Texts.{reason_code, refusal_code};
 

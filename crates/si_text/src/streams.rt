@@ -1,3 +1,5 @@
+//! Devices over std's readers and writers: files, pipes, the standard streams.
+
 ghost use Rattle.std.specs.Prelude.{◌≡◌, ◌↔◌, IsTrue, false};
 ghost use Rattle.std.specs.IoError.{error_kind};
 

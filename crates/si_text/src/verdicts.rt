@@ -1,3 +1,5 @@
+//! The verdict over a list of findings.
+
 ghost use Rattle.std.specs.Prelude.{◌≡◌};
 ghost use Rattle.std.specs.List.{list_any};
 ghost use Rattle.si_text.specs.Texts.{is_violation, verdict_of, verdict_text};

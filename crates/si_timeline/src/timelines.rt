@@ -1,3 +1,5 @@
+//! The versions of one key in the order of their commits, and the neighbours of a stamp among them.
+
 ghost use Rattle.std.specs.Prelude.{◌≡◌, ◌==◌, ◌-◌, ◌++◌, [], length, slice_get, OnOk, OnErr};
 ghost use Rattle.std.specs.List.{find};
 ghost use Rattle.std.specs.Option.{MatchOption};

@@ -1,3 +1,5 @@
+//! A version, but for its commit, under which it stands.
+
 use si_model::{Stamp, TxnId, Value};
 
 /// A version of a key, which the last write of a committed transaction installed at its commit.

@@ -1,3 +1,5 @@
+//! Lines out of bytes in pieces of any size, with devices that fail.
+
 use super::known_keys::no_keys;
 use super::{Host, are_same, are_same_at, bytes_of, is_text};
 use si_model::Edit;

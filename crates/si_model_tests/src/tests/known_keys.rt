@@ -1,3 +1,5 @@
+//! Keys that share their texts, known and forgotten.
+
 use super::{Host, are_same, halves, secret_key};
 use si_model::Key;
 use si_text::KnownKeys;

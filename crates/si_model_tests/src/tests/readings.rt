@@ -1,3 +1,5 @@
+//! Lines that are edits, and lines that are faulty, by the table of docs/FORMAT.md.
+
 use super::{Host, are_same_at, bytes_of, halves, repeated};
 use si_model::{Edit, TxnId};
 use si_scripts::edit_of;

@@ -1,3 +1,5 @@
+//! Printed lines, byte by byte, by docs/FORMAT.md.
+
 use super::{Host, are_same, is_text};
 use si_model::{
     Edge, Evidence, Finding, Key, Kind, Label, Refusal, Stamp, TxnId, Value, Walk, findings_of,

@@ -2,7 +2,7 @@ use Rattle.std.proofs.Common.{take}
 use Rattle.std.specs.Ordering.{eq_by_cmp}
 use Rattle.si_judge.specs.Indexes.{others_among}
 use Rattle.si_judge.specs.Maps.{AreTakenOut}
-use Rattle.si_judge.specs.Spread.{at_value, value_cmp}
+use Rattle.si_judge.specs.Values.{at_value, value_cmp}
 use Rattle.si_judge.proofs.maps.remove_writes.Given as goal
 
 abbrev pub invariant-loop-write : goal.invariant-loop-write

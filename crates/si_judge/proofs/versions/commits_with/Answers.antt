@@ -5,7 +5,7 @@ use Rattle.si_sorted.specs.Entries.{Sets}
 use Rattle.si_timeline.specs.Timelines.{Adds, Dated}
 use Rattle.si_timeline.specs.declared.versions.Version.{Version}
 use Rattle.si_judge.specs.Commits.{AreCommitsOf}
-use Rattle.si_judge.specs.Spread.{value_cmp}
+use Rattle.si_judge.specs.Values.{value_cmp}
 use Rattle.si_judge.proofs.Commits.{grown}
 use Rattle.si_judge.proofs.PartLists.{added_are}
 use Rattle.si_judge.proofs.versions.commits_with.Goals as goal

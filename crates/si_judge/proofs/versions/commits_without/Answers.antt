@@ -3,7 +3,7 @@ use Rattle.std.specs.Option.{MatchOption}
 use Rattle.std.specs.Prelude.{⊤}
 use Rattle.si_sorted.specs.Entries.{Sets}
 use Rattle.si_judge.specs.Commits.{AreCommitsOf}
-use Rattle.si_judge.specs.Spread.{value_cmp}
+use Rattle.si_judge.specs.Values.{value_cmp}
 use Rattle.si_judge.proofs.Commits.{shrunk}
 use Rattle.si_judge.proofs.PartLists.{added_are}
 use Rattle.si_judge.proofs.versions.commits_without.Goals as goal

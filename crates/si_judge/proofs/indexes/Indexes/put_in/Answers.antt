@@ -3,7 +3,7 @@ use Rattle.std.specs.Ordering.{eq_by_cmp}
 use Rattle.si_judge.specs.declared.indexes.Indexes.{Indexes}
 use Rattle.si_judge.specs.Indexes.{others_among}
 use Rattle.si_judge.specs.Maps.{AreInserted}
-use Rattle.si_judge.specs.Spread.{at_value, value_cmp}
+use Rattle.si_judge.specs.Values.{at_value, value_cmp}
 use Rattle.si_judge.specs.Readers.{reader_cmp, own_at}
 use Rattle.si_judge.proofs.Coming.{came, keeps_once, lacks_version}
 use Rattle.si_judge.proofs.indexes.Indexes.put_in.Goals as goal

@@ -2,7 +2,7 @@ use Rattle.std.proofs.Common.{◌∙◌, refl, subst}
 use Rattle.si_judge.specs.declared.indexes.Indexes.{Indexes}
 use Rattle.si_judge.specs.Indexes.{others_among}
 use Rattle.si_judge.specs.Maps.{AreTakenOut}
-use Rattle.si_judge.specs.Spread.{at_value, value_cmp}
+use Rattle.si_judge.specs.Values.{at_value, value_cmp}
 use Rattle.si_judge.specs.Readers.{reader_cmp, own_at}
 use Rattle.std.specs.Ordering.{eq_by_cmp}
 use Rattle.si_judge.proofs.Coming.{has_version, went}

@@ -12,8 +12,8 @@ use Rattle.si_judge.proofs.key_findings.KeyFindings.findings.Goals as goal
 pub put_in_order-requires : goal.put_in_order-requires
 put_in_order-requires g c = record { exact = exact_findings }
 
-pub returns-clause-ok : goal.returns-clause-ok
-returns-clause-ok g c =
+pub returns : goal.returns
+returns g c =
     let J = g.J.Judge.rules in
     let m = c.self.inside.judgements in
     let at = finding_at c.self.inside.key in

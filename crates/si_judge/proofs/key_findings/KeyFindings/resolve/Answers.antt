@@ -1,4 +1,4 @@
-use Rattle.std.proofs.Common.{◌≡◌, false, refl, subst, sym}
+use Rattle.std.proofs.Common.{subst, sym}
 use Rattle.si_model.specs.declared.parts.OnKey.{OnKey}
 use Rattle.si_model.specs.Edits.{status_after}
 use Rattle.si_model.specs.KeyEdits.{resolved_on, withdrawn_on}
@@ -15,14 +15,14 @@ use Rattle.si_judge.proofs.key_findings.KeyFindings.resolve.Goals as goal
 pub take_out-requires : goal.take_out-requires
 take_out-requires g c =
     let T = c.args.part.now in
-    let asked = subst (λ s. s.spoiled ≡ false → (M : OnKey) × Shows g.J.Judge.rules M s × IsInDoubt T M × IsOfHistory (resolved_on T.id c.args.outcome M)) (sym c.self.view_is) c.requires c.in_ok-begin.ensures.ok in
+    let asked = subst (λ s. (M : OnKey) × Shows g.J.Judge.rules M s × IsInDoubt T M × IsOfHistory (resolved_on T.id c.args.outcome M)) (sym c.self.view_is) c.requires in
     (asked.0, asked.1.indexes, asked.2.part)
 
 pub add-requires : goal.add-requires
 add-requires g c =
     let T = c.args.part.now in
     let o = c.args.outcome in
-    let asked = subst (λ s. s.spoiled ≡ false → (M : OnKey) × Shows g.J.Judge.rules M s × IsInDoubt T M × IsOfHistory (resolved_on T.id o M)) (sym c.self.view_is) c.requires c.in_ok-begin.ensures.ok in
+    let asked = subst (λ s. (M : OnKey) × Shows g.J.Judge.rules M s × IsInDoubt T M × IsOfHistory (resolved_on T.id o M)) (sym c.self.view_is) c.requires in
     let M = asked.0 in
     let history = asked.1.indexes.history in
     let rest = withdrawn_on T.id M in
@@ -41,7 +41,7 @@ returns-clause-ok g c =
     let old = found_by g.J.Judge.answers c.self.inside.judgements in
     let new = found_by g.J.Judge.answers m in
     subst (λ s. (M R : OnKey) → Shows J M s → IsInDoubt T M → AreSameOnKey (resolved_on T.id o M) R → IsOfHistory R → IsShown J (IsTouched M R T.id) R s
-    (record { key = c.self.inside.key; indexes = new_ix; reads = m.reads.entries; overlaps = m.overlaps.entries; judged = new.answers; spoiled = false })) c.self.view_is
+    (record { key = c.self.inside.key; indexes = new_ix; reads = m.reads.entries; overlaps = m.overlaps.entries; judged = new.answers })) c.self.view_is
     (λ M R shows doubt same history.
     let before = shows.indexes.history in
     let rest = withdrawn_on T.id M in
@@ -51,4 +51,4 @@ returns-clause-ok g c =
     let is_new = c.in_ok-add.ensures.indexes rest R is (subst (λ s. Joins (record T { status = s }) rest R) (sym c.status-part.ensures) joins) history in
     let judged = subst (λ s. IsJudgedWith J (record T { status = s }) R ix new_ix old new) c.status-part.ensures (c.in_ok-add.ensures.judged R is_new) in
     let whole = resolved J ix new_ix T o M old new is is_new before left doubt.doubt joins shows.right judged in
-    record { shows = record { indexes = is_new; right = whole.right; whole = refl }; judged = whole.bound })
+    record { shows = record { indexes = is_new; right = whole.right }; judged = whole.bound })

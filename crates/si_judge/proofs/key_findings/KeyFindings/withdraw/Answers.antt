@@ -1,4 +1,4 @@
-use Rattle.std.proofs.Common.{◌≡◌, false, refl, subst, sym}
+use Rattle.std.proofs.Common.{subst, sym}
 use Rattle.std.specs.List.{Contains}
 use Rattle.si_model.specs.declared.parts.OnKey.{OnKey}
 use Rattle.si_model.specs.KeyEdits.{withdrawn_on}
@@ -13,7 +13,7 @@ use Rattle.si_judge.proofs.key_findings.KeyFindings.withdraw.Goals as goal
 
 pub take_out-requires : goal.take_out-requires
 take_out-requires g c =
-    let asked = subst (λ s. s.spoiled ≡ false → (M : OnKey) × Shows g.J.Judge.rules M s × Contains M.parts c.args.part.now) (sym c.self.view_is) c.requires c.in_ok-begin.ensures.ok in
+    let asked = subst (λ s. (M : OnKey) × Shows g.J.Judge.rules M s × Contains M.parts c.args.part.now) (sym c.self.view_is) c.requires in
     (asked.0, asked.1.indexes, asked.2)
 
 pub returns-clause-ok : goal.returns-clause-ok
@@ -25,9 +25,9 @@ returns-clause-ok g c =
     let old = found_by g.J.Judge.answers c.self.inside.judgements in
     let new = found_by g.J.Judge.answers c.drop_out.new.judgements in
     subst (λ s. (M R : OnKey) → Shows J M s → Contains M.parts T → AreSameOnKey (withdrawn_on T.id M) R → IsOfHistory R → IsShown J (IsTouched M R T.id) R s
-    (record { key = c.self.inside.key; indexes = ix; reads = m.reads.entries; overlaps = m.overlaps.entries; judged = new.answers; spoiled = false })) c.self.view_is
+    (record { key = c.self.inside.key; indexes = ix; reads = m.reads.entries; overlaps = m.overlaps.entries; judged = new.answers })) c.self.view_is
     (λ M R shows there same history.
     let joins = left_same T (withdrawn_on T.id M) R M (withdrawal_joins T M shows.indexes.history there) same in
     let is = c.in_ok-taken.ensures.indexes M R shows.indexes joins history in
     let whole = withdrawn J ix T M old new is shows.indexes.history joins shows.right (c.in_ok-drop_out.ensures R is) in
-    record { shows = record { indexes = is; right = whole.right; whole = refl }; judged = whole.bound })
+    record { shows = record { indexes = is; right = whole.right }; judged = whole.bound })

@@ -5,7 +5,7 @@ use Rattle.std.specs.Prelude.{⊤}
 use Rattle.si_model.specs.Operations.{same_value}
 use Rattle.si_timeline.specs.Timelines.{IsAt}
 use Rattle.si_judge.specs.Commits.{AreCommitsOf, IsOfValue}
-use Rattle.si_judge.specs.Spread.{at_value}
+use Rattle.si_judge.specs.Values.{at_value}
 use Rattle.si_judge.proofs.Commits.{is_there, none_found, one_found, walked}
 use Rattle.si_judge.proofs.versions.Versions.of_value.Goals as goal
 

@@ -9,7 +9,7 @@ pub returns-in_ok-append : goal.returns-in_ok-append
 returns-in_ok-append c = λ Q on.
     let x = c.args.key.now in
     let shown = subst (λ o. ShowsAt x o Q) (sym c.in-Some.ensures.value) on.shows in
-    c.in_ok-append.ensures.items ∙ ap (λ fs. c.args.all.now.items ++ fs) (c.in-Ok.ensures.ok Q shown.1 ∙ ap (λ y. findings_on cases y Q) shown.0)
+    c.in_ok-append.ensures.items ∙ ap (λ fs. c.args.all.now.items ++ fs) (c.in_ok-found.ensures Q shown.1 ∙ ap (λ y. findings_on cases y Q) shown.0)
 
 pub returns-in_default : goal.returns-in_default
 returns-in_default c = λ Q on.

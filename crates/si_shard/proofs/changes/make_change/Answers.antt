@@ -1,16 +1,16 @@
 use Rattle.std.proofs.Common.{OnOk, subst, sym}
 use Rattle.si_shard.specs.Changes.{CanChange, IsChanged}
 use Rattle.si_shard.proofs.Changing.{by_arrival, by_resolution, by_set_up, by_withdrawal}
-use Rattle.si_shard.proofs.changes.mend.Goals as goal
+use Rattle.si_shard.proofs.changes.make_change.Goals as goal
 
 pub arrive-requires : goal.arrive-requires
-arrive-requires c = λ whole. let can = subst (λ k. CanChange k c.requires.0) c.in-Arrive.is c.requires.2 in (c.requires.0, c.requires.1, can.history)
+arrive-requires c = let can = subst (λ k. CanChange k c.requires.0) c.in-Arrive.is c.requires.2 in (c.requires.0, c.requires.1, can.history)
 
 pub resolve-requires : goal.resolve-requires
-resolve-requires c = λ whole. let can = subst (λ k. CanChange k c.requires.0) c.in-Resolve.is c.requires.2 in (c.requires.0, c.requires.1, can.asks, can.history)
+resolve-requires c = let can = subst (λ k. CanChange k c.requires.0) c.in-Resolve.is c.requires.2 in (c.requires.0, c.requires.1, can.asks, can.history)
 
 pub withdraw-requires : goal.withdraw-requires
-withdraw-requires c = λ whole. let can = subst (λ k. CanChange k c.requires.0) c.in-Withdraw.is c.requires.2 in (c.requires.0, c.requires.1, can.asks)
+withdraw-requires c = let can = subst (λ k. CanChange k c.requires.0) c.in-Withdraw.is c.requires.2 in (c.requires.0, c.requires.1, can.asks)
 
 pub returns-in-Arrive : goal.returns-in-Arrive
 returns-in-Arrive c = subst (λ k. OnOk c.arrive.result (IsChanged k c.args.kept.now c.arrive.new.self)) (sym c.in-Arrive.is) (by_arrival c.args.kept.now c.arrive.new.self c.arrive.ensures.key c.arrive.result c.in-Arrive.part c.arrive.ensures.ok)
