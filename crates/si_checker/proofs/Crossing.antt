@@ -12,27 +12,27 @@ use Rattle.si_words.proofs.seats.ShardSeat.TheSendSync as seat
 use Rattle.si_words.proofs.words.Words.TheSendSync as words
 use Rattle.si_shard.proofs.Crossing.{shard_send}
 use Rattle.si_checker.specs.declared.names.Name.{Ghosts}
-use Rattle.si_checker.specs.contracts.bays.Bay as Bay
-use Rattle.si_checker.specs.contracts.bays.Bay.TheInside as inside
+use Rattle.si_checker.specs.contracts.locked_shards.LockedShard as LockedShard
+use Rattle.si_checker.specs.contracts.locked_shards.LockedShard.TheInside as inside
 use Rattle.si_checker.specs.contracts.checkers.Checker as Checker
-use Rattle.si_checker.specs.contracts.desks.Desk as Desk
-use Rattle.si_checker.proofs.desks.Desk.TheSendSync as desk
+use Rattle.si_checker.specs.contracts.locked_books.LockedBook as LockedBook
+use Rattle.si_checker.proofs.locked_books.LockedBook.TheSendSync as locked_book
 
 module _ (N : RattleType) (G : Ghosts N.Denot) where
-  bay_send : IsSend (Bay.the_row N G)
-  bay_send =
+  locked_shard_send : IsSend (LockedShard.the_row N G)
+  locked_shard_send =
       view_send (inside.the_row N G) _ _ _ _
       (recorded_send (inside.the_field N G).row _ _ (inside.the_type N G).to_one (struct_send (shape (inside.the_type N G)) (shard_send, (seat.the_send, (phantom.the_field_send N, tt)))))
 
-  desk_send : IsSend (Desk.the_row N G)
-  desk_send = search (desk.the_send)
+  locked_book_send : IsSend (LockedBook.the_row N G)
+  locked_book_send = search (locked_book.the_send)
 
   pub checker_sync : IsSync (Checker.the_row N G)
   checker_sync = recorded_sync (Checker.the_field N G).row _ _ (Checker.the_type N G).to_one (struct_sync (shape (Checker.the_type N G)) (
     global.the_field_sync,
     (
       words.the_sync,
-      (search (desk_send, crosses, sendable) depth 20, (search (bay_send, crosses, sendable) depth 20, (search (crosses, sendable) depth 20, tt))),
+      (search (locked_book_send, crosses, sendable) depth 20, (search (locked_shard_send, crosses, sendable) depth 20, (search (crosses, sendable) depth 20, tt))),
     ),
   ))
 

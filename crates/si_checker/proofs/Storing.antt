@@ -11,7 +11,7 @@ use Rattle.si_words.specs.Entries.{edit_in, edits_of}
 use Rattle.si_words.specs.Seats.{Board, Seated}
 use Rattle.si_words.specs.Views.{with_done}
 use Rattle.si_shard.specs.Shards.{ShardState}
-use Rattle.si_checker.specs.Bays.{IsBay}
+use Rattle.si_checker.specs.LockedShards.{IsLockedShard}
 
 -- ---- lists
 
@@ -75,11 +75,11 @@ length_stored xs n le = (let l = edits_length xs in length-take-le n (edits_of x
 -- ---- the shard
 
 -- a shard that applied n more of what it is due, and published that
-pub bay_applied : (board : Board) (old new : ShardState) (seat : Seated ShardView) (edits : List Edit) (m n p : ℕ) → IsBay board old seat
+pub locked_shard_applied : (board : Board) (old new : ShardState) (seat : Seated ShardView) (edits : List Edit) (m n p : ℕ) → IsLockedShard board old seat
     → edits ≡ take m (drop seat.view.done (edits_of seat.view.due)) → length edits ≡ m → new.id ≡ old.id → n ≤ m → new.stored ≡ old.stored ++ take n edits → p ≡ length new.stored
     → (new.spoiled ≡ true → (n < m) ⊎ ((n ≡ 0) × (old.spoiled ≡ true)))
-    → IsBay board new (record seat { view = with_done p seat.view })
-bay_applied board old new seat edits m n p is next many id le stored far spoils =
+    → IsLockedShard board new (record seat { view = with_done p seat.view })
+locked_shard_applied board old new seat edits m n p is next many id le stored far spoils =
     let done = seat.view.done in
     let E = edits_of seat.view.due in
     let long = edits_length seat.view.due in

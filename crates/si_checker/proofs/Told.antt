@@ -1,4 +1,4 @@
--- What a call with a pass tells of one shard, by what the shard's bay told.
+-- What a call with a pass tells of one shard, by what the shard's locked_shard told.
 use Rattle.std.proofs.Common.{◌≡◌, ◌∙◌, ◌≤◌, ℕ, true, List, length, take, sym, ap, subst, arith}
 use Rattle.std.proofs.lemmas.List.{map-append, take-append-le, length-map}
 use Rattle.std.specs.Prelude.{Result, Ok, Err, IfOk, OnOk, IfErr}
@@ -7,13 +7,13 @@ use Rattle.si_shard.specs.Laws.{shard_id}
 use Rattle.si_shard.specs.Shards.{findings_in}
 use Rattle.si_words.specs.declared.views.Entry.{Entry}
 use Rattle.si_words.specs.Entries.{IsBeginning, edit_in, edits_of}
-use Rattle.si_checker.specs.Bays.{BayState, stored_by}
+use Rattle.si_checker.specs.LockedShards.{LockedShardState, stored_by}
 use Rattle.si_checker.specs.declared.reports.ReportFault.{ReportFault}
 use Rattle.si_checker.specs.declared.reports.ReportFault.TheVariants as fault
 use Rattle.si_checker.specs.declared.reports.ShardReport.{ShardReport}
 
 -- a shard that is told as spoiled is the one that was asked
-pub fault_names : {A : Type 0} (r : Result A ReportFault) (j k : ℕ) (b : BayState) → b.seat.number ≡ k
+pub fault_names : {A : Type 0} (r : Result A ReportFault) (j k : ℕ) (b : LockedShardState) → b.seat.number ≡ k
     → IfErr r (λ f. f ≡ fault.Spoiled j → (j ≡ b.seat.number) × (b.spoiled ≡ true)) → IfErr r (λ f. f ≡ fault.Spoiled j → j ≡ k)
 fault_names (Ok a) j k b number told = tt
 fault_names (Err f) j k b number told = λ is. (told is).0 ∙ number
@@ -25,7 +25,7 @@ begun_takes xs ys n begins within =
     ap (λ (l : List Entry). take n (edits_of l)) begins.1 ∙ ap (take n) (map-append edit_in xs begins.0) ∙ take-append-le n (edits_of xs) (edits_of begins.0) (omega arith)
 
 -- the first edits of what the pass has seen, as many as were told, are what the shard has stored
-module _ (b : BayState) (seen : List Entry) where
+module _ (b : LockedShardState) (seen : List Entry) where
   stored_seen : (position : ℕ) → position ≡ b.seat.done → IsBeginning b.seat.due seen → b.seat.done ≤ length b.seat.due → stored_by b.seat ≡ take position (edits_of seen)
   stored_seen position is begins within = sym (begun_takes b.seat.due seen b.seat.done begins within) ∙ ap (λ (n : ℕ). take n (edits_of seen)) (sym is)
 

@@ -16,8 +16,8 @@ ghost use Rattle.si_words.specs.Views.{pass_closed, with_count, with_mark, with_
 ghost use Rattle.si_checker.specs.Calls.{IsSubmitted, learning};
 ghost use Rattle.si_checker.specs.declared.reports.ReportFault.TheVariants as fault;
 
-use crate::bays::Bay;
-use crate::desks::Desk;
+use crate::locked_books::LockedBook;
+use crate::locked_shards::LockedShard;
 use crate::openings::Parts;
 use crate::reports::{Report, ReportFault, SettledFindings, ShardReport, Statuses};
 use crate::{AcceptFault, Name};
@@ -40,13 +40,13 @@ use std::sync::{Mutex, MutexGuard, Wait};
 pub struct Checker<N: Name> {
     pub(crate) alloc: Global,
     pub(crate) words: Words,
-    pub(crate) desk: Mutex<Desk<N>>,
+    pub(crate) locked_book: Mutex<LockedBook<N>>,
     // The shard of each number. The type behind a lock does not know its place, so the number is looked at each time.
-    bays: Vec<Mutex<Bay<N>>>,
+    locked_shards: Vec<Mutex<LockedShard<N>>>,
     // Idle workers sleep on it while it is 0, and it is 1 once the checker was closed.
     pub(crate) idle: AtomicU64,
     ghost words_are: { words ≡ N.board },
-    ghost bays_are: { length bays.items ≡ N.board.shards },
+    ghost locked_shards_are: { length locked_shards.items ≡ N.board.shards },
     ghost some: { 1 ≤ N.board.shards },
 }
 
@@ -70,13 +70,13 @@ impl<N: Name> Checker<N> {
             seats,
             limit,
         } = parts;
-        let bays = bays_of(alloc, hash, seats)?;
-        let desk = Desk::new(Book::new(alloc, hash, limit), book);
+        let locked_shards = locked_shards_of(alloc, hash, seats)?;
+        let locked_book = LockedBook::new(Book::new(alloc, hash, limit), book);
         Ok(Checker {
             alloc,
             words,
-            desk: Mutex::new(desk),
-            bays,
+            locked_book: Mutex::new(locked_book),
+            locked_shards,
             idle: AtomicU64::new(0),
         })
     }
@@ -93,7 +93,7 @@ impl<N: Name> Checker<N> {
     pub fn shards(&self) -> usize
         ensures { result ≡ N.board.shards }
     {
-        self.bays.len()
+        self.locked_shards.len()
     }
 
     /// Accepts the edit, which bears the pass, or tells the first reason against it. The answer is its number in the journal.
@@ -129,7 +129,7 @@ impl<N: Name> Checker<N> {
         ensures made { pass.new.view.mine ≡ made_by pass.new.view.number pass.new.view.seen }
         ensures bearers { All (λ e. e.by < N.board.passes) pass.new.view.seen }
     {
-        self.desk.lock(rt).submit(&self.words, pass, edit)
+        self.locked_book.lock(rt).submit(&self.words, pass, edit)
     }
 
     /// The findings of the whole journal, which the pass sees, and what is present after it.
@@ -158,27 +158,31 @@ impl<N: Name> Checker<N> {
         ensures made { pass.new.view.mine ≡ made_by pass.new.view.number pass.new.view.seen }
         ensures bearers { All (λ e. e.by < N.board.passes) pass.new.view.seen }
     {
-        let mut guard = self.desk.lock(rt);
-        let desk = &mut *guard;
-        desk.show(&self.words, pass);
-        self.report_of(rt, desk)
+        let mut guard = self.locked_book.lock(rt);
+        let locked_book = &mut *guard;
+        locked_book.show(&self.words, pass);
+        self.report_of(rt, locked_book)
     }
 
     /// The findings of the whole journal, and what is present after it.
-    fn report_of<R: Wait>(&self, rt: &R, desk: &mut Desk<N>) -> Result<Report, ReportFault>
+    fn report_of<R: Wait>(
+        &self,
+        rt: &R,
+        locked_book: &mut LockedBook<N>,
+    ) -> Result<Report, ReportFault>
         ensures fault { (j : ℕ) → IfErr result (λ f. f ≡ fault.Spoiled j → j < N.board.shards) }
-        ensures desk { desk.new ≡ desk.old }
-        ensures number { IfOk result (λ r. r.number ≡ length desk.old.journal) }
-        ensures present { IfOk result (λ r. r.present.items ≡ (present (edits_of desk.old.journal)).txns) }
-        ensures initial { IfOk result (λ r. r.initial.items ≡ (present (edits_of desk.old.journal)).initial) }
-        ensures found { IfOk result (λ r. r.findings.items ≡ findings (present (edits_of desk.old.journal))) }
-        ensures empty { IfOk result (λ r. (r.findings.items ≡ []) ↔ (IsWellFormed (present (edits_of desk.old.journal)) × IsPlSi (present (edits_of desk.old.journal)))) }
+        ensures locked_book { locked_book.new ≡ locked_book.old }
+        ensures number { IfOk result (λ r. r.number ≡ length locked_book.old.journal) }
+        ensures present { IfOk result (λ r. r.present.items ≡ (present (edits_of locked_book.old.journal)).txns) }
+        ensures initial { IfOk result (λ r. r.initial.items ≡ (present (edits_of locked_book.old.journal)).initial) }
+        ensures found { IfOk result (λ r. r.findings.items ≡ findings (present (edits_of locked_book.old.journal))) }
+        ensures empty { IfOk result (λ r. (r.findings.items ≡ []) ↔ (IsWellFormed (present (edits_of locked_book.old.journal)) × IsPlSi (present (edits_of locked_book.old.journal)))) }
     {
-        let findings = self.settle(rt, desk)?;
+        let findings = self.settle(rt, locked_book)?;
         Ok(Report {
-            number: desk.len(),
-            present: desk.present()?,
-            initial: desk.initial()?,
+            number: locked_book.len(),
+            present: locked_book.present()?,
+            initial: locked_book.initial()?,
             findings,
         })
     }
@@ -213,31 +217,31 @@ impl<N: Name> Checker<N> {
         ensures made { pass.new.view.mine ≡ made_by pass.new.view.number pass.new.view.seen }
         ensures bearers { All (λ e. e.by < N.board.passes) pass.new.view.seen }
     {
-        let mut guard = self.desk.lock(rt);
-        let desk = &mut *guard;
+        let mut guard = self.locked_book.lock(rt);
+        let locked_book = &mut *guard;
         let words = &self.words;
-        desk.show(words, pass);
-        self.findings_of(rt, desk)
+        locked_book.show(words, pass);
+        self.findings_of(rt, locked_book)
     }
 
     /// The findings of the whole journal, and how many transactions are present after it.
     fn findings_of<R: Wait>(
         &self,
         rt: &R,
-        desk: &mut Desk<N>,
+        locked_book: &mut LockedBook<N>,
     ) -> Result<SettledFindings, ReportFault>
         ensures fault { (j : ℕ) → IfErr result (λ f. f ≡ fault.Spoiled j → j < N.board.shards) }
-        ensures desk { desk.new ≡ desk.old }
-        ensures number { IfOk result (λ r. r.number ≡ length desk.old.journal) }
-        ensures count { IfOk result (λ r. r.transactions ≡ length (present (edits_of desk.old.journal)).txns) }
-        ensures found { IfOk result (λ r. r.findings.items ≡ findings (present (edits_of desk.old.journal))) }
-        ensures empty { IfOk result (λ r. (r.findings.items ≡ []) ↔ (IsWellFormed (present (edits_of desk.old.journal)) × IsPlSi (present (edits_of desk.old.journal)))) }
+        ensures locked_book { locked_book.new ≡ locked_book.old }
+        ensures number { IfOk result (λ r. r.number ≡ length locked_book.old.journal) }
+        ensures count { IfOk result (λ r. r.transactions ≡ length (present (edits_of locked_book.old.journal)).txns) }
+        ensures found { IfOk result (λ r. r.findings.items ≡ findings (present (edits_of locked_book.old.journal))) }
+        ensures empty { IfOk result (λ r. (r.findings.items ≡ []) ↔ (IsWellFormed (present (edits_of locked_book.old.journal)) × IsPlSi (present (edits_of locked_book.old.journal)))) }
     {
-        let findings = self.settle(rt, desk)?;
-        let number = desk.len();
+        let findings = self.settle(rt, locked_book)?;
+        let number = locked_book.len();
         Ok(SettledFindings {
             number,
-            transactions: desk.transactions(),
+            transactions: locked_book.transactions(),
             findings,
         })
     }
@@ -259,29 +263,33 @@ impl<N: Name> Checker<N> {
         ensures made { pass.new.view.mine ≡ made_by pass.new.view.number pass.new.view.seen }
         ensures bearers { All (λ e. e.by < N.board.passes) pass.new.view.seen }
     {
-        let mut guard = self.desk.lock(rt);
-        let desk = &mut *guard;
-        desk.show(&self.words, pass);
-        desk.statuses()
+        let mut guard = self.locked_book.lock(rt);
+        let locked_book = &mut *guard;
+        locked_book.show(&self.words, pass);
+        locked_book.statuses()
     }
 
     /// Each shard applies what it has left of the journal: the findings of all, in order.
-    fn settle<R: Wait>(&self, rt: &R, desk: &mut Desk<N>) -> Result<Vec<Finding>, ReportFault>
+    fn settle<R: Wait>(
+        &self,
+        rt: &R,
+        locked_book: &mut LockedBook<N>,
+    ) -> Result<Vec<Finding>, ReportFault>
         ensures fault { (j : ℕ) → IfErr result (λ f. f ≡ fault.Spoiled j → j < N.board.shards) }
-        ensures desk { desk.new ≡ desk.old }
-        ensures found { IfOk result (λ found. found.items ≡ findings (present (edits_of desk.old.journal))) }
-        ensures empty { IfOk result (λ found. (found.items ≡ []) ↔ (IsWellFormed (present (edits_of desk.old.journal)) × IsPlSi (present (edits_of desk.old.journal)))) }
+        ensures locked_book { locked_book.new ≡ locked_book.old }
+        ensures found { IfOk result (λ found. found.items ≡ findings (present (edits_of locked_book.old.journal))) }
+        ensures empty { IfOk result (λ found. (found.items ≡ []) ↔ (IsWellFormed (present (edits_of locked_book.old.journal)) × IsPlSi (present (edits_of locked_book.old.journal)))) }
     {
         let mut found = Vec::new(self.alloc);
-        for k in 0..self.bays.len() {
-            self.settle_shard(rt, desk, k, &mut found)?;
+        for k in 0..self.locked_shards.len() {
+            self.settle_shard(rt, locked_book, k, &mut found)?;
         }
         order_is_strict();
         put_in_order(&mut found);
         findings_are_of_shards();
         present_is_history();
         emptiness_is_exact();
-        let _accepted = desk.journal();
+        let _accepted = locked_book.journal();
         Ok(found)
     }
 
@@ -289,21 +297,21 @@ impl<N: Name> Checker<N> {
     fn settle_shard<R: Wait>(
         &self,
         rt: &R,
-        desk: &mut Desk<N>,
+        locked_book: &mut LockedBook<N>,
         k: usize,
         found: &mut Vec<Finding>,
     ) -> Result<(), ReportFault>
         requires { k < N.board.shards }
         ensures fault { (j : ℕ) → IfErr result (λ f. f ≡ fault.Spoiled j → j ≡ k) }
-        ensures desk { desk.new ≡ desk.old }
-        ensures found { OnOk result (found.new.items ≡ found.old.items ++ findings_in (shard_id k N.board.shards) (present (edits_of desk.old.journal))) }
+        ensures locked_book { locked_book.new ≡ locked_book.old }
+        ensures found { OnOk result (found.new.items ≡ found.old.items ++ findings_in (shard_id k N.board.shards) (present (edits_of locked_book.old.journal))) }
     {
-        let Some(mut guard) = self.bay(rt, k) else {
+        let Some(mut guard) = self.locked_shard(rt, k) else {
             return Err(ReportFault::Spoiled(k));
         };
-        let bay = &mut *guard;
-        bay.settle(&self.words, desk)?;
-        bay.add_findings(found)
+        let locked_shard = &mut *guard;
+        locked_shard.settle(&self.words, locked_book)?;
+        locked_shard.add_findings(found)
     }
 
     /// The findings on the shard's keys after the edits that it has applied, which the pass then knows it has, and sees.
@@ -334,11 +342,11 @@ impl<N: Name> Checker<N> {
         ensures learned { IfOk result (λ r. pass.new ≡ record pass.old { view = learning pass.new.view.seen k r.position pass.old.view }) }
         ensures err { OnErr result (pass.new ≡ pass.old) }
     {
-        let Some(mut guard) = self.bay(rt, k) else {
+        let Some(mut guard) = self.locked_shard(rt, k) else {
             return Err(ReportFault::Spoiled(k));
         };
-        let bay = &mut *guard;
-        bay.report(&self.words, pass)
+        let locked_shard = &mut *guard;
+        locked_shard.report(&self.words, pass)
     }
 
     /// Makes all that the shard knows anew from the edits that it has applied, and so ends a spoiled state.
@@ -355,11 +363,11 @@ impl<N: Name> Checker<N> {
     pub fn rebuild<R: Wait>(&self, rt: &R, k: usize) -> Result<(), OutOfMemory>
         requires { k < N.board.shards }
     {
-        let Some(mut guard) = self.bay(rt, k) else {
+        let Some(mut guard) = self.locked_shard(rt, k) else {
             return Err(AllocError);
         };
-        let bay = &mut *guard;
-        bay.rebuild(k)
+        let locked_shard = &mut *guard;
+        locked_shard.rebuild(k)
     }
 
     /// Tells workers that they may end once nothing is left. Edits that are submitted later are still accepted, and a settled
@@ -375,17 +383,21 @@ impl<N: Name> Checker<N> {
         ensures { pass.new ≡ pass.old }
     {
         let _caller = pass;
-        self.desk.lock(rt).close(&self.words);
+        self.locked_book.lock(rt).close(&self.words);
         self.idle.store(1, Ordering::SeqCst);
         self.idle.wake_all();
     }
 
     /// The shard of this number, locked.
-    pub(crate) fn bay<R: Wait>(&self, rt: &R, k: usize) -> Option<MutexGuard<'_, Bay<N>>>
+    pub(crate) fn locked_shard<R: Wait>(
+        &self,
+        rt: &R,
+        k: usize,
+    ) -> Option<MutexGuard<'_, LockedShard<N>>>
         requires { k < N.board.shards }
         ensures { IfSome result (λ g. (mutex_guard_value g).seat.number ≡ k) }
     {
-        let guard = self.bays[k].lock(rt);
+        let guard = self.locked_shards[k].lock(rt);
         if guard.number() == k {
             Some(guard)
         } else {
@@ -466,19 +478,19 @@ impl<N: Name> Checker<N> {
 }
 
 /// A shard under a lock for each seat, in the order of the seats.
-fn bays_of<N: Name>(
+fn locked_shards_of<N: Name>(
     alloc: Global,
     hash: RandomState,
     seats: Vec<ShardSeat>,
-) -> Result<Vec<Mutex<Bay<N>>>, OutOfMemory>
+) -> Result<Vec<Mutex<LockedShard<N>>>, OutOfMemory>
     requires seats { seats.items ≡ new_shards N.board.table N.board.shards }
     requires most { N.board.shards ≤ MOST_SHARDS }
-    ensures { IfOk result (λ bays. length bays.items ≡ N.board.shards) }
+    ensures { IfOk result (λ locked_shards. length locked_shards.items ≡ N.board.shards) }
 {
     let shards = seats.len();
-    let mut bays = Vec::new(alloc);
+    let mut locked_shards = Vec::new(alloc);
     for seat in seats {
-        bays.push(Mutex::new(Bay::new(alloc, hash, shards, seat)))?;
+        locked_shards.push(Mutex::new(LockedShard::new(alloc, hash, shards, seat)))?;
     }
-    Ok(bays)
+    Ok(locked_shards)
 }

@@ -5,11 +5,11 @@
 //! `si_accept`, `si_shard`, `si_core` and `si_words`.
 #![tactic(auto)]
 
-pub mod bays;
 pub mod checkers;
-pub mod desks;
 pub mod gates;
 pub mod laws;
+pub mod locked_books;
+pub mod locked_shards;
 pub mod names;
 pub mod openings;
 pub mod reports;

@@ -4,8 +4,8 @@ ghost use Rattle.si_words.specs.Views.{with_count, with_marks};
 ghost use Rattle.si_checker.specs.Workers.{EndsWork, TellsPosition};
 
 use crate::checkers::Checker;
-use crate::desks::MOST_AT_ONCE;
 use crate::gates::{Gate, Place};
+use crate::locked_books::MOST_AT_ONCE;
 use crate::names::Name;
 use si_model::Number;
 use si_words::Pass;
@@ -63,26 +63,26 @@ impl<N: Name> Checker<N> {
         requires { k < N.board.shards }
         ensures { TellsPosition result }
     {
-        let mut book = self.desk.lock(rt);
-        let desk = &mut *book;
-        let Some(mut guard) = self.bay(rt, k) else {
+        let mut book = self.locked_book.lock(rt);
+        let locked_book = &mut *book;
+        let Some(mut guard) = self.locked_shard(rt, k) else {
             return Worked::Spoiled;
         };
-        let bay = &mut *guard;
-        bay.pull(&self.words, desk);
-        let before = bay.position();
-        if before >= desk.len() {
+        let locked_shard = &mut *guard;
+        locked_shard.pull(&self.words, locked_book);
+        let before = locked_shard.position();
+        if before >= locked_book.len() {
             drop(book);
-            return if bay.is_closed(&self.words) {
+            return if locked_shard.is_closed(&self.words) {
                 Worked::Closed
             } else {
                 Worked::Idle
             };
         }
-        if bay.is_spoiled() {
+        if locked_shard.is_spoiled() {
             return Worked::Spoiled;
         }
-        let edits = desk.copy(self.alloc, before);
+        let edits = locked_book.copy(self.alloc, before);
         drop(book);
         if edits.is_empty() {
             return Worked::NoMemory;
@@ -91,8 +91,8 @@ impl<N: Name> Checker<N> {
             shard: k,
             number: Number(before + 1),
         });
-        bay.apply(&self.words, edits);
-        let position = bay.position();
+        locked_shard.apply(&self.words, edits);
+        let position = locked_shard.position();
         if position == before {
             return Worked::Spoiled;
         }
@@ -200,11 +200,11 @@ impl<N: Name> Checker<N> {
     fn has_work<R: Wait>(&self, rt: &R, k: usize) -> bool
         requires { k < N.board.shards }
     {
-        let Some(mut guard) = self.bay(rt, k) else {
+        let Some(mut guard) = self.locked_shard(rt, k) else {
             return true;
         };
-        let bay = &mut *guard;
-        bay.is_behind(&self.words) || bay.is_closed(&self.words)
+        let locked_shard = &mut *guard;
+        locked_shard.is_behind(&self.words) || locked_shard.is_closed(&self.words)
     }
 }
 

@@ -8,17 +8,17 @@ use Rattle.si_model.specs.Journals.{IsAccepted, present}
 use Rattle.si_model.proofs.Acceptance.{accepted_push, present_push}
 use Rattle.si_judge.specs.Following.{empty_key}
 use Rattle.si_shard.specs.declared.shard_ids.ShardId.{ShardId}
-use Rattle.si_shard.specs.declared.applied.Applied.{Applied}
+use Rattle.si_shard.specs.declared.applied_edits.Applied.{Applied}
 use Rattle.si_shard.specs.declared.arrivals.Arrival.{Arrival}
 use Rattle.si_shard.specs.declared.arrivals.Arrivals.{Arrivals}
 use Rattle.si_shard.specs.ShardIds.{is_ours}
-use Rattle.si_shard.specs.Applied.{AreApplied, head_for, ops_for}
+use Rattle.si_shard.specs.AppliedEdits.{AreApplied, head_for, ops_for}
 use Rattle.si_shard.specs.Arrivals.{AreKnown, IsReadyFor}
-use Rattle.si_shard.specs.Changes.{changed_on}
+use Rattle.si_shard.specs.KeyChanges.{changed_on}
 use Rattle.si_shard.specs.Keeping.{Concerns, IsTaken}
-use Rattle.si_shard.specs.Keyed.{IsOn}
-use Rattle.si_shard.specs.Straight.{CanBeMadeBy, IsMadeBy}
-use Rattle.si_shard.specs.Waiting.{IsTold}
+use Rattle.si_shard.specs.KeyStates.{IsOn}
+use Rattle.si_shard.specs.SingleEdits.{CanBeMadeBy, IsMadeBy}
+use Rattle.si_shard.specs.GatheredChanges.{IsTold}
 use Rattle.si_shard.proofs.ArrivalPlaces.{known_longer}
 use Rattle.si_shard.proofs.Concerning.{concerns_by, told_concerns}
 use Rattle.si_shard.proofs.KeyChanges.{can_change, change_or_not, follows_change, stays}

@@ -12,26 +12,26 @@ use Rattle.si_model.specs.Journals.{IsAccepted, present}
 use Rattle.si_model.proofs.Acceptance.{accepted_push, present_push}
 use Rattle.si_judge.specs.Following.{empty_key}
 use Rattle.si_shard.specs.declared.shard_ids.ShardId.{ShardId}
-use Rattle.si_shard.specs.declared.applied.Applied.{Applied}
+use Rattle.si_shard.specs.declared.applied_edits.Applied.{Applied}
 use Rattle.si_shard.specs.declared.arrivals.Arrival.{Arrival}
-use Rattle.si_shard.specs.declared.changes.Change.{Change}
-use Rattle.si_shard.specs.declared.waiting.Waits.{Waits}
+use Rattle.si_shard.specs.declared.key_changes.Change.{Change}
+use Rattle.si_shard.specs.declared.gathered_changes.ChangesOfKey.{ChangesOfKey}
 use Rattle.si_shard.specs.ShardIds.{is_ours}
-use Rattle.si_shard.specs.Applied.{IsChangeOn, head_for, ops_for}
+use Rattle.si_shard.specs.AppliedEdits.{IsChangeOn, head_for, ops_for}
 use Rattle.si_shard.specs.Arrivals.{AreKnown, IsReadyFor}
-use Rattle.si_shard.specs.Changes.{LeadsTo}
+use Rattle.si_shard.specs.KeyChanges.{LeadsTo}
 use Rattle.si_shard.specs.Keeping.{Concerns, IsTaken}
-use Rattle.si_shard.specs.Keyed.{IsOn}
-use Rattle.si_shard.specs.Waiting.{AreGatheredTo, IsGathered, IsTold, changes_in, waiting_at}
+use Rattle.si_shard.specs.KeyStates.{IsOn}
+use Rattle.si_shard.specs.GatheredChanges.{AreGatheredTo, IsGathered, IsTold, changes_in, waiting_at}
 use Rattle.si_shard.proofs.ArrivalPlaces.{known_longer}
 use Rattle.si_shard.proofs.Concerning.{told_concerns}
 use Rattle.si_shard.proofs.KeyChanges.{can_change, change_or_not, follows_change, stays}
 use Rattle.si_shard.proofs.Leading.{leads_on}
 
-module _ {S : Type 0} (id : ShardId) (edits : List Edit) (accepted : IsAccepted edits) (e : Edit) (old : Applied) (lists : HashMap (List ℕ) Waits S) (sound : AreGatheredTo id edits old lists)
+module _ {S : Type 0} (id : ShardId) (edits : List Edit) (accepted : IsAccepted edits) (e : Edit) (old : Applied) (lists : HashMap (List ℕ) ChangesOfKey S) (sound : AreGatheredTo id edits old lists)
     (new : Applied) (keys : new.keys ≡ old.keys) (known : AreKnown edits new.arrivals) (ready : IsReadyFor e edits (get nat_eq new.arrivals.by_id))
     (touches : Bool) (tells : IsTold id (ops_for (get nat_eq new.arrivals.by_id) edits e) (head_for (get nat_eq new.arrivals.by_id) edits e) e touches)
-    (more : HashMap (List ℕ) Waits S) (adds : IsGathered id (ops_for (get nat_eq new.arrivals.by_id) edits e) (head_for (get nat_eq new.arrivals.by_id) edits e) e (length edits) lists more) where
+    (more : HashMap (List ℕ) ChangesOfKey S) (adds : IsGathered id (ops_for (get nat_eq new.arrivals.by_id) edits e) (head_for (get nat_eq new.arrivals.by_id) edits e) e (length edits) lists more) where
   abbrev at : ℕ → Option Arrival
   at = get nat_eq new.arrivals.by_id
 
@@ -71,7 +71,7 @@ module _ {S : Type 0} (id : ShardId) (edits : List Edit) (accepted : IsAccepted 
         )
 
     -- the last changes are of edits up to this one
-    soon : (x : List ℕ) (list : Waits) → get same_key more x ≡ Some list → list.last ≤ length edits
+    soon : (x : List ℕ) (list : ChangesOfKey) → get same_key more x ≡ Some list → list.last ≤ length edits
     soon x list f = by_ours (is_ours id x) refl
       where
         older : get same_key more x ≡ get same_key lists x → list.last ≤ length edits
@@ -80,7 +80,7 @@ module _ {S : Type 0} (id : ShardId) (edits : List Edit) (accepted : IsAccepted 
         by_ours : (b : Bool) → is_ours id x ≡ b → list.last ≤ length edits
         by_ours false other = older (adds.others x (λ o. (let no : true ≡ false = sym o ∙ other in cc)))
         by_ours true ours = elim (change_or_not edits at accepted x e ready ok) [
-          | inl k ↦ (let added = adds.changed x k.0 ours k.1 in let same : added.0 ≡ list = same_some (sym added.1 ∙ f) in let is : list.last ≡ length edits = ap (λ (l : Waits). l.last) (sym same) ∙ added.2 in omega arith)
+          | inl k ↦ (let added = adds.changed x k.0 ours k.1 in let same : added.0 ≡ list = same_some (sym added.1 ∙ f) in let is : list.last ≡ length edits = ap (λ (l : ChangesOfKey). l.last) (sym same) ∙ added.2 in omega arith)
           | inr none ↦ older (adds.others x (λ o. none))
         ]
 

@@ -20,7 +20,7 @@ use Rattle.si_model.proofs.Acceptance.{present_push}
 use Rattle.si_model.proofs.PresentHistories.{present_history}
 use Rattle.si_shard.specs.declared.arrivals.Arrival.{Arrival}
 use Rattle.si_shard.specs.declared.arrivals.Arrivals.{Arrivals}
-use Rattle.si_shard.specs.Applied.{head_at, head_in_some, ops_at, ops_in_some}
+use Rattle.si_shard.specs.AppliedEdits.{head_at, head_in_some, ops_at, ops_in_some}
 use Rattle.si_shard.specs.Arrivals.{AreArrivals, AreKnown, IsArrivalOf, SetsArrival, resolved_arrival}
 use Rattle.si_shard.proofs.Beginnings.{one_more_taken}
 

@@ -7,8 +7,8 @@ use Rattle.si_model.specs.Edits.{IsAcceptable}
 use Rattle.si_model.specs.Journals.{IsAccepted, present}
 use Rattle.si_model.proofs.Acceptance.{accepted_begins}
 use Rattle.si_shard.specs.declared.shard_ids.ShardId.{ShardId}
-use Rattle.si_shard.specs.declared.applied.Applied.{Applied}
-use Rattle.si_shard.specs.Applied.{AreApplied}
+use Rattle.si_shard.specs.declared.applied_edits.Applied.{Applied}
+use Rattle.si_shard.specs.AppliedEdits.{AreApplied}
 use Rattle.si_shard.specs.Keeping.{AreKept}
 use Rattle.si_shard.specs.Shards.{IsShard}
 

@@ -13,8 +13,8 @@ use Rattle.si_judge.specs.Kept.{IsInDoubt, IsShown, Kept, Shows}
 use Rattle.si_judge.specs.States.{AreSameOnKey}
 use Rattle.si_judge.specs.Touched.{IsTouched, IsTouchedBySetUp}
 use Rattle.si_judge.proofs.Following.{same_itself}
-use Rattle.si_shard.specs.declared.changes.Change.TheVariants as change
-use Rattle.si_shard.specs.Changes.{IsChanged}
+use Rattle.si_shard.specs.declared.key_changes.Change.TheVariants as change
+use Rattle.si_shard.specs.KeyChanges.{IsChanged}
 
 module _ {A E : Type 0} (old new : Kept) (key : new.key ≡ old.key) where
   pub by_arrival : (r : Result A E) (T : Part)

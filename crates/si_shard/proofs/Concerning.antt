@@ -11,12 +11,12 @@ use Rattle.si_model.specs.Parts.{accesses}
 use Rattle.si_model.specs.Journals.{IsAccepted, present}
 use Rattle.si_shard.specs.declared.shard_ids.ShardId.{ShardId}
 use Rattle.si_shard.specs.declared.arrivals.Arrival.{Arrival}
-use Rattle.si_shard.specs.declared.changes.Change.TheVariants as change
+use Rattle.si_shard.specs.declared.key_changes.Change.TheVariants as change
 use Rattle.si_shard.specs.ShardIds.{is_ours}
-use Rattle.si_shard.specs.Applied.{TouchesShard, change_by, head_for, ops_at, ops_for, ops_in_some}
+use Rattle.si_shard.specs.AppliedEdits.{TouchesShard, change_by, head_for, ops_at, ops_for, ops_in_some}
 use Rattle.si_shard.specs.Arrivals.{AreArrivals, IsReadyFor}
 use Rattle.si_shard.specs.Keeping.{Concerns}
-use Rattle.si_shard.specs.Waiting.{IsSomething, IsTold}
+use Rattle.si_shard.specs.GatheredChanges.{IsSomething, IsTold}
 use Rattle.si_shard.proofs.ArrivalPlaces.{same_ops}
 
 module _ (id : ShardId) (edits : List Edit) (at : ℕ → Option Arrival) where

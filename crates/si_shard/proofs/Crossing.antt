@@ -6,10 +6,10 @@ use Rattle.std.proofs.Crossing.{crosses}
 use Rattle.std.proofs.alloc.Global.TheSendSync as global
 use Rattle.std.proofs.random_state.RandomState.TheSendSync as secret
 use Rattle.si_model.proofs.edits.Edit.TheSendSync as edit
-use Rattle.si_shard.specs.contracts.past.Stored as Stored
+use Rattle.si_shard.specs.contracts.stored_edits.Stored as Stored
 use Rattle.si_shard.specs.contracts.shards.Shard as Shard
 use Rattle.si_shard.specs.contracts.shards.Shard.TheInside as inside
-use Rattle.si_shard.proofs.applied.Applied.TheSendSync as applied
+use Rattle.si_shard.proofs.applied_edits.Applied.TheSendSync as applied
 use Rattle.si_shard.proofs.shard_ids.ShardId.TheSendSync as id
 
 stored_send : IsSend Stored.the_row

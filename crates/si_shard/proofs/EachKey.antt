@@ -15,17 +15,17 @@ use Rattle.si_model.specs.declared.edits.Edit.TheVariants as edit
 use Rattle.si_model.specs.Operations.{access_of, key_of, same_key}
 use Rattle.si_model.specs.Parts.{accesses}
 use Rattle.si_model.proofs.Equalities.{same_key_from, same_key_is}
-use Rattle.si_shard.specs.declared.changes.Change.{Change}
-use Rattle.si_shard.specs.declared.changes.Change.TheVariants as change
+use Rattle.si_shard.specs.declared.key_changes.Change.{Change}
+use Rattle.si_shard.specs.declared.key_changes.Change.TheVariants as change
 use Rattle.si_shard.specs.declared.shard_ids.ShardId.{ShardId}
-use Rattle.si_shard.specs.declared.keyed.KeyStates.{KeyStates}
-use Rattle.si_shard.specs.declared.waiting.Head.{Head}
-use Rattle.si_shard.specs.Applied.{IsAccessChange, change_by}
-use Rattle.si_shard.specs.Changes.{LeadsTo}
-use Rattle.si_shard.specs.Keyed.{IsChangedAt, IsMadeAt, IsOn, StaysAt}
+use Rattle.si_shard.specs.declared.key_states.KeyStates.{KeyStates}
+use Rattle.si_shard.specs.declared.gathered_changes.TxnHead.{TxnHead}
+use Rattle.si_shard.specs.AppliedEdits.{IsAccessChange, change_by}
+use Rattle.si_shard.specs.KeyChanges.{LeadsTo}
+use Rattle.si_shard.specs.KeyStates.{IsChangedAt, IsMadeAt, IsOn, StaysAt}
 use Rattle.si_shard.specs.ShardIds.{is_ours}
-use Rattle.si_shard.specs.Straight.{AreElsewhere, CanBeMadeBy, IsMadeBy, accesses_from}
-use Rattle.si_shard.specs.Waiting.{IsTold}
+use Rattle.si_shard.specs.SingleEdits.{AreElsewhere, CanBeMadeBy, IsMadeBy, accesses_from}
+use Rattle.si_shard.specs.GatheredChanges.{IsTold}
 use Rattle.si_shard.proofs.Gathering.{IsAccessed}
 
 -- ---- the accesses from a place on
@@ -50,30 +50,30 @@ none_there x i (p ∷ ops) none = next_access x i p ops false (none 0 p (omega a
 -- ---- key by key
 
 -- what the edit is where a key of the shard is accessed can be made there
-abbrev pub CanBeAccessed : ShardId → List Op → Head → Edit → KeyStates → Type 0
+abbrev pub CanBeAccessed : ShardId → List Op → TxnHead → Edit → KeyStates → Type 0
 CanBeAccessed id ops h e ks = (x : List ℕ) (c : Change) → is_ours id x ≡ true → IsAccessChange ops h e x c → (Q R : OnKey) × IsOn ks x Q × LeadsTo (c ∷ []) Q R
 
 -- the key x is accessed, and its change was made
-pub record IsDoneAt (ops : List Op) (h : Head) (e : Edit) (x : List ℕ) (old new : KeyStates) : Type 0 where
+pub record IsDoneAt (ops : List Op) (h : TxnHead) (e : Edit) (x : List ℕ) (old new : KeyStates) : Type 0 where
   pub access : Placed
   pub there : Contains (accesses x ops) access
   pub made : IsMadeAt x (change_by h e (accesses x ops) ∷ []) old new
 
 -- what was made of the operations before the place i: each key's change, once an access of it came
-pub record AreMade (id : ShardId) (ops : List Op) (h : Head) (e : Edit) (i : ℕ) (touches : Bool) (old new : KeyStates) : Type 0 where
+pub record AreMade (id : ShardId) (ops : List Op) (h : TxnHead) (e : Edit) (i : ℕ) (touches : Bool) (old new : KeyStates) : Type 0 where
   pub ours : (x : List ℕ) → is_ours id x ≡ true → (AreElsewhere x (take i ops) × StaysAt x old new) ⊎ ((AreElsewhere x (take i ops) → ⊥) × IsDoneAt ops h e x old new)
   pub others : (x : List ℕ) → is_ours id x ≡ false → StaysAt x old new
   pub quiet : touches ≡ false → (x : List ℕ) → is_ours id x ≡ true → AreElsewhere x (take i ops)
   pub loud : touches ≡ true → IsAccessed id ops
 
 -- at the beginning
-pub none_made : (id : ShardId) (ops : List Op) (h : Head) (e : Edit) (keys : KeyStates) → AreMade id ops h e 0 false keys keys
+pub none_made : (id : ShardId) (ops : List Op) (h : TxnHead) (e : Edit) (keys : KeyStates) → AreMade id ops h e 0 false keys keys
 none_made id ops h e keys = record { ours = λ x o. inl (none x, (λ Q on. on)); others = λ x o Q on. on; quiet = λ q x o. none x; loud = λ q. cc }
   where
     none : (x : List ℕ) → AreElsewhere x (take 0 ops)
     none x = λ j d l. absurd (omega (arith, l))
 
-module _ (id : ShardId) (ops : List Op) (h : Head) (e : Edit) (i : ℕ) (p : Op) (within : i < length ops) (is : p ≡ slice_index_or ops i p) (old mid : KeyStates) where
+module _ (id : ShardId) (ops : List Op) (h : TxnHead) (e : Edit) (i : ℕ) (p : Op) (within : i < length ops) (is : p ≡ slice_index_or ops i p) (old mid : KeyStates) where
   abbrev a : Placed
   a = record { place = i; access = access_of p }
 
@@ -192,7 +192,7 @@ module _ (id : ShardId) (ops : List Op) (h : Head) (e : Edit) (i : ℕ) (p : Op)
 
 -- ---- at the end
 
-module _ (id : ShardId) (ops : List Op) (h : Head) (e : Edit) (i : ℕ) (touches : Bool) (old new : KeyStates) (end : length ops ≤ i) (w : AreMade id ops h e i touches old new) where
+module _ (id : ShardId) (ops : List Op) (h : TxnHead) (e : Edit) (i : ℕ) (touches : Bool) (old new : KeyStates) (end : length ops ≤ i) (w : AreMade id ops h e i touches old new) where
   none_at : (x : List ℕ) → AreElsewhere x (take i ops) → accesses x ops ≡ []
   none_at x none = none_there x 0 ops (subst (AreElsewhere x) (take_all i ops end) none)
 
@@ -219,7 +219,7 @@ module _ (id : ShardId) (ops : List Op) (h : Head) (e : Edit) (i : ℕ) (touches
   something q = (let k = w.loud q in (k.0, change_by h e (accesses k.0 ops), k.2, (k.1, k.3, refl)))
 
 -- all was made of an edit that sets no key up
-module _ (id : ShardId) (ops : List Op) (h : Head) (i : ℕ) (touches : Bool) (old new : KeyStates) (end : length ops ≤ i) where
+module _ (id : ShardId) (ops : List Op) (h : TxnHead) (i : ℕ) (touches : Bool) (old new : KeyStates) (end : length ops ≤ i) where
   pub made_all : (e : Edit) → ((x : List ℕ) (v : Value) → e ≡ edit.SetUp x v → ⊥) → AreMade id ops h e i touches old new → IsMadeBy id ops h e old new
   made_all (edit.Arrive T) other w = record { changed = changed id ops h (edit.Arrive T) i touches old new end w; others = others id ops h (edit.Arrive T) i touches old new end w }
   made_all (edit.Resolve u o) other w = record { changed = changed id ops h (edit.Resolve u o) i touches old new end w; others = others id ops h (edit.Resolve u o) i touches old new end w }
@@ -233,7 +233,7 @@ module _ (id : ShardId) (ops : List Op) (h : Head) (i : ℕ) (touches : Bool) (o
   told_made (edit.SetUp x v) other w = absurd (other x v refl)
 
 -- what such an edit is where a key is accessed can be made there
-pub can_access : (id : ShardId) (ops : List Op) (h : Head) (e : Edit) (keys : KeyStates) → ((x : List ℕ) (v : Value) → e ≡ edit.SetUp x v → ⊥) → CanBeMadeBy id ops h e keys → CanBeAccessed id ops h e keys
+pub can_access : (id : ShardId) (ops : List Op) (h : TxnHead) (e : Edit) (keys : KeyStates) → ((x : List ℕ) (v : Value) → e ≡ edit.SetUp x v → ⊥) → CanBeMadeBy id ops h e keys → CanBeAccessed id ops h e keys
 can_access id ops h (edit.Arrive T) keys other can = can
 can_access id ops h (edit.Resolve u o) keys other can = can
 can_access id ops h (edit.Withdraw u) keys other can = can
@@ -241,14 +241,14 @@ can_access id ops h (edit.SetUp x v) keys other can = absurd (other x v refl)
 
 -- ---- a set-up
 
-pub set_up_made : (id : ShardId) (ops : List Op) (h : Head) (y : List ℕ) (v : Value) (old new : KeyStates) → is_ours id y ≡ true → IsChangedAt y (change.SetUp v ∷ []) old new → IsMadeBy id ops h (edit.SetUp y v) old new
+pub set_up_made : (id : ShardId) (ops : List Op) (h : TxnHead) (y : List ℕ) (v : Value) (old new : KeyStates) → is_ours id y ≡ true → IsChangedAt y (change.SetUp v ∷ []) old new → IsMadeBy id ops h (edit.SetUp y v) old new
 set_up_made id ops h y v old new ours changed = record {
   changed = λ x c o k. subst (λ d. IsMadeAt x (d ∷ []) old new) (sym k.1) (subst (λ z. IsMadeAt z (change.SetUp v ∷ []) old new) (sym k.0) changed.made);
   others = λ x none. changed.others x (λ f. none (ap (is_ours id) f ∙ ours) (change.SetUp v) (f, refl));
 }
 
 -- what is so of a set-up, whatever the operations, is so of the edit that is one
-pub as_set_up : {E : Type 0} (r : Result Bool E) (id : ShardId) (ops : List Op) (h : Head) (e : Edit) (y : List ℕ) (v : Value) → e ≡ edit.SetUp y v
-    → IfOk r (λ t. (ops : List Op) (h : Head) → IsTold id ops h (edit.SetUp y v) t) → IfOk r (IsTold id ops h e)
+pub as_set_up : {E : Type 0} (r : Result Bool E) (id : ShardId) (ops : List Op) (h : TxnHead) (e : Edit) (y : List ℕ) (v : Value) → e ≡ edit.SetUp y v
+    → IfOk r (λ t. (ops : List Op) (h : TxnHead) → IsTold id ops h (edit.SetUp y v) t) → IfOk r (IsTold id ops h e)
 as_set_up (Ok t) id ops h e y v is k = subst (λ d. IsTold id ops h d t) (sym is) (k ops h)
 as_set_up (Err x) id ops h e y v is k = tt

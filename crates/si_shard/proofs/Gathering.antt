@@ -13,15 +13,15 @@ use Rattle.si_model.specs.declared.edits.Edit.TheVariants as edit
 use Rattle.si_model.specs.Operations.{access_of, key_of, same_key}
 use Rattle.si_model.specs.Parts.{accesses, placed_at}
 use Rattle.si_model.proofs.Equalities.{same_key_from, same_key_is}
-use Rattle.si_shard.specs.declared.changes.Change.{Change}
-use Rattle.si_shard.specs.declared.changes.Change.TheVariants as change
+use Rattle.si_shard.specs.declared.key_changes.Change.{Change}
+use Rattle.si_shard.specs.declared.key_changes.Change.TheVariants as change
 use Rattle.si_shard.specs.declared.shard_ids.ShardId.{ShardId}
-use Rattle.si_shard.specs.declared.waiting.Head.{Head}
-use Rattle.si_shard.specs.declared.waiting.Waits.{Waits}
-use Rattle.si_shard.specs.Applied.{IsAccessChange, change_by}
-use Rattle.si_shard.specs.Changes.{with_access}
+use Rattle.si_shard.specs.declared.gathered_changes.TxnHead.{TxnHead}
+use Rattle.si_shard.specs.declared.gathered_changes.ChangesOfKey.{ChangesOfKey}
+use Rattle.si_shard.specs.AppliedEdits.{IsAccessChange, change_by}
+use Rattle.si_shard.specs.KeyChanges.{with_access}
 use Rattle.si_shard.specs.ShardIds.{is_ours}
-use Rattle.si_shard.specs.Waiting.{AddsAccess, AddsChange, AddsToSome, AreBefore, IsGathered, IsTold, changes_in, waiting_at}
+use Rattle.si_shard.specs.GatheredChanges.{AddsAccess, AddsChange, AddsToSome, AreBefore, IsGathered, IsTold, changes_in, waiting_at}
 
 -- ---- the operations that are left
 
@@ -30,50 +30,50 @@ abbrev pub from_on : List ℕ → ℕ → List Op → List Placed
 from_on x i ops = filter_map (placed_at x) (enumerate_from i ops)
 
 -- the edit's change of a key, of whose accesses these were walked
-abbrev pub IsWalkedTo : Head → Edit → ℕ → List Placed → Option Waits → Option Waits → Type 0
+abbrev pub IsWalkedTo : TxnHead → Edit → ℕ → List Placed → Option ChangesOfKey → Option ChangesOfKey → Type 0
 IsWalkedTo h e n [] old new = new ≡ old
-IsWalkedTo h e n (a ∷ ys) old new = (list : Waits) × (new ≡ Some list) × (list.last ≡ n) × (list.changes.items ≡ changes_in old ++ change_by h e (a ∷ ys) ∷ [])
+IsWalkedTo h e n (a ∷ ys) old new = (list : ChangesOfKey) × (new ≡ Some list) × (list.last ≡ n) × (list.changes.items ≡ changes_in old ++ change_by h e (a ∷ ys) ∷ [])
 
 -- an operation is on a key of the shard
 abbrev pub IsAccessed : ShardId → List Op → Type 0
 IsAccessed id ops = (x : List ℕ) × (a : Placed) × (is_ours id x ≡ true) × Contains (accesses x ops) a
 
 -- what was gathered of the operations before the place i, of which these are left
-pub record AreWalked {S : Type 0} (id : ShardId) (ops : List Op) (h : Head) (e : Edit) (n i : ℕ) (left : List Op) (touches : Bool) (old new : HashMap (List ℕ) Waits S) : Type 0 where
+pub record AreWalked {S : Type 0} (id : ShardId) (ops : List Op) (h : TxnHead) (e : Edit) (n i : ℕ) (left : List Op) (touches : Bool) (old new : HashMap (List ℕ) ChangesOfKey S) : Type 0 where
   pub ours : (x : List ℕ) → is_ours id x ≡ true → (ys : List Placed) × (ys ++ from_on x i left ≡ accesses x ops) × IsWalkedTo h e n ys (get same_key old x) (get same_key new x)
   pub others : (x : List ℕ) → is_ours id x ≡ false → get same_key new x ≡ get same_key old x
   pub quiet : touches ≡ false → (x : List ℕ) → is_ours id x ≡ true → from_on x i left ≡ accesses x ops
   pub loud : touches ≡ true → IsAccessed id ops
 
 -- at the beginning
-pub none_walked : {S : Type 0} (id : ShardId) (ops : List Op) (h : Head) (e : Edit) (n : ℕ) (lists : HashMap (List ℕ) Waits S) → AreWalked id ops h e n 0 ops false lists lists
+pub none_walked : {S : Type 0} (id : ShardId) (ops : List Op) (h : TxnHead) (e : Edit) (n : ℕ) (lists : HashMap (List ℕ) ChangesOfKey S) → AreWalked id ops h e n 0 ops false lists lists
 none_walked id ops h e n lists = record { ours = λ x o. ([], refl, refl); others = λ x o. refl; quiet = λ q x o. refl; loud = λ q. cc }
 
 -- what the edit is on a key, with one more access
-with_access_by : (h : Head) (e : Edit) (ys : List Placed) (p : Placed) → with_access p (change_by h e ys) ≡ change_by h e (ys ++ p ∷ [])
+with_access_by : (h : TxnHead) (e : Edit) (ys : List Placed) (p : Placed) → with_access p (change_by h e ys) ≡ change_by h e (ys ++ p ∷ [])
 with_access_by h (edit.Arrive T) ys p = refl
 with_access_by h (edit.Resolve u o) ys p = refl
 with_access_by h (edit.Withdraw u) ys p = refl
 with_access_by h (edit.SetUp x v) ys p = refl
 
 -- one more access after those that were walked
-walked_once : (h : Head) (e : Edit) (n : ℕ) (ys : List Placed) (p : Placed) (old mid : Option Waits) (new : Waits) → ((list : Waits) → old ≡ Some list → list.last < n) → new.last ≡ n
+walked_once : (h : TxnHead) (e : Edit) (n : ℕ) (ys : List Placed) (p : Placed) (old mid : Option ChangesOfKey) (new : ChangesOfKey) → ((list : ChangesOfKey) → old ≡ Some list → list.last < n) → new.last ≡ n
     → AddsToSome h e n p mid new.changes.items → IsWalkedTo h e n ys old mid → IsWalkedTo h e n (ys ++ p ∷ []) old (Some new)
 walked_once h e n [] p old mid new before last adds walked = (new, refl, last, by old mid walked adds before)
   where
-    by : (old mid : Option Waits) → mid ≡ old → AddsToSome h e n p mid new.changes.items → ((list : Waits) → old ≡ Some list → list.last < n) → new.changes.items ≡ changes_in old ++ change_by h e (p ∷ []) ∷ []
+    by : (old mid : Option ChangesOfKey) → mid ≡ old → AddsToSome h e n p mid new.changes.items → ((list : ChangesOfKey) → old ≡ Some list → list.last < n) → new.changes.items ≡ changes_in old ++ change_by h e (p ∷ []) ∷ []
     by None None w a b = a
     by None (Some m) w a b = cc
     by (Some o) None w a b = cc
     by (Some o) (Some m) w a b =
         let same : m ≡ o = same_some w in
         let earlier = b o refl in
-        let differs : m.last ≢ n = λ f. (let g : o.last ≡ n = ap (λ (l : Waits). l.last) (sym same) ∙ f in absurd (omega arith)) in
-        a.1 differs ∙ ap (λ (l : Waits). l.changes.items ++ change_by h e (p ∷ []) ∷ []) same
+        let differs : m.last ≢ n = λ f. (let g : o.last ≡ n = ap (λ (l : ChangesOfKey). l.last) (sym same) ∙ f in absurd (omega arith)) in
+        a.1 differs ∙ ap (λ (l : ChangesOfKey). l.changes.items ++ change_by h e (p ∷ []) ∷ []) same
 walked_once h e n (y ∷ ys) p old mid new before last adds (list, is, at, items) =
     (new, refl, last, (subst (λ o. AddsToSome h e n p o new.changes.items) is adds).0 at (changes_in old) (change_by h e (y ∷ ys)) items ∙ ap (λ c. changes_in old ++ c ∷ []) (with_access_by h e (y ∷ ys) p))
 
-module _ {S : Type 0} (id : ShardId) (ops : List Op) (h : Head) (e : Edit) (n i : ℕ) (p : Op) (left : List Op) (old mid : HashMap (List ℕ) Waits S) where
+module _ {S : Type 0} (id : ShardId) (ops : List Op) (h : TxnHead) (e : Edit) (n i : ℕ) (p : Op) (left : List Op) (old mid : HashMap (List ℕ) ChangesOfKey S) where
   next : (x : List ℕ) (b : Bool) → same_key (key_of p) x ≡ b → from_on x i (p ∷ left) ≡ cons_option (cond b (Some (record { place = i; access = access_of p })) None) (from_on x (i + 1) left)
   next x b s = ap (λ t. cons_option (cond t (Some (record { place = i; access = access_of p })) None) (from_on x (i + 1) left)) s
 
@@ -94,7 +94,7 @@ module _ {S : Type 0} (id : ShardId) (ops : List Op) (h : Head) (e : Edit) (n i 
   }
 
   -- one of ours adds its access
-  pub walked_on : (touches : Bool) (new : HashMap (List ℕ) Waits S) → is_ours id (key_of p) ≡ true → AreBefore n old → AddsAccess h e n (key_of p) (record { place = i; access = access_of p }) mid new
+  pub walked_on : (touches : Bool) (new : HashMap (List ℕ) ChangesOfKey S) → is_ours id (key_of p) ≡ true → AreBefore n old → AddsAccess h e n (key_of p) (record { place = i; access = access_of p }) mid new
       → AreWalked id ops h e n i (p ∷ left) touches old mid → AreWalked id ops h e n (i + 1) left true old new
   walked_on touches new ours before adds w = record {
     ours = λ x o. here_or x o (same_key (key_of p) x) refl;
@@ -131,18 +131,18 @@ module _ {S : Type 0} (id : ShardId) (ops : List Op) (h : Head) (e : Edit) (n i 
 
 -- ---- at the end
 
-module _ {S : Type 0} (id : ShardId) (ops : List Op) (h : Head) (e : Edit) (n i : ℕ) (touches : Bool) (old new : HashMap (List ℕ) Waits S) (w : AreWalked id ops h e n i [] touches old new) where
+module _ {S : Type 0} (id : ShardId) (ops : List Op) (h : TxnHead) (e : Edit) (n i : ℕ) (touches : Bool) (old new : HashMap (List ℕ) ChangesOfKey S) (w : AreWalked id ops h e n i [] touches old new) where
   walked_all : (x : List ℕ) → is_ours id x ≡ true → IsWalkedTo h e n (accesses x ops) (get same_key old x) (get same_key new x)
   walked_all x o = (let k = w.ours x o in subst (λ ys. IsWalkedTo h e n ys (get same_key old x) (get same_key new x)) (sym (append-nil k.0) ∙ k.1) k.2)
 
   abbrev WaitsThere : List ℕ → Change → Type 0
-  WaitsThere x c = (list : Waits) × (get same_key new x ≡ Some list) × (list.last ≡ n) × (list.changes.items ≡ changes_in (get same_key old x) ++ c ∷ [])
+  WaitsThere x c = (list : ChangesOfKey) × (get same_key new x ≡ Some list) × (list.last ≡ n) × (list.changes.items ≡ changes_in (get same_key old x) ++ c ∷ [])
 
   changed : (x : List ℕ) (c : Change) → is_ours id x ≡ true → IsAccessChange ops h e x c → WaitsThere x c
   changed x c o (a, there, is) = by (accesses x ops) refl (walked_all x o)
     where
       by : (ys : List Placed) → accesses x ops ≡ ys → IsWalkedTo h e n ys (get same_key old x) (get same_key new x)
-          → (list : Waits) × (get same_key new x ≡ Some list) × (list.last ≡ n) × (list.changes.items ≡ changes_in (get same_key old x) ++ c ∷ [])
+          → (list : ChangesOfKey) × (get same_key new x ≡ Some list) × (list.last ≡ n) × (list.changes.items ≡ changes_in (get same_key old x) ++ c ∷ [])
       by [] f k = absurd (Contains-nil a (subst (λ l. Contains l a) f there))
       by (y ∷ ys) f (list, at, last, items) = (list, at, last, items ∙ ap (λ d. changes_in (get same_key old x) ++ d ∷ []) (ap (change_by h e) (sym f) ∙ sym is))
 
@@ -164,7 +164,7 @@ module _ {S : Type 0} (id : ShardId) (ops : List Op) (h : Head) (e : Edit) (n i 
   something q = (let k = w.loud q in (k.0, change_by h e (accesses k.0 ops), k.2, (k.1, k.3, refl)))
 
 -- all was gathered of an edit that sets no key up
-module _ {S : Type 0} (id : ShardId) (ops : List Op) (h : Head) (n i : ℕ) (touches : Bool) (old new : HashMap (List ℕ) Waits S) where
+module _ {S : Type 0} (id : ShardId) (ops : List Op) (h : TxnHead) (n i : ℕ) (touches : Bool) (old new : HashMap (List ℕ) ChangesOfKey S) where
   pub gathered_all : (e : Edit) → ((x : List ℕ) (v : Value) → e ≡ edit.SetUp x v → ⊥) → AreWalked id ops h e n i [] touches old new → IsGathered id ops h e n old new
   gathered_all (edit.Arrive T) other w = record { changed = changed id ops h (edit.Arrive T) n i touches old new w; others = others id ops h (edit.Arrive T) n i touches old new w }
   gathered_all (edit.Resolve u o) other w = record { changed = changed id ops h (edit.Resolve u o) n i touches old new w; others = others id ops h (edit.Resolve u o) n i touches old new w }
@@ -179,7 +179,7 @@ module _ {S : Type 0} (id : ShardId) (ops : List Op) (h : Head) (n i : ℕ) (tou
 
 -- ---- a set-up
 
-module _ {S : Type 0} (id : ShardId) (ops : List Op) (h : Head) (y : List ℕ) (v : Value) (n : ℕ) (old new : HashMap (List ℕ) Waits S) where
+module _ {S : Type 0} (id : ShardId) (ops : List Op) (h : TxnHead) (y : List ℕ) (v : Value) (n : ℕ) (old new : HashMap (List ℕ) ChangesOfKey S) where
   pub set_up_gathered : is_ours id y ≡ true → AddsChange (change.SetUp v) n y old new → IsGathered id ops h (edit.SetUp y v) n old new
   set_up_gathered ours adds = record {
     changed = λ x c o k. (

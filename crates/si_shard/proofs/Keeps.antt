@@ -17,7 +17,7 @@ use Rattle.si_model.proofs.Equalities.{same_id_is}
 use Rattle.si_model.proofs.PresentHistories.{acceptance_exact, present_history}
 use Rattle.si_shard.specs.declared.shard_ids.ShardId.{ShardId}
 use Rattle.si_shard.specs.ShardIds.{is_ours}
-use Rattle.si_shard.specs.Applied.{TouchesShard}
+use Rattle.si_shard.specs.AppliedEdits.{TouchesShard}
 use Rattle.si_shard.specs.Keeping.{AreKept, BeginsWith, Concerns, IsTaken, is_touching, kept_after, present_on}
 use Rattle.si_shard.proofs.PresentOn.{arrival_on, arrival_past, filter_whole, history_on, map_whole, not_touching, resolution_on, set_up_on_shard, set_up_past, touching_exact, withdrawal_on}
 

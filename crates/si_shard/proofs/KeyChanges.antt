@@ -23,14 +23,14 @@ use Rattle.si_judge.specs.Following.{empty_key}
 use Rattle.si_judge.specs.States.{HasPart}
 use Rattle.si_judge.proofs.Following.{nothing_of_history, others_not_had, others_pass, same_itself, set_ups_follow}
 use Rattle.si_shard.specs.declared.shard_ids.ShardId.{ShardId}
-use Rattle.si_shard.specs.declared.applied.Applied.{Applied}
+use Rattle.si_shard.specs.declared.applied_edits.Applied.{Applied}
 use Rattle.si_shard.specs.declared.arrivals.Arrival.{Arrival}
-use Rattle.si_shard.specs.declared.changes.Change.{Change}
-use Rattle.si_shard.specs.declared.changes.Change.TheVariants as change
-use Rattle.si_shard.specs.Applied.{AreApplied, IsChangeOn, change_by, head_at, head_for, ops_at, ops_for, part_by}
+use Rattle.si_shard.specs.declared.key_changes.Change.{Change}
+use Rattle.si_shard.specs.declared.key_changes.Change.TheVariants as change
+use Rattle.si_shard.specs.AppliedEdits.{AreApplied, IsChangeOn, change_by, head_at, head_for, ops_at, ops_for, part_by}
 use Rattle.si_shard.specs.Arrivals.{AreArrivals, AreKnown, IsReadyFor}
-use Rattle.si_shard.specs.Changes.{AsksRightly, CanChange, changed_on}
-use Rattle.si_shard.specs.Keyed.{IsOn}
+use Rattle.si_shard.specs.KeyChanges.{AsksRightly, CanChange, changed_on}
+use Rattle.si_shard.specs.KeyStates.{IsOn}
 use Rattle.si_shard.proofs.ArrivalPlaces.{same_head, same_ops}
 
 pub some_or_none : (ys : List Placed) → ((b : Placed) × Contains ys b) ⊎ (ys ≡ [])

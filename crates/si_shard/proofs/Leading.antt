@@ -8,15 +8,15 @@ use Rattle.si_model.specs.Parts.{on_key}
 use Rattle.si_model.specs.Journals.{present}
 use Rattle.si_judge.specs.Following.{empty_key}
 use Rattle.si_shard.specs.declared.shard_ids.ShardId.{ShardId}
-use Rattle.si_shard.specs.declared.applied.Applied.{Applied}
-use Rattle.si_shard.specs.declared.changes.Change.{Change}
-use Rattle.si_shard.specs.declared.waiting.Waits.{Waits}
+use Rattle.si_shard.specs.declared.applied_edits.Applied.{Applied}
+use Rattle.si_shard.specs.declared.key_changes.Change.{Change}
+use Rattle.si_shard.specs.declared.gathered_changes.ChangesOfKey.{ChangesOfKey}
 use Rattle.si_shard.specs.ShardIds.{is_ours}
-use Rattle.si_shard.specs.Applied.{AreApplied}
+use Rattle.si_shard.specs.AppliedEdits.{AreApplied}
 use Rattle.si_shard.specs.Arrivals.{AreKnown}
-use Rattle.si_shard.specs.Changes.{CanChange, LeadsTo, changed_on}
-use Rattle.si_shard.specs.Keyed.{AreChangedAll, CanChangeAll, IsOn}
-use Rattle.si_shard.specs.Waiting.{AreGatheredTo, changes_in}
+use Rattle.si_shard.specs.KeyChanges.{CanChange, LeadsTo, changed_on}
+use Rattle.si_shard.specs.KeyStates.{AreChangedAll, CanChangeAll, IsOn}
+use Rattle.si_shard.specs.GatheredChanges.{AreGatheredTo, changes_in}
 
 -- ---- one more change
 
@@ -28,7 +28,7 @@ leads_on (d ∷ cs) Q R c leads can = (leads.0, leads_on cs (changed_on d Q) R c
 -- ---- what was gathered
 
 -- nothing waits
-pub nothing_waits : {S : Type 0} (id : ShardId) (edits : List Edit) (a : Applied) (lists : HashMap (List ℕ) Waits S)
+pub nothing_waits : {S : Type 0} (id : ShardId) (edits : List Edit) (a : Applied) (lists : HashMap (List ℕ) ChangesOfKey S)
     → ((x : List ℕ) → get same_key lists x ≡ None) → AreApplied id edits a → AreGatheredTo id edits a lists
 nothing_waits id edits a lists none sound = record {
   ours = λ x e. (on_key x (present edits), sound.ours x e, subst (λ o. LeadsTo (changes_in o) (on_key x (present edits)) (on_key x (present edits))) (sym (none x)) refl);
@@ -37,7 +37,7 @@ nothing_waits id edits a lists none sound = record {
   arrivals = sound.arrivals;
 }
 
-module _ {S : Type 0} (id : ShardId) (edits : List Edit) (a : Applied) (lists : HashMap (List ℕ) Waits S) (sound : AreGatheredTo id edits a lists) where
+module _ {S : Type 0} (id : ShardId) (edits : List Edit) (a : Applied) (lists : HashMap (List ℕ) ChangesOfKey S) (sound : AreGatheredTo id edits a lists) where
   -- what waits can be made
   pub can_make : CanChangeAll lists a.keys
   can_make x list e = by (is_ours id x) refl
@@ -54,6 +54,6 @@ module _ {S : Type 0} (id : ShardId) (edits : List Edit) (a : Applied) (lists : 
     arrivals = subst (AreKnown edits) (sym same) sound.arrivals;
   }
     where
-      by : (x : List ℕ) (o : Option Waits) → get same_key lists x ≡ o → (Q : OnKey) × IsOn a.keys x Q × LeadsTo (changes_in (get same_key lists x)) Q (on_key x (present edits)) → IsOn new.keys x (on_key x (present edits))
+      by : (x : List ℕ) (o : Option ChangesOfKey) → get same_key lists x ≡ o → (Q : OnKey) × IsOn a.keys x Q × LeadsTo (changes_in (get same_key lists x)) Q (on_key x (present edits)) → IsOn new.keys x (on_key x (present edits))
       by x None e k = made.others x e (on_key x (present edits)) (subst (IsOn a.keys x) (subst (λ o. LeadsTo (changes_in o) k.0 (on_key x (present edits))) e k.2) k.1)
       by x (Some list) e k = made.changed x list e k.0 (on_key x (present edits)) k.1 (subst (λ o. LeadsTo (changes_in o) k.0 (on_key x (present edits))) e k.2)

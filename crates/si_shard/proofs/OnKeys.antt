@@ -16,10 +16,10 @@ use Rattle.si_judge.specs.Following.{empty_key}
 use Rattle.si_judge.specs.Kept.{IsBare, Kept, Shows}
 use Rattle.si_judge.proofs.Bare.{empty_bare, nothing_found}
 use Rattle.si_judge.proofs.Following.{nothing_of_history}
-use Rattle.si_shard.specs.declared.changes.Change.{Change}
-use Rattle.si_shard.specs.declared.keyed.KeyStates.{KeyStates}
-use Rattle.si_shard.specs.Changes.{LeadsTo}
-use Rattle.si_shard.specs.Keyed.{HasFinding, IsChangedAt, IsChangedIn, IsLeft, IsMadeAt, IsOn, IsOnKey, IsToldAt, ShowsAt, StaysAt}
+use Rattle.si_shard.specs.declared.key_changes.Change.{Change}
+use Rattle.si_shard.specs.declared.key_states.KeyStates.{KeyStates}
+use Rattle.si_shard.specs.KeyChanges.{LeadsTo}
+use Rattle.si_shard.specs.KeyStates.{HasFinding, IsChangedAt, IsChangedIn, IsLeft, IsMadeAt, IsOn, IsOnKey, IsToldAt, ShowsAt, StaysAt}
 
 -- ---- where nothing is kept
 

@@ -20,7 +20,7 @@ use Rattle.si_model.proofs.Equalities.{same_key_is}
 use Rattle.si_model.proofs.KeyParts.{accesses_are}
 use Rattle.si_shard.specs.declared.shard_ids.ShardId.{ShardId}
 use Rattle.si_shard.specs.ShardIds.{is_ours}
-use Rattle.si_shard.specs.Applied.{TouchesShard}
+use Rattle.si_shard.specs.AppliedEdits.{TouchesShard}
 use Rattle.si_shard.specs.Keeping.{is_touching, present_on}
 use Rattle.si_shard.proofs.ArrivalPlaces.{resolved_ops}
 use Rattle.si_shard.proofs.KeyChanges.{part_not, some_or_none}

@@ -29,10 +29,10 @@ use Rattle.si_model.proofs.Orderless.{unique_list}
 use Rattle.si_model.proofs.PresentHistories.{present_history}
 use Rattle.si_judge.specs.Following.{empty_key}
 use Rattle.si_shard.specs.declared.shard_ids.ShardId.{ShardId}
-use Rattle.si_shard.specs.declared.applied.Applied.{Applied}
+use Rattle.si_shard.specs.declared.applied_edits.Applied.{Applied}
 use Rattle.si_shard.specs.ShardIds.{is_ours}
-use Rattle.si_shard.specs.Applied.{AreApplied}
-use Rattle.si_shard.specs.Keyed.{AreOn, IsOn, findings_at}
+use Rattle.si_shard.specs.AppliedEdits.{AreApplied}
+use Rattle.si_shard.specs.KeyStates.{AreOn, IsOn, findings_at}
 use Rattle.si_shard.specs.Keeping.{AreKept}
 use Rattle.si_shard.specs.Shards.{findings_in}
 use Rattle.si_shard.proofs.OnKeys.{none_empty, of_history}

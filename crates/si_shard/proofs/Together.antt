@@ -12,13 +12,13 @@ use Rattle.si_lists.proofs.Pushes.{push_cases, push_keeps, push_last}
 use Rattle.si_model.specs.declared.parts.OnKey.{OnKey}
 use Rattle.si_model.specs.Operations.{same_key}
 use Rattle.si_model.proofs.Equalities.{same_key_from, same_key_is}
-use Rattle.si_shard.specs.declared.waiting.Waits.{Waits}
-use Rattle.si_shard.specs.declared.keyed.KeyStates.{KeyStates}
-use Rattle.si_shard.specs.Changes.{LeadsTo}
-use Rattle.si_shard.specs.Keyed.{AreChangedAll, CanChangeAll, IsChangedAt, IsMadeAt, IsOn, StaysAt}
+use Rattle.si_shard.specs.declared.gathered_changes.ChangesOfKey.{ChangesOfKey}
+use Rattle.si_shard.specs.declared.key_states.KeyStates.{KeyStates}
+use Rattle.si_shard.specs.KeyChanges.{LeadsTo}
+use Rattle.si_shard.specs.KeyStates.{AreChangedAll, CanChangeAll, IsChangedAt, IsMadeAt, IsOn, StaysAt}
 
 abbrev pub Entries : Type 0
-Entries = List (List ℕ × Waits)
+Entries = List (List ℕ × ChangesOfKey)
 
 -- what stands before an element of a list is related to it
 pub pairs_before : {X : Type 0} (R : X → X → Type 0) (xs : List X) (y : X) (ys : List X) → AllPairs R (xs ++ y ∷ ys) → (x : X) → Contains xs x → R x y
@@ -38,7 +38,7 @@ once (p ∷ es) u = pairs_cons (λ a b. a.0 ≢ b.0) p es
     (λ q c same. (let differ = at_each (λ y. same_key p.0 y ≡ false) (keys_of es) q.0 u.0 (Contains-map (λ r. r.0) es q c) in let no : true ≡ false = sym (same_key_from p.0 q.0 same) ∙ differ in cc))
     (once es u.1)
 
-looked_up : (x : List ℕ) (list : Waits) (es : Entries) → AllPairs (λ a b. a.0 ≢ b.0) es → Contains es (x, list) → lookup (same_key x) es ≡ Some list
+looked_up : (x : List ℕ) (list : ChangesOfKey) (es : Entries) → AllPairs (λ a b. a.0 ≢ b.0) es → Contains es (x, list) → lookup (same_key x) es ≡ Some list
 looked_up x list [] pairs c = absurd (Contains-nil (x, list) c)
 looked_up x list (p ∷ es) pairs c = elim (Contains-cons_cases p es (x, list) c) [
   | inl e ↦ ap (λ b. cond b (Some p.1) (lookup (same_key x) es)) (same_key_from x p.0 (sym (ap (λ q. q.0) e))) ∙ ap Some (ap (λ q. q.1) e)
@@ -53,20 +53,20 @@ looked_up x list (p ∷ es) pairs c = elim (Contains-cons_cases p es (x, list) c
 
 -- the lists of these keys were made, and nothing else was
 pub record AreDone (es : Entries) (old new : KeyStates) : Type 0 where
-  pub changed : (x : List ℕ) (list : Waits) → Contains es (x, list) → IsMadeAt x list.changes.items old new
-  pub others : (x : List ℕ) → ((list : Waits) → Contains es (x, list) → ⊥) → StaysAt x old new
+  pub changed : (x : List ℕ) (list : ChangesOfKey) → Contains es (x, list) → IsMadeAt x list.changes.items old new
+  pub others : (x : List ℕ) → ((list : ChangesOfKey) → Contains es (x, list) → ⊥) → StaysAt x old new
 
 -- before any change
 pub none_done : (ks : KeyStates) → AreDone [] ks ks
 none_done ks = record { changed = λ x list at. absurd (Contains-nil (x, list) at); others = λ x none Q on. on }
 
-module _ {S : Type 0} (lists : HashMap (List ℕ) Waits S) (unique : IsUnique same_key lists) where
+module _ {S : Type 0} (lists : HashMap (List ℕ) ChangesOfKey S) (unique : IsUnique same_key lists) where
   pairs : AllPairs (λ a b. a.0 ≢ b.0) lists.entries
   pairs = once lists.entries unique
 
-  module _ (done rest : Entries) (x : List ℕ) (list : Waits) (split : lists.entries ≡ done ++ (x, list) ∷ rest) where
+  module _ (done rest : Entries) (x : List ℕ) (list : ChangesOfKey) (split : lists.entries ≡ done ++ (x, list) ∷ rest) where
     -- the key of a list comes once
-    new_key : (d : Waits) → Contains done (x, d) → ⊥
+    new_key : (d : ChangesOfKey) → Contains done (x, d) → ⊥
     new_key d at = pairs_before (λ a b. a.0 ≢ b.0) done (x, list) rest (subst (AllPairs (λ a b. a.0 ≢ b.0)) split pairs) (x, d) at refl
 
     stands : get same_key lists x ≡ Some list

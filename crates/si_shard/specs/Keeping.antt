@@ -9,7 +9,7 @@ use Rattle.si_model.specs.Parts.{Present}
 use Rattle.si_model.specs.Journals.{IsAccepted, present}
 use Rattle.si_shard.specs.declared.shard_ids.ShardId.{ShardId}
 use Rattle.si_shard.specs.ShardIds.{is_ours}
-use Rattle.si_shard.specs.Applied.{TouchesShard}
+use Rattle.si_shard.specs.AppliedEdits.{TouchesShard}
 
 -- whether an operation of the transaction is on a key of the shard
 abbrev pub is_touching : ShardId → Txn → Bool

@@ -1,11 +1,11 @@
 -- What the contracts of the shards cite.
 pub mod ShardIds
 pub mod Arrivals
-pub mod Applied
-pub mod Changes
+pub mod AppliedEdits
+pub mod KeyChanges
 pub mod Keeping
-pub mod Keyed
+pub mod KeyStates
 pub mod Shards
-pub mod Straight
-pub mod Waiting
+pub mod SingleEdits
+pub mod GatheredChanges
 pub mod Laws

@@ -7,9 +7,9 @@ use Rattle.si_model.specs.Parts.{Present}
 use Rattle.si_model.specs.Findings.{findings}
 use Rattle.si_model.specs.Journals.{IsAccepted}
 use Rattle.si_shard.specs.declared.shard_ids.ShardId.{ShardId}
-use Rattle.si_shard.specs.declared.applied.Applied.{Applied}
+use Rattle.si_shard.specs.declared.applied_edits.Applied.{Applied}
 use Rattle.si_shard.specs.ShardIds.{is_ours}
-use Rattle.si_shard.specs.Applied.{AreApplied}
+use Rattle.si_shard.specs.AppliedEdits.{AreApplied}
 use Rattle.si_shard.specs.Keeping.{AreKept}
 
 -- the findings of what is present that are on keys of the shard, in order

@@ -4,16 +4,16 @@
 //! on `si_model`, `si_judge`, `si_hashing` and `indexmap`, and its proofs on `si_lists`.
 #![tactic(auto)]
 
-mod applied;
+mod applied_edits;
 mod arrivals;
-mod changes;
-mod keyed;
+mod gathered_changes;
+mod key_changes;
+mod key_states;
 pub mod laws;
-mod past;
 mod shard_ids;
 pub mod shards;
-mod straight;
-mod waiting;
+mod single_edits;
+mod stored_edits;
 
 pub use shards::{MOST_SHARDS, Shard};
 pub use si_judge::KeyFault;

@@ -1,16 +1,16 @@
 //! A shard: the edits that it was given, those of them that it keeps, and what these make of its keys, or that it is spoiled. What one edit
-//! is on the keys stands in `applied.rt`.
+//! is on the keys stands in `applied_edits.rt`.
 
 ghost use Rattle.std.specs.Prelude.{◌≡◌, ◌↔◌, ℕ, ◌+◌, ◌<◌, ◌≤◌, true, false, [], ◌∷◌, ◌++◌, length, Err, IfOk, OnOk, OnErr};
 ghost use Rattle.si_model.specs.Journals.{IsAccepted, present};
 ghost use Rattle.si_judge.specs.declared.states.KeyFault.TheVariants as fault;
-ghost use Rattle.si_shard.specs.Applied.{AreApplied};
+ghost use Rattle.si_shard.specs.AppliedEdits.{AreApplied};
 ghost use Rattle.si_shard.specs.Keeping.{AreKept, BeginsWith};
 ghost use Rattle.si_shard.specs.Shards.{findings_in};
 
-use crate::applied::Applied;
-use crate::past::Stored;
+use crate::applied_edits::Applied;
 use crate::shard_ids::ShardId;
+use crate::stored_edits::Stored;
 use si_judge::KeyFault;
 use si_model::{Edit, Finding, Number, OutOfMemory};
 use std::alloc::Global;

@@ -1,6 +1,6 @@
 use Rattle.std.proofs.Common.{rules, ◌≡◌, ◌++◌, [], ◌∷◌, true, false, sym, subst}
 use Rattle.si_model.specs.Journals.{IsAccepted, present}
-use Rattle.si_shard.specs.Applied.{AreApplied}
+use Rattle.si_shard.specs.AppliedEdits.{AreApplied}
 use Rattle.si_shard.specs.Keeping.{AreKept, BeginsWith, Concerns, IsTaken}
 use Rattle.si_shard.proofs.Keeps.{accepted_next, begins_same, taken_next}
 use Rattle.si_shard.proofs.shards.apply_and_keep.Goals as goal

@@ -9,15 +9,15 @@ use Rattle.si_checker.proofs.checkers.Checker.settle.Goals as goal
 pub returns-clause-found : goal.returns-clause-found
 returns-clause-found g c =
     let shards = g.N.Name.board.shards in
-    let J = edits_of c.args.desk.now.journal in
-    let all : c.loop-k.k ≡ shards = (let e = c.loop-k.auto.k-end in let t = c.loop-k-test.false in let l = c.len-k-end.ensures in let b = c.args.self.now.bays_are in omega arith) in
+    let J = edits_of c.args.locked_book.now.journal in
+    let all : c.loop-k.k ≡ shards = (let e = c.loop-k.auto.k-end in let t = c.loop-k-test.false in let l = c.len-k-end.ensures in let b = c.args.self.now.locked_shards_are in omega arith) in
     let accepted : IsAccepted J = subst (λ (b : BookView). IsAccepted (edits_of b.journal)) c.loop-k.invariant.0 c.journal-accepted.ensures.accepted in
     c.put_in_order.ensures ∙ ap (in_order finding_cmp) (c.loop-k.invariant.1 ∙ ap (λ (n : ℕ). findings_below n shards (present J)) all)
     ∙ c.findings_are_of_shards.ensures shards (present J) c.args.self.now.some (c.present_is_history.ensures J accepted)
 
 pub returns-clause-empty : goal.returns-clause-empty
 returns-clause-empty g c =
-    let J = edits_of c.args.desk.now.journal in
+    let J = edits_of c.args.locked_book.now.journal in
     let accepted : IsAccepted J = subst (λ (b : BookView). IsAccepted (edits_of b.journal)) c.loop-k.invariant.0 c.journal-accepted.ensures.accepted in
     let exact = c.emptiness_is_exact.ensures (present J) (c.present_is_history.ensures J accepted) in
     let found = returns-clause-found g c in

@@ -6,5 +6,5 @@ use Rattle.si_checker.proofs.checkers.Checker.settle.Given as goal
 
 abbrev pub invariant-loop-k : goal.invariant-loop-k
 invariant-loop-k g l =
-    (l.desk ≡ l.fn.desk)
-    × (l.found.items ≡ findings_below l.k g.N.Name.board.shards (present (edits_of l.fn.desk.journal)))
+    (l.locked_book ≡ l.fn.locked_book)
+    × (l.found.items ≡ findings_below l.k g.N.Name.board.shards (present (edits_of l.fn.locked_book.journal)))

@@ -1,0 +1,28 @@
+use Rattle.std.proofs.Common.{◌≡◌, List, ◌++◌, drop, take, sym, subst}
+use Rattle.std.specs.Vec.{vec_len}
+use Rattle.si_model.specs.declared.edits.Edit.{Edit}
+use Rattle.si_model.specs.Journals.{IsAccepted}
+use Rattle.si_words.specs.declared.views.ShardView.{ShardView}
+use Rattle.si_words.specs.Entries.{edits_of}
+use Rattle.si_words.specs.Seats.{Seated}
+use Rattle.si_checker.specs.LockedShards.{LockedShardState, IsLockedShard}
+use Rattle.si_checker.proofs.Storing.{locked_shard_applied, further_accepted}
+use Rattle.si_checker.proofs.locked_shards.LockedShard.apply.Goals as goal
+
+pub store-requires-clause-accepted : goal.store-requires-clause-accepted
+store-requires-clause-accepted g c =
+    let seat = c.self.inside.seat.view in
+    let edits = c.args.edits in
+    let next = subst (λ (b : LockedShardState). edits.items ≡ take (vec_len edits) (drop b.seat.done (edits_of b.seat.due))) (sym c.self.view_is) c.requires.next in
+    subst (λ (l : List Edit). IsAccepted (l ++ edits.items)) (sym c.self.invariant.stored)
+    (further_accepted (edits_of seat.due) edits.items seat.done (vec_len edits) next (sym edits.ok.0) c.accepted_begins.ensures c.self.invariant.accepted)
+
+pub invariant_of-self : goal.invariant_of-self
+invariant_of-self g c =
+    let seat = c.self.inside.seat in
+    let edits = c.args.edits in
+    let next = subst (λ (b : LockedShardState). edits.items ≡ take (vec_len edits) (drop b.seat.done (edits_of b.seat.due))) (sym c.self.view_is) c.requires.next in
+    let stored = c.store.ensures.stored in
+    subst (λ (s : Seated ShardView). IsLockedShard g.N.Name.board c.store.new.shard s) (sym c.publish.ensures)
+    (locked_shard_applied g.N.Name.board c.self.inside.shard c.store.new.shard seat edits.items (vec_len edits) stored.0 c.position.result c.self.invariant next (sym edits.ok.0) c.store.ensures.id stored.1 stored.2
+    c.position.ensures stored.4)

@@ -1,0 +1,18 @@
+-- What lies under the lock of the book. All of it is this project's choice.
+use Rattle.std.specs.Prelude.{◌≡◌, ℕ, ◌≤◌, length}
+use Rattle.si_model.specs.declared.edits.TheConstants.{MOST_EDITS}
+use Rattle.si_model.specs.Journals.{IsAccepted}
+use Rattle.si_accept.specs.Books.{BookState}
+use Rattle.si_words.specs.declared.views.BookView.{BookView}
+use Rattle.si_words.specs.Entries.{edits_of}
+use Rattle.si_words.specs.Seats.{Board, Seated}
+
+-- the book's journal is the edits of the journal that its seat knows, which is accepted and within the limit
+pub record IsLockedBook (board : Board) (limit : ℕ) (book : BookState) (seat : Seated BookView) : Type 0 where
+  pub table : seat.table ≡ board.table
+  pub passes : seat.view.passes ≡ board.passes
+  pub within : book.limit ≡ limit
+  pub most : limit ≤ MOST_EDITS
+  pub journal : book.journal ≡ edits_of seat.view.journal
+  pub accepted : IsAccepted (edits_of seat.view.journal)
+  pub room : length seat.view.journal ≤ limit

@@ -1,0 +1,268 @@
+//! What lies under the lock of the book, and what calls do there.
+ghost use Rattle.std.specs.Prelude.{◌≡◌, ℕ, ◌<◌, ◌≤◌, None, All, [], length, take, drop, slice_index, IfOk, OnOk, IfErr, OnErr};
+ghost use Rattle.std.specs.Vec.{vec_len};
+ghost use Rattle.si_model.specs.Journals.{IsAccepted, present, refusal_after};
+ghost use Rattle.si_accept.specs.Faults.{IsFaultOf};
+ghost use Rattle.si_accept.specs.Statuses.{committed_among, doubtful_among};
+ghost use Rattle.si_words.specs.Entries.{IsBeginning, edits_of, entry, made_by};
+ghost use Rattle.si_words.specs.Seats.{seated};
+ghost use Rattle.si_words.specs.Views.{book_closed, new_book, with_entry, with_mine, with_seen};
+
+use crate::{Name, Statuses};
+use si_accept::{AcceptFault, Book};
+use si_model::{Edit, Key, Number, OutOfMemory, Txn, Value};
+use si_words::laws::edits_append;
+use si_words::{BookSeat, Pass, Words};
+use std::alloc::Global;
+use std::marker::{Model, PhantomData};
+use std::snapshot::Snapshot;
+
+/// The most edits that are copied at once.
+pub const MOST_AT_ONCE: usize = 64;
+
+/// The book and its seat. Contracts see what the seat knows: its journal is the book's, with the pass of each edit.
+#[derive(Drop)]
+pub struct LockedBook<N: Name> {
+    book: Book,
+    pub(crate) seat: BookSeat,
+    of: PhantomData<N>,
+}
+
+impl<N: Name> Model for LockedBook<N> {
+    ghost use Rattle.si_words.specs.declared.views.BookView.{BookView};
+    ghost use Rattle.si_checker.specs.LockedBooks.{IsLockedBook};
+
+    ghost Value = { BookView };
+
+    ghost view = { λ d. d.seat.view };
+
+    ghost invariant = { λ d. IsLockedBook N.board N.limit d.book d.seat };
+}
+
+impl<N: Name> LockedBook<N> {
+    /// A book with an empty journal, and its seat.
+    ///
+    /// # Examples
+    ///
+    /// ```
+    /// let locked_book = LockedBook::new(Book::new(alloc, hash, limit), seat);
+    /// ```
+    pub fn new(book: Book, seat: BookSeat) -> Self
+        requires book { book ≡ record { limit = N.limit; journal = [] } }
+        requires seat { seat ≡ seated N.board.table (new_book N.board.passes) }
+        ensures { result ≡ new_book N.board.passes }
+    {
+        // The limit of any book is in its bounds.
+        let _limit = book.limit();
+        LockedBook {
+            book,
+            seat,
+            of: PhantomData,
+        }
+    }
+
+    /// Accepts the edit, or tells the first reason against it. Then the pass sees the journal.
+    ///
+    /// The answer is the edit's number, and it bears the pass. After a fault the journal is as before.
+    ///
+    /// # Examples
+    ///
+    /// ```
+    /// let number = locked_book.submit(&words, &mut pass, edit)?; // the pass has seen the journal, which ends with this edit
+    /// ```
+    pub fn submit(
+        &mut self,
+        words: &Words,
+        pass: &mut Pass,
+        edit: Edit,
+    ) -> Result<Number, AcceptFault>
+        requires words { words.now ≡ N.board }
+        requires own { pass.old.table ≡ N.board.table }
+        ensures locked_book { OnOk result (self.new ≡ with_entry (entry pass.old.view.number edit) self.old) }
+        ensures number { IfOk result (λ number. number.0 ≡ length self.new.journal) }
+        ensures free { OnOk result (refusal_after N.limit (edits_of self.old.journal) edit ≡ None) }
+        ensures mine { OnOk result (pass.new ≡ record pass.old { view = with_seen self.new.journal (with_mine (entry pass.old.view.number edit) pass.old.view) }) }
+        ensures fault { IfErr result (IsFaultOf (refusal_after N.limit (edits_of self.old.journal) edit)) }
+        ensures err { OnErr result (self.new ≡ self.old) }
+        ensures sees { OnErr result (pass.new ≡ record pass.old { view = with_seen self.new.journal pass.old.view }) }
+        ensures begins { IsBeginning pass.old.view.seen self.old.journal }
+        ensures counted { pass.old.view.count ≤ length self.old.journal }
+        ensures accepted { IsAccepted (edits_of self.new.journal) }
+        ensures made { pass.new.view.mine ≡ made_by pass.new.view.number self.new.journal }
+        ensures bearers { All (λ e. e.by < N.board.passes) self.new.journal }
+    {
+        let said = Snapshot::of(&edit);
+        match self.book.accept(edit) {
+            Ok(number) => {
+                words.issue(&mut self.seat, pass, said);
+                edits_append();
+                words.see(pass, &mut self.seat);
+                Ok(number)
+            }
+            Err(fault) => {
+                words.see(pass, &mut self.seat);
+                Err(fault)
+            }
+        }
+    }
+
+    /// The pass sees the journal.
+    ///
+    /// # Examples
+    ///
+    /// ```
+    /// locked_book.show(&words, &mut pass); // the pass has seen the journal
+    /// ```
+    pub fn show(&mut self, words: &Words, pass: &mut Pass)
+        requires words { words.now ≡ N.board }
+        requires own { pass.old.table ≡ N.board.table }
+        ensures locked_book { self.new ≡ self.old }
+        ensures sees { pass.new ≡ record pass.old { view = with_seen self.old.journal pass.old.view } }
+        ensures begins { IsBeginning pass.old.view.seen self.old.journal }
+        ensures counted { pass.old.view.count ≤ length self.old.journal }
+        ensures marks { (k : ℕ) → k < N.board.shards → slice_index pass.old.view.marks k ≤ length self.old.journal }
+        ensures accepted { IsAccepted (edits_of self.old.journal) }
+        ensures made { pass.old.view.mine ≡ made_by pass.old.view.number self.old.journal }
+        ensures bearers { All (λ e. e.by < N.board.passes) self.old.journal }
+    {
+        let seat = &mut self.seat;
+        words.see(pass, seat);
+    }
+
+    /// The words are closed from now on.
+    ///
+    /// # Examples
+    ///
+    /// ```
+    /// locked_book.close(&words); // each look at the words finds them closed
+    /// ```
+    pub fn close(&mut self, words: &Words)
+        requires { words.now ≡ N.board }
+        ensures { self.new ≡ book_closed self.old }
+    {
+        words.close(&mut self.seat);
+    }
+
+    /// Copies of the edits from this position on, [`MOST_AT_ONCE`] at most, which share the operations. If memory is
+    /// refused, there are fewer.
+    ///
+    /// # Examples
+    ///
+    /// ```
+    /// let edits = locked_book.copy(alloc, locked_shard.position()); // the next edits that the shard has left
+    /// ```
+    pub fn copy(&self, alloc: Global, position: u64) -> Vec<Edit>
+        requires { position ≤ length self.now.journal }
+        ensures edits { result.items ≡ take (vec_len result) (drop position (edits_of self.now.journal)) }
+        ensures most { vec_len result ≤ MOST_AT_ONCE }
+    {
+        let left = &self.book.journal()[position as usize..];
+        let count = if left.len() < MOST_AT_ONCE {
+            left.len()
+        } else {
+            MOST_AT_ONCE
+        };
+        copies(alloc, &left[..count])
+    }
+
+    /// The accepted edits, in the order of their numbers.
+    ///
+    /// # Examples
+    ///
+    /// ```
+    /// let last = locked_book.journal().last();
+    /// ```
+    pub fn journal(&self) -> &[Edit]
+        ensures edits { result.now ≡ edits_of self.now.journal }
+        ensures accepted { IsAccepted (edits_of self.now.journal) }
+    {
+        self.book.journal()
+    }
+
+    /// How many edits are accepted.
+    ///
+    /// # Examples
+    ///
+    /// ```
+    /// let left = locked_book.len() - locked_shard.position(); // behind `pull`
+    /// ```
+    pub fn len(&self) -> u64
+        ensures journal { result ≡ length self.now.journal }
+        ensures within { result ≤ N.limit }
+    {
+        self.book.journal().len() as u64
+    }
+
+    /// How many transactions are present.
+    ///
+    /// # Examples
+    ///
+    /// ```
+    /// let transactions = locked_book.transactions(); // those in doubt and those that aborted too
+    /// ```
+    pub fn transactions(&self) -> usize
+        ensures { result ≡ length (present (edits_of self.now.journal)).txns }
+    {
+        self.book.len()
+    }
+
+    /// What became of the present transactions.
+    ///
+    /// # Examples
+    ///
+    /// ```
+    /// let Statuses { committed, in_doubt } = locked_book.statuses()?;
+    /// ```
+    pub fn statuses(&self) -> Result<Statuses, OutOfMemory>
+        ensures committed { IfOk result (λ s. s.committed ≡ committed_among (present (edits_of self.now.journal)).txns) }
+        ensures in_doubt { IfOk result (λ s. s.in_doubt.items ≡ doubtful_among (present (edits_of self.now.journal)).txns) }
+    {
+        Ok(Statuses {
+            committed: self.book.committed(),
+            in_doubt: self.book.doubtful()?,
+        })
+    }
+
+    /// Copies of the present transactions, in the order of arrival, which share the operations.
+    ///
+    /// # Examples
+    ///
+    /// ```
+    /// let again = findings_of(locked_book.present()?.as_slice(), locked_book.initial()?.as_slice())?; // those of all shards, in order
+    /// ```
+    pub fn present(&self) -> Result<Vec<Txn>, OutOfMemory>
+        ensures { IfOk result (λ txns. txns.items ≡ (present (edits_of self.now.journal)).txns) }
+    {
+        self.book.present()
+    }
+
+    /// Copies of the keys that were set up with their values, in the order of arrival.
+    ///
+    /// # Examples
+    ///
+    /// ```
+    /// let values = locked_book.initial()?; // [(x, 7)] after `{"do":"setup","key":"x","value":7}`
+    /// ```
+    pub fn initial(&self) -> Result<Vec<(Key, Value)>, OutOfMemory>
+        ensures { IfOk result (λ initial. initial.items ≡ (present (edits_of self.now.journal)).initial) }
+    {
+        self.book.initial()
+    }
+}
+
+/// Copies of the first of these edits, of all where memory is there.
+fn copies(alloc: Global, edits: &[Edit]) -> Vec<Edit>
+    ensures edits { result.items ≡ take (vec_len result) edits.now }
+    ensures most { vec_len result ≤ length edits.now }
+{
+    let mut copies = Vec::new(alloc);
+    for edit in edits {
+        let Ok(copy) = edit.try_clone() else {
+            return copies;
+        };
+        if copies.push(copy).is_err() {
+            return copies;
+        }
+    }
+    copies
+}

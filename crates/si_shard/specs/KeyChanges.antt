@@ -1,0 +1,49 @@
+-- What an edit is on one key. All of it is this project's choice.
+use Rattle.std.specs.Prelude.{◌≡◌, List, [], ◌∷◌, ◌++◌, None, ⊤}
+use Rattle.std.specs.List.{Contains}
+use Rattle.si_model.specs.declared.parts.OnKey.{OnKey}
+use Rattle.si_model.specs.declared.parts.Placed.{Placed}
+use Rattle.si_model.specs.Findings.{cases}
+use Rattle.si_model.specs.KeyEdits.{arrived_on, resolved_on, set_up_on, withdrawn_on}
+use Rattle.si_model.specs.History.{IsOfHistory}
+use Rattle.si_judge.specs.Kept.{IsInDoubt, Kept, Shows}
+use Rattle.si_shard.specs.declared.key_changes.Change.{Change}
+use Rattle.si_shard.specs.declared.key_changes.Change.TheVariants as change
+
+-- the change, whose transaction accesses the key once more; none makes a set-up
+abbrev pub with_access : Placed → Change → Change
+with_access p (change.Arrive T) = change.Arrive (record T { accesses = T.accesses ++ p ∷ [] })
+with_access p (change.Resolve T o) = change.Resolve (record T { accesses = T.accesses ++ p ∷ [] }) o
+with_access p (change.Withdraw T) = change.Withdraw (record T { accesses = T.accesses ++ p ∷ [] })
+with_access p (change.SetUp v) = change.SetUp v
+
+-- what is on the key after the change
+abbrev pub changed_on : Change → OnKey → OnKey
+changed_on (change.Arrive T) Q = arrived_on T Q
+changed_on (change.Resolve T o) Q = resolved_on T.id o Q
+changed_on (change.Withdraw T) Q = withdrawn_on T.id Q
+changed_on (change.SetUp v) Q = set_up_on v Q
+
+-- what the change asks for
+abbrev pub AsksRightly : Change → OnKey → Type 0
+AsksRightly (change.Arrive T) Q = ⊤
+AsksRightly (change.Resolve T o) Q = IsInDoubt T Q
+AsksRightly (change.Withdraw T) Q = Contains Q.parts T
+AsksRightly (change.SetUp v) Q = Q.initial ≡ None
+
+-- the change can be made
+pub record CanChange (c : Change) (Q : OnKey) : Type 0 where
+  pub asks : AsksRightly c Q
+  pub history : IsOfHistory (changed_on c Q)
+
+-- what is kept of a key after its change: whatever it showed, it shows what the change makes of that
+pub record IsChanged (c : Change) (old new : Kept) : Type 0 where
+  pub key : new.key ≡ old.key
+  pub shows : (Q : OnKey) → Shows cases Q old → CanChange c Q → Shows cases (changed_on c Q) new
+
+-- ---- changes one after the other
+
+-- the changes can be made on a key on which Q is, one after the other, and leave R there
+abbrev pub LeadsTo : List Change → OnKey → OnKey → Type 0
+LeadsTo [] Q R = Q ≡ R
+LeadsTo (c ∷ cs) Q R = CanChange c Q × LeadsTo cs (changed_on c Q) R

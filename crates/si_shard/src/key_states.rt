@@ -1,0 +1,197 @@
+//! What is kept of many keys, and the keys on which something is found.
+
+ghost use Rattle.std.specs.Prelude.{◌≡◌, ◌↔◌, ℕ, List, [], ◌∷◌, OnOk, IfOk, ◌++◌, true};
+ghost use Rattle.std.specs.HashMap.{get};
+ghost use Rattle.std.specs.BTreeSet.{IsOrdered, contains};
+ghost use Rattle.std.specs.Ordering.{nat_cmp};
+ghost use Rattle.std.specs.Cmp.Lexicographic.{slice_cmp};
+ghost use Rattle.std.specs.List.{flat_map};
+ghost use Rattle.si_model.specs.declared.parts.OnKey.{OnKey};
+ghost use Rattle.si_model.specs.Operations.{same_key};
+ghost use Rattle.si_model.specs.Findings.{cases, findings_on};
+ghost use Rattle.si_judge.specs.Following.{empty_key};
+ghost use Rattle.si_judge.specs.Kept.{Shows};
+ghost use Rattle.si_shard.specs.KeyChanges.{LeadsTo};
+ghost use Rattle.si_shard.specs.KeyStates.{AreChangedAll, AreOn, CanChangeAll, HasFinding, IsChangedAt, IsChangedIn, IsLeft, IsOn, IsToldAt, ShowsAt, findings_at};
+
+use crate::gathered_changes::ChangesByKey;
+use crate::key_changes::{Change, make_change};
+use indexmap::IndexMap;
+use si_hashing::KeyHash;
+use si_judge::{Cases, KeyFindings};
+use si_model::{Finding, Key, OutOfMemory};
+use std::alloc::Global;
+use std::collections::BTreeSet;
+use std::hash::RandomState;
+
+/// What is kept of the keys. Of a key nothing is kept where it is bare.
+///
+/// Which transactions are on a key isn't known here: contracts say what is so of whatever may be on it.
+#[derive(Drop)]
+pub struct KeyStates {
+    alloc: Global,
+    states: IndexMap<Key, KeyFindings<Cases>, KeyHash>,
+    // The keys on which something is found, in order, so that findings cost what is found.
+    found: BTreeSet<Key>,
+}
+
+/// What a change left on a key.
+#[derive(Clone, Copy)]
+struct AfterChange {
+    is_bare: bool,
+    has_findings: bool,
+    /// Whether something was found before the change.
+    had_findings: bool,
+}
+
+impl KeyStates {
+    pub fn new(alloc: Global, hash: RandomState) -> Self
+        ensures { (x : List ℕ) → IsOn result x empty_key }
+    {
+        KeyStates {
+            alloc,
+            states: IndexMap::with_hasher(alloc, KeyHash::new(hash)),
+            found: BTreeSet::new(alloc),
+        }
+    }
+
+    /// Makes the changes of each key, one key after the other, so that what is known of a key is looked for once.
+    pub fn change_all(&mut self, lists: ChangesByKey) -> Result<(), OutOfMemory>
+        requires { CanChangeAll lists self.old }
+        ensures { OnOk result (AreChangedAll lists self.old self.new) }
+    {
+        for (key, list) in lists {
+            self.change_by_list(&key, list.changes)?;
+        }
+        Ok(())
+    }
+
+    /// Makes the changes of the key, one after the other.
+    fn change_by_list(&mut self, key: &Key, changes: Vec<Change>) -> Result<(), OutOfMemory>
+        requires { (Q : OnKey) × (R : OnKey) × IsOn self.old key.now Q × LeadsTo changes.items Q R }
+        ensures { OnOk result (IsChangedAt key.now changes.items self.old self.new) }
+    {
+        for change in changes {
+            self.change(key, change)?;
+        }
+        Ok(())
+    }
+
+    /// Makes one change of the key.
+    pub fn change(&mut self, key: &Key, change: Change) -> Result<(), OutOfMemory>
+        requires { (Q : OnKey) × (R : OnKey) × IsOn self.old key.now Q × LeadsTo (change ∷ []) Q R }
+        ensures { OnOk result (IsChangedAt key.now (change ∷ []) self.old self.new) }
+    {
+        let left = change_in(self.alloc, &mut self.states, key, change)?;
+        keep_found(&mut self.found, key, left)?;
+        if left.is_bare {
+            drop(self.states.swap_remove(key));
+        }
+        Ok(())
+    }
+
+    /// Adds where the state of the key stands, if one does. Where memory is refused it isn't added.
+    pub fn add_place(&self, key: &Key, places: &mut Vec<usize>) {
+        if let Some(place) = self.states.get_index_of(key) {
+            let _added = places.push(place).is_ok();
+        }
+    }
+
+    /// Reads the states at these places, first the heads of all and then the ends of what they hold, so that each is fetched while the
+    /// others are. The number, which comes of what was read, means nothing.
+    pub fn look_at(&self, places: &[usize]) -> u64 {
+        let mut seen = 0;
+        for place in places {
+            if let Some((_, kept)) = self.states.get_index(*place) {
+                seen = seen ^ kept.heads();
+            }
+        }
+        for place in places {
+            if let Some((_, kept)) = self.states.get_index(*place) {
+                seen = seen ^ kept.ends();
+            }
+        }
+        seen
+    }
+
+    /// The findings on the keys, in order.
+    pub fn findings(&self) -> Result<Vec<Finding>, OutOfMemory>
+        ensures found { IfOk result (λ all. (on : List ℕ → OnKey) → AreOn self.now on → all.items ≡ flat_map (findings_at on) self.now.found.keys) }
+        ensures ordered { IsOrdered (slice_cmp nat_cmp) self.now.found }
+    {
+        let mut all = Vec::new(self.alloc);
+        for key in &self.found {
+            self.add_findings(key, &mut all)?;
+        }
+        Ok(all)
+    }
+
+    fn add_findings(&self, key: &Key, all: &mut Vec<Finding>) -> Result<(), OutOfMemory>
+        ensures { OnOk result ((Q : OnKey) → IsOn self.now key.now Q → all.new.items ≡ all.old.items ++ findings_on cases key.now Q) }
+    {
+        if let Some(kept) = self.states.get(key) {
+            let mut found = kept.findings()?;
+            all.append(&mut found)?;
+        }
+        Ok(())
+    }
+}
+
+/// Makes the change in what is kept of the key, which is begun where nothing was.
+fn change_in(
+    alloc: Global,
+    states: &mut IndexMap<Key, KeyFindings<Cases>, KeyHash>,
+    key: &Key,
+    change: Change,
+) -> Result<AfterChange, OutOfMemory>
+    requires { (Q : OnKey) × (R : OnKey) × ShowsAt key.now (get same_key states.old key.now) Q × LeadsTo (change ∷ []) Q R }
+    ensures changed { IfOk result (λ left. IsChangedIn key.now (change ∷ []) left.is_bare left.has_findings states.old states.new) }
+    ensures had { IfOk result (λ left. (Q : OnKey) → ShowsAt key.now (get same_key states.old key.now) Q → (left.had_findings ≡ true) ↔ HasFinding key.now Q) }
+{
+    if let Some(kept) = states.get_mut(key) {
+        let had_findings = kept.has_findings();
+        make_change(kept, change)?;
+        return Ok(left_on(kept, had_findings));
+    }
+    let own = key.try_clone()?;
+    let mut kept = KeyFindings::new(alloc, key.try_clone()?, Cases::new());
+    let had_findings = kept.has_findings();
+    match make_change(&mut kept, change) {
+        Ok(()) => {
+            let left = left_on(&kept, had_findings);
+            drop(states.insert(own, kept)?);
+            Ok(left)
+        }
+        Err(fault) => {
+            drop(kept);
+            Err(fault)
+        }
+    }
+}
+
+/// Keeps the key among those on which something is found, or not. Where as much is found as before, the keys aren't looked through.
+fn keep_found(found: &mut BTreeSet<Key>, key: &Key, left: AfterChange) -> Result<(), OutOfMemory>
+    requires { (left.had_findings ≡ true) ↔ (contains (slice_cmp nat_cmp) found.old key.now ≡ true) }
+    ensures { OnOk result (IsToldAt key.now left.has_findings found.old found.new) }
+{
+    if left.has_findings == left.had_findings {
+        return Ok(());
+    }
+    if left.has_findings {
+        found.insert(key.try_clone()?)?;
+    } else {
+        found.remove(key);
+    }
+    Ok(())
+}
+
+fn left_on(kept: &KeyFindings<Cases>, had_findings: bool) -> AfterChange
+    ensures left { IsLeft result.is_bare result.has_findings kept.now }
+    ensures had { result.had_findings ≡ had_findings }
+{
+    AfterChange {
+        is_bare: kept.is_bare(),
+        has_findings: kept.has_findings(),
+        had_findings,
+    }
+}
