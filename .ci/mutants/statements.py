@@ -1,4 +1,4 @@
-"""What rests on a statement of a crate's specs/, by the words of its files: for .ci/wrong_bodies. Where it is in doubt, it rests on it."""
+"""What rests on a statement of a crate's specs/, by the words of its files. Where it is in doubt, it rests on it."""
 
 import os
 import re

@@ -1,17 +1,23 @@
-"""Finds the functions of a file of Rattle's, for .ci/wrong_bodies."""
+"""Finds the functions of a file of Rattle's."""
+
 import re
-import subprocess
+
+from . import kit
 
 
 class Function:
-    """A function with a body: the path of the place where it stands, its lines, where it starts with its attributes, where its name stands,
-    the bytes of its body and their text, and where it is in a cycle of calls, which have one proof, the path of that proof. 'around' says
-    where the header of the impl around it stands, is empty where nothing is around it, and None for what can't be copied; a copy is 'of' a
-    function."""
+    """A function with a body: the path of the place where it stands, its lines, where it starts with its attributes, where its name
+    stands, the bytes of its body and their text, and where it is in a cycle of calls, which have one proof, the path of that proof.
+    'around' says where the header of the impl around it stands, is empty where nothing is around it, and None for what can't be copied;
+    a copy is 'of' a function."""
 
     def __init__(self, path, lines, body, cycle, head=0, name_at=0, around=None):
         self.path, self.lines, self.body, self.cycle, self.text = path, lines, body, cycle, ""
         self.head, self.name_at, self.around, self.file, self.of = head, name_at, around, "", None
+
+    @property
+    def name(self):
+        return self.path.rpartition("::")[2]
 
     def shares_proof(self, other):
         return other is self or bool(self.cycle) and other.cycle == self.cycle
@@ -19,14 +25,14 @@ class Function:
 
 def header(words):
     """Returns the words of a header that stand outside <> and before 'where', and those that stand right inside <>."""
-    kept, inside, depth = [], [], 0
+    outside, inside, depth = [], [], 0
     for word in words:
         depth += (word == "<") - (word == ">")
         if word == "where":
             break
         if re.fullmatch(r"\w+", word):
-            (inside if depth else kept).append((word, len(kept)))
-    return [it for it, _ in kept], inside
+            (inside if depth else outside).append((word, len(outside)))
+    return [it for it, _ in outside], inside
 
 
 def segment(kind, words):
@@ -45,13 +51,6 @@ def segment(kind, words):
     return names[-1 if kind == "impl" else 0] if names else ""
 
 
-def code_of(file, rattle):
-    """Returns the line, the start, the end and the text of each word of the file that is code, by the kit's own lexer."""
-    ran = subprocess.run([rattle, "fmt", "--tokens", file], capture_output=True, text=True, errors="replace")
-    rows = (row.split(" ", 4) for row in ran.stdout.split("\n")[1:])
-    return [(int(row[0]), int(row[1]), int(row[2]), row[4][1:-1]) for row in rows if len(row) == 5 and row[3] == "Code"]
-
-
 def past(code, at, closes):
     """Returns where the first of these words stands from 'at' on, outside round and square brackets."""
     depth = 0
@@ -61,7 +60,7 @@ def past(code, at, closes):
     return at
 
 
-def before(code, at):
+def attributes_before(code, at):
     """Returns the name of the cycle that the attributes before a function give it, if they do, and the line and the place where they start."""
     name = None
     while at > 0 and code[at - 1][3] not in "{};":
@@ -77,31 +76,25 @@ def around(scopes):
     return () if not scopes else named[0][2] if len(scopes) == len(named) == 1 else None
 
 
-def functions(file, module, rattle):
-    """Returns the functions of a file, whose module has this path, by the kit's program."""
-    code, found, scopes, depth, at = code_of(file, rattle), [], [], 0, 0
+def functions(file, module):
+    """Returns the functions of a file, whose module has this path."""
+    code, found, scopes, depth, at = kit.code_words(file), [], [], 0, 0
     while at < len(code):
-        line, _, _, word = code[at]
+        word = code[at][3]
         begins = at == 0 or code[at - 1][3] in ("}", ";", "]", "{", ")", "pub", "unsafe")
         if word in ("impl", "trait", "mod") and begins:
             end = past(code, at + 1, "{;")
             if end < len(code) and code[end][3] == "{":
-                words = [it[3] for it in code[at + 1 : end]]
-                plain = word == "impl" and "for" not in header(words)[0]
-                scopes.append((depth, segment(word, words), (code[at][1], code[end][1]) if plain else None))
+                scopes.append((depth, *scope_of(code, at, end)))
                 depth += 1
             at = end + 1
             continue
         if word == "fn" and at + 1 < len(code) and re.fullmatch(r"\w+", code[at + 1][3]):
-            name, end, (cycle, line, head) = code[at + 1][3], past(code, at + 2, "{;"), before(code, at)
+            end = past(code, at + 2, "{;")
             if end < len(code) and code[end][3] == "{":
-                name_at, at, inner = code[at + 1][1], end + 1, 1
-                while at < len(code) and inner:
-                    inner += (code[at][3] == "{") - (code[at][3] == "}")
-                    at += 1
-                path = "::".join([module, *[it[1] for it in scopes if it[1]], name])
-                place = (line, code[at - 1][0]), (code[end][1], code[at - 1][2])
-                found.append(Function(path, *place, cycle and f"{module}::+{cycle}", head, name_at, around(scopes)))
+                behind = behind_body(code, end)
+                found.append(function_at(code, at, end, behind, module, scopes))
+                at = behind
                 continue
             at = end + 1
             continue
@@ -112,6 +105,30 @@ def functions(file, module, rattle):
             scopes.pop()
         at += 1
     return found
+
+
+def scope_of(code, at, end):
+    """Returns what the impl, trait or module at this word adds to paths, and of an impl of a type's own where its header stands."""
+    kind, words = code[at][3], [it[3] for it in code[at + 1 : end]]
+    is_plain = kind == "impl" and "for" not in header(words)[0]
+    return segment(kind, words), (code[at][1], code[end][1]) if is_plain else None
+
+
+def behind_body(code, opens):
+    """Returns the word behind the body that this brace opens."""
+    at, inner = opens + 1, 1
+    while at < len(code) and inner:
+        inner += (code[at][3] == "{") - (code[at][3] == "}")
+        at += 1
+    return at
+
+
+def function_at(code, at, opens, behind, module, scopes):
+    """Returns the function whose `fn` is the word 'at', with its body between these words."""
+    cycle, line, head = attributes_before(code, at)
+    path = "::".join([module, *[it[1] for it in scopes if it[1]], code[at + 1][3]])
+    lines, body = (line, code[behind - 1][0]), (code[opens][1], code[behind - 1][2])
+    return Function(path, lines, body, cycle and f"{module}::+{cycle}", head, code[at + 1][1], around(scopes))
 
 
 def outermost(path):
