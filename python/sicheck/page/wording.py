@@ -111,7 +111,7 @@ def sentence(finding, history, keys):
     if finding.kind == OVERLAP:
         return overlap_sentence(finding, history, keys)
     reader = history.records[finding.first]
-    seen = f"found {{key}} without a value" if finding.read is None else f"read {finding.read} from {{key}}"
+    seen = "found {key} without a value" if finding.read is None else f"read {finding.read} from {{key}}"
     head = f"Transaction {reader.id} {seen} at operation {finding.second}"
     return f"{head}, {READ_TAILS[finding.kind](finding, history, keys, reader)}"
 

@@ -1,7 +1,6 @@
 """The package against the program: clients by chance over a small database, healthy and faulty, and a client that is killed."""
 import json
 import os
-import random
 import signal
 import sqlite3
 import subprocess
@@ -13,7 +12,7 @@ import unittest
 from pathlib import Path
 
 import sicheck
-from sicheck import CheckFailed, FilePlace, Undecided, Violation
+from sicheck import CheckFailed, FilePlace, Violation
 from small_database import Database, logs_in, run_client, run_clients, stamp_by_rows
 
 TOP = Path(__file__).resolve().parents[3]
