@@ -1,5 +1,6 @@
-"""Runs a program where something is refused to it, and tells how it ended: one call of a kind fails (refusing.c), or its memory or its files
-may grow no further. For .ci/refused_calls, .ci/refused_allocations, .ci/refused_memory and .ci/tests."""
+"""Runs a program where something is refused to it, and tells how it ended: one call of a kind fails (refusing.c), or
+its memory or its files may grow no further. For .ci/refused_calls, .ci/refused_allocations, .ci/refused_memory and
+.ci/tests."""
 
 import collections
 import os
@@ -10,8 +11,8 @@ HERE = os.path.dirname(os.path.realpath(__file__))
 # What refusing.c writes as a call fails.
 MARK = b"[refused]"
 
-# A run: its status (None where it had not ended in time, and below 0 for a signal), what it wrote, its complaint without the mark, and
-# whether a call was refused to it.
+# A run: its status (None where it had not ended in time, and below 0 for a signal), what it wrote, its complaint
+# without the mark, and whether a call was refused to it.
 Ran = collections.namedtuple("Ran", "status text complaint was_refused")
 
 
@@ -28,8 +29,8 @@ def run(words, seconds=60, bounds="", **how):
 
 
 class Refusing:
-    """refusing.c, compiled into this folder by $CC or cc, which stands before the C library: of one kind of call the Nth fails, and a read
-    or a write moves so many bytes at most, where 'piece' isn't 0."""
+    """refusing.c, compiled into this folder by $CC or cc, which stands before the C library: of one kind of call the
+    Nth fails, and a read or a write moves so many bytes at most, where 'piece' isn't 0."""
 
     def __init__(self, room, piece=0):
         self.made, self.piece = f"{room}/refusing.so", piece
@@ -50,8 +51,8 @@ class Whole:
         self.status, self.text = ran.status, ran.text
 
     def ending(self, ran, complaint):
-        """Returns how another run ended: 'well' if as this one, 'bare' or 'part' if with status 2 and a complaint that matches, before any
-        output or after a beginning of it, and else 'wrong'."""
+        """Returns how another run ended: 'well' if as this one, 'bare' or 'part' if with status 2 and a complaint that
+        matches, before any output or after a beginning of it, and else 'wrong'."""
         if ran.status == self.status and ran.text == self.text and not ran.complaint:
             return "well"
         if ran.status == 2 and self.text.startswith(ran.text) and re.fullmatch(complaint, ran.complaint):

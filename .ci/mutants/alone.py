@@ -33,7 +33,8 @@ class LoneTrials:
                 bench.fail(edit.name, "its batch took it for refused, and alone it isn't")
 
     def try_elsewhere(self, edit):
-        """Returns the line that shows that a law, or a function that the edit names, refuses an edit that changes no body alone."""
+        """Returns the line that shows that a law, or a function that the edit names, refuses an edit that changes no
+        body alone."""
         bench = self.bench
         proved = self.functions_to_refuse(edit)
         if not proved:
@@ -56,13 +57,14 @@ class LoneTrials:
     def functions_to_refuse(self, edit):
         """Returns the functions of which one has to refuse the edit: what it names and what it edits, or the laws."""
         wanted = edit.tried_at or ([] if edit.functions else [f"{self.bench.crate.name}::laws"])
-        is_wanted = lambda path: any(f"{path}::".startswith(f"{name}::") or path.endswith(f"::{name}") for name in wanted)
+        is_of = lambda path, name: f"{path}::".startswith(f"{name}::") or path.endswith(f"::{name}")
+        is_wanted = lambda path: any(is_of(path, name) for name in wanted)
         proved = [it for it in self.bench.sources.all_functions() if is_wanted(self.printed(it))]
         return proved + [it for it in edit.functions if it not in proved]
 
     def try_whole(self, edit):
-        """Returns whether the whole crate refuses the edit, and what was said of it. That a prover gave up is no refusal, nor that names are
-        gone which a proof needs."""
+        """Returns whether the whole crate refuses the edit, and what was said of it. That a prover gave up is no
+        refusal, nor that names are gone which a proof needs."""
         with self.bench.lanes:
             came_to, text, said = kit.try_edit(self.bench.crate, edit)
         if came_to != "refused":
@@ -79,8 +81,8 @@ class LoneTrials:
         return True, f"refused: at {goals_told(facts)}" if facts else f"refused: {rows[0]}"
 
     def try_drawn(self, edit):
-        """Returns whether the edit is refused where nothing is left out and it stands alone: at a function that it changes, of which a check
-        reads no more than it and what it calls, or else in the whole crate."""
+        """Returns whether the edit is refused where nothing is left out and it stands alone: at a function that it
+        changes, of which a check reads no more than it and what it calls, or else in the whole crate."""
         bench = self.bench
         bench.sources.copies = []
         texts, _ = kit.read_edit(edit, bench.sources.folder)

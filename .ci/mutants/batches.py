@@ -25,13 +25,13 @@ class Batches:
         """Returns batches of these edits, in none of which an edited function names another one."""
         batches = []
         for edit in edits:
-            is_apart = lambda batch: not any(names(edit, it) or names(it, edit) for it in batch) and self.is_beside(edit, batch)
-            put(edit, batches, is_apart)
+            is_named = lambda batch: any(names(edit, it) or names(it, edit) for it in batch)
+            put(edit, batches, lambda batch: not is_named(batch) and self.is_beside(edit, batch))
         return batches
 
     def is_beside(self, edit, batch):
-        """Returns whether the edit can be tried in the batch: on other proofs or on a copy of its function, and where either changes a
-        header, with no function that names the other's."""
+        """Returns whether the edit can be tried in the batch: on other proofs or on a copy of its function, and where
+        either changes a header, with no function that names the other's."""
         same = any(one.shares_proof(two) for other in batch for one in other.functions for two in edit.functions)
         wide = any((edit.is_wide or it.is_wide) and (names(edit, it) or names(it, edit)) for it in batch)
         return (not same or self.copies.can_hold(edit)) and not wide

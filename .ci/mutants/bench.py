@@ -18,8 +18,8 @@ from .verdicts import Verdicts
 
 
 class Bench:
-    """A crate with its edits, what is known of both, and how many edits were refused, with the names of those that weren't. 'say' prints a
-    line, and 'lanes' holds back a check until there is room for it."""
+    """A crate with its edits, what is known of both, and how many edits were refused, with the names of those that
+    weren't. 'say' prints a line, and 'lanes' holds back a check until there is room for it."""
 
     def __init__(self, crate, edits, say, seed, lanes):
         self.crate, self.edits, self.say, self.lanes = crate, edits, say, lanes
@@ -48,8 +48,8 @@ class Bench:
         self.batched += edits
 
     def plan(self):
-        """Returns the batches, the edits that need whole counts, and those that stand in no batch. An edit of a header is the first one of
-        its function, as it can't stand in a copy."""
+        """Returns the batches, the edits that need whole counts, and those that stand in no batch. An edit of a header
+        is the first one of its function, as it can't stand in a copy."""
         faults, fit = {it: self.placing.place(it) for it in self.edits}, []
         for edit in sorted(self.edits, key=lambda it: not it.is_headed):
             if faults[edit]:
@@ -61,8 +61,9 @@ class Bench:
     # ---- a check in which only some functions are proved
 
     def check(self, texts, proved, edited=(), without=None):
-        """Checks these functions alone in a copy of the crate with these texts, in which each other function has a hole for its proof. For
-        those that are edited no proof is offered. 'without' has functions with the answers of their own proofs that are taken out."""
+        """Checks these functions alone in a copy of the crate with these texts, in which each other function has a hole
+        for its proof. For those that are edited no proof is offered. 'without' has functions with the answers of their
+        own proofs that are taken out."""
         self.paths.ask_for(proved)
         with tempfile.TemporaryDirectory(prefix="wrong-bodies-") as room:
             self.rooms.fill(room, texts, proved, edited, without or {})
@@ -86,12 +87,12 @@ class Bench:
                 file.write(said)
 
     def draw_control(self, edited):
-        """Draws a function that the batch doesn't edit and that names none which it edits, best one of another batch, and which it proves
-        as it stands: where that fails, so does what a batch says."""
+        """Draws a function that the batch doesn't edit and that names none which it edits, best one of another batch,
+        and which it proves as it stands: where that fails, so does what a batch says."""
         words = [rf"\b{it.name}\b" for it in {it.of or it for it in edited}]
         names = re.compile("|".join(words) or r"(?!)")
-        is_named = lambda it: it not in self.paths.unnamed
-        is_free = lambda it: not it.cycle and is_named(it) and it not in edited and self.paths.printed(it) not in NEED_WHOLE
+        is_left_out = lambda it: it.cycle or it in self.paths.unnamed or it in edited
+        is_free = lambda it: not is_left_out(it) and self.paths.printed(it) not in NEED_WHOLE
         of_others = [it for edit in self.edits for it in edit.functions if is_free(it)]
         others = [it for it in self.sources.all_functions() if is_free(it)]
         apart = lambda near: [it for it in near if not names.search(it.text) and it.text.strip("{} \n")]

@@ -105,7 +105,8 @@ class Run:
             trial.run(self.drawn)
 
     def due_of(self, trials):
-        """Returns those of crates whose sums aren't those of the stamp, and where it isn't to be written one more, which is drawn."""
+        """Returns those of crates whose sums aren't those of the stamp, and where it isn't to be written one more,
+        which is drawn."""
         is_stamped, sums = self.given.stamp, self.stamp.sums
         changed = [it for it in trials if not self.stamp.has(it.crate)]
         so = "" if is_stamped else ", so its halves are due: `.ci/wrong_bodies --stamp` renews that"

@@ -1,5 +1,5 @@
-"""A function that stands a second time in its file, for a further edit of it in the same check: with its contract and its proof, under
-another name, at the file's end, so that the lines before it stay as they are."""
+"""A function that stands a second time in its file, for a further edit of it in the same check: with its contract and
+its proof, under another name, at the file's end, so that the lines before it stay as they are."""
 
 import os
 import re
@@ -15,8 +15,8 @@ class Copies:
         self.unfit = {}
 
     def can_hold(self, edit):
-        """Returns whether the edit changes one body alone, of a function that can stand a second time in its file: none whose proof another
-        one names."""
+        """Returns whether the edit changes one body alone, of a function that can stand a second time in its file: none
+        whose proof another one names."""
         if len(edit.functions) != 1 or edit.is_headed or edit.functions[0].around is None or edit.functions[0].cycle:
             return False
         function = edit.functions[0]
@@ -32,8 +32,8 @@ class Copies:
         return any(named.search(text) for file, text in self.sources.proofs().items() if not file.startswith(own))
 
     def aims_of(self, batch):
-        """Returns which functions each edit of the batch is to be refused at: the first edit of a function at that function, each further
-        one at a copy of it. These copies are those of the sources from now on."""
+        """Returns which functions each edit of the batch is to be refused at: the first edit of a function at that
+        function, each further one at a copy of it. These copies are those of the sources from now on."""
         aims, seen, self.sources.copies = {}, [], []
         for edit in batch:
             aims[edit] = edit.functions

@@ -1,5 +1,5 @@
-"""A wrong body, and the files that hold them: wrong-bodies/NAME.edits has those of one source file, each under a line `edit: NAME`, and
-a file NAME.edit one alone, as the kit wants it in must-fail/."""
+"""A wrong body, and the files that hold them: wrong-bodies/NAME.edits has those of one source file, each under a line
+`edit: NAME`, and a file NAME.edit one alone, as the kit wants it in must-fail/."""
 
 import os
 
@@ -8,29 +8,34 @@ HEADING = "edit: "
 
 
 class Edit:
-    """A wrong body: its name and text, the functions whose bodies or contracts it changes, with its replacements, what its lines `at:` name
-    as refusing it, where it changes something else, with what it turns in specs/, and the clauses that it breaks, as far as it says so."""
+    """A wrong body: its name and text, the functions whose bodies or contracts it changes, with its replacements, what
+    its lines `at:` name as refusing it, where it changes something else, with what it turns in specs/, and the clauses
+    that it breaks, as far as it says so."""
 
     def __init__(self, name, text):
         self.name, self.text = name, text
-        # Each replacement in src/ as the file, the place in it, the old bytes and the new ones, and each in specs/ with its texts.
+        # Each replacement in src/ as the file, the place in it, the old bytes and the new ones, and each in specs/ with
+        # its texts.
         self.changes, self.turned = [], []
         self.functions, self.tried_at, self.breaks = [], [], []
-        # Whether it changes something else than functions; a header too; and so that the function has another header or contract then.
+        # Whether it changes something else than functions; a header too; and so that the function has another header or
+        # contract then.
         self.is_elsewhere = self.is_headed = self.is_wide = False
         # The texts of all files that it changes, where it is elsewhere.
         self.texts = None
 
 
 def parts_of(text):
-    """Returns the edits of a file NAME.edits as pairs of a name and a text, and whether nothing else stands before the first one."""
+    """Returns the edits of a file NAME.edits as pairs of a name and a text, and whether nothing else stands before the
+    first one."""
     before, *parts = f"\n{text}".split(f"\n{HEADING}")
     found = [part.partition("\n") for part in parts]
     return [(f"{name.strip()}.edit", body.rstrip("\n") + "\n") for name, _, body in found], not before.strip()
 
 
 def read_folder(at):
-    """Returns the edits that stand in a folder by their names, and pairs of a name and why it can't stand for an edit."""
+    """Returns the edits that stand in a folder by their names, and pairs of a name and why it can't stand for an
+    edit."""
     edits, faults = [], []
     for name in sorted(os.listdir(at)) if os.path.isdir(at) else ():
         if name.endswith(".md"):
@@ -49,7 +54,8 @@ def read_folder(at):
 
 
 def read_edits(folder, kinds):
-    """Returns the edits of the crate in this folder, those of these kinds, and the faults of what stands beside them."""
+    """Returns the edits of the crate in this folder, those of these kinds, and the faults of what stands beside
+    them."""
     edits, faults = [], []
     for kind in kinds:
         more, bad = read_folder(f"{folder}/{kind}")

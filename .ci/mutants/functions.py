@@ -6,10 +6,10 @@ from . import kit
 
 
 class Function:
-    """A function with a body: the path of the place where it stands, its lines, where it starts with its attributes, where its name
-    stands, the bytes of its body and their text, and where it is in a cycle of calls, which have one proof, the path of that proof.
-    'around' says where the header of the impl around it stands, is empty where nothing is around it, and None for what can't be copied;
-    a copy is 'of' a function."""
+    """A function with a body: the path of the place where it stands, its lines, where it starts with its attributes,
+    where its name stands, the bytes of its body and their text, and where it is in a cycle of calls, which have one
+    proof, the path of that proof. 'around' says where the header of the impl around it stands, is empty where nothing
+    is around it, and None for what can't be copied; a copy is 'of' a function."""
 
     def __init__(self, path, lines, body, cycle, head=0, name_at=0, around=None):
         self.path, self.lines, self.body, self.cycle, self.text = path, lines, body, cycle, ""
@@ -36,9 +36,9 @@ def header(words):
 
 
 def segment(kind, words):
-    """Returns what an impl, a trait or a module adds to the paths of its functions: for a trait's impl the type, the trait, and
-    behind a colon the trait's first argument, which a check prints where a type has several of that trait; a reference is `Ref` or
-    `RefMut`."""
+    """Returns what an impl, a trait or a module adds to the paths of its functions: for a trait's impl the type, the
+    trait, and behind a colon the trait's first argument, which a check prints where a type has several of that trait; a
+    reference is `Ref` or `RefMut`."""
     names, inside = header(words)
     if kind == "impl" and "for" in names:
         cut = names.index("for")
@@ -61,7 +61,8 @@ def past(code, at, closes):
 
 
 def attributes_before(code, at):
-    """Returns the name of the cycle that the attributes before a function give it, if they do, and the line and the place where they start."""
+    """Returns the name of the cycle that the attributes before a function give it, if they do, and the line and the
+    place where they start."""
     name = None
     while at > 0 and code[at - 1][3] not in "{};":
         at -= 1
@@ -71,7 +72,8 @@ def attributes_before(code, at):
 
 
 def around(scopes):
-    """Returns where the header of the impl stands in which a function is written, if it can be written once more in one of its own."""
+    """Returns where the header of the impl stands in which a function is written, if it can be written once more in one
+    of its own."""
     named = [it for it in scopes if it[1]]
     return () if not scopes else named[0][2] if len(scopes) == len(named) == 1 else None
 
@@ -108,7 +110,8 @@ def functions(file, module):
 
 
 def scope_of(code, at, end):
-    """Returns what the impl, trait or module at this word adds to paths, and of an impl of a type's own where its header stands."""
+    """Returns what the impl, trait or module at this word adds to paths, and of an impl of a type's own where its
+    header stands."""
     kind, words = code[at][3], [it[3] for it in code[at + 1 : end]]
     is_plain = kind == "impl" and "for" not in header(words)[0]
     return segment(kind, words), (code[at][1], code[end][1]) if is_plain else None

@@ -5,8 +5,8 @@ import re
 
 from . import kit
 
-# How a goal is told: there are values at which it is false; the search ended without a proof; it gave up at a limit; the function's own
-# answer isn't one; only names are gone, or an invariant that the proof states has another type.
+# How a goal is told: there are values at which it is false; the search ended without a proof; it gave up at a limit;
+# the function's own answer isn't one; only names are gone, or an invariant that the proof states has another type.
 HOW = ("false", "search", "limit", "answer", "names")
 # The clause that an edit breaks, as its file names it.
 BREAKS = re.compile(r"(?:(ensures|safe|ends)|(requires|invariant) of (\w+(?:::\w+)*):?)(?: (\w+))?$")
@@ -16,7 +16,8 @@ Told = collections.namedtuple("Told", "goal how row")
 
 def faults_of(said):
     """Returns the rows that tell of a fault at a place, other than that names are gone."""
-    return [row for row in kit.joined(said) if kit.PLACED_ROW.match(row) and kit.is_error(row) and not kit.is_of_names(row)]
+    rows = [row for row in kit.joined(said) if kit.PLACED_ROW.match(row) and kit.is_error(row)]
+    return [row for row in rows if not kit.is_of_names(row)]
 
 
 def told_at(place, row):
@@ -31,8 +32,8 @@ def told_at(place, row):
 
 
 def told_in(said, owner, outermost):
-    """Returns by function what a check told of its goals, the surest first. 'owner' gives the function that a place belongs to, if it is
-    one."""
+    """Returns by function what a check told of its goals, the surest first. 'owner' gives the function that a place
+    belongs to, if it is one."""
     found = {}
     for row in kit.joined(said):
         at, searched = kit.PLACED_ROW.match(row), kit.SEARCH_ROW.match(row)
@@ -48,7 +49,8 @@ def told_in(said, owner, outermost):
 
 
 def surest_first(told):
-    """Returns what was told of a function by how sure it is. What the search says of a goal a note says more closely."""
+    """Returns what was told of a function by how sure it is. What the search says of a goal a note says more
+    closely."""
     noted = {it.goal for it in told if kit.is_note(it.row)}
     is_said_twice = lambda it: not kit.is_note(it.row) and it.how == "search" and it.goal in noted
     left = [it for it in told if it.goal != kit.NO_OFFER and not is_said_twice(it)]
@@ -56,8 +58,8 @@ def surest_first(told):
 
 
 def kind_of(goal):
-    """Returns what a goal is of: a clause of the contract, a callee's requires, an invariant of a type, a loop's invariant or measure, or
-    that the function is safe; none for what a proof states by itself."""
+    """Returns what a goal is of: a clause of the contract, a callee's requires, an invariant of a type, a loop's
+    invariant or measure, or that the function is safe; none for what a proof states by itself."""
     if goal == "returns" or goal.startswith("returns-"):
         return "ensures"
     if re.search(r"-requires(-|$)", goal):
@@ -77,8 +79,8 @@ def clause_of(goal):
 
 
 def goes_with(breaks, goal):
-    """Returns whether an edit that breaks this clause can be refused at that goal, which may be of all clauses. What holds
-    behind a loop is held by its invariant."""
+    """Returns whether an edit that breaks this clause can be refused at that goal, which may be of all clauses. What
+    holds behind a loop is held by its invariant."""
     said = BREAKS.match(breaks)
     if not said:
         return False

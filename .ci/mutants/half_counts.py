@@ -1,5 +1,5 @@
-"""What is proved with half counts: the functions that need whole ones, and a sum over the sources and the edits of each crate, kept in
-.ci/halves, with which that passed."""
+"""What is proved with half counts: the functions that need whole ones, and a sum over the sources and the edits of each
+crate, kept in .ci/halves, with which that passed."""
 
 import hashlib
 import os
@@ -14,9 +14,9 @@ NEED_WHOLE = {
 # Which crates were as they are when --halves passed.
 STAMP = ".ci/halves"
 HEAD = """\
-# Of each crate that has wrong bodies a sum over its sources and its edits, and over the sources of the crates below it, with which all that
-# the edits change was proved with half counts; and the kit on which it was. `.ci/wrong_bodies --stamp` tries each crate whose sum is another
-# now, and writes it here.
+# Of each crate that has wrong bodies a sum over its sources and its edits, and over the sources of the crates below it,
+# with which all that the edits change was proved with half counts; and the kit on which it was. `.ci/wrong_bodies
+# --stamp` tries each crate whose sum is another now, and writes it here.
 """
 SOURCES = {"src": ".rt", "specs": ".antt", "proofs": ".antt"}
 
@@ -59,7 +59,7 @@ class Stamp:
         self.path, self.sums = path, {}
         if os.path.isfile(path):
             with open(path, encoding="utf-8") as file:
-                rows = [row.split(maxsplit=1) for row in file.read().split("\n") if row.strip() and not row.startswith("#")]
+                rows = [row.split(maxsplit=1) for row in file.read().split("\n") if not row.startswith("#")]
             self.sums = dict(row for row in rows if len(row) == 2)
 
     def has(self, crate):

@@ -1,4 +1,5 @@
-"""Tries many edits in one check, each at its own function, with another function that isn't edited and has to be proved."""
+"""Tries many edits in one check, each at its own function, with another function that isn't edited and has to be
+proved."""
 
 from . import kit
 from .goals import goals_told, kind_of
@@ -10,7 +11,8 @@ class BatchTrials:
         self.bench, self.verdicts, self.printed = bench, bench.verdicts, bench.paths.printed
 
     def run(self, batches, later):
-        """Tries these batches, and then what needs whole counts and what they don't tell. Returns the edits that are to be tried alone."""
+        """Tries these batches, and then what needs whole counts and what they don't tell. Returns the edits that are to
+        be tried alone."""
         alone = []
         while batches or later:
             if not batches:
@@ -49,7 +51,8 @@ class BatchTrials:
         return [it for it in batch if it not in told and it not in bench.weak]
 
     def without_rejected(self, batch, said, aims):
-        """Tries the batch without the edits at which the check stopped, where it says which. Returns the edits that are still to be tried."""
+        """Tries the batch without the edits at which the check stopped, where it says which. Returns the edits that are
+        still to be tried."""
         bad = self.verdicts.rejected(batch, said, aims)
         left = [it for it in batch if it not in bad]
         return bad + self.try_batch(left) if bad and left else batch
@@ -63,8 +66,8 @@ class BatchTrials:
         return self.try_batch(batch[:half]) + self.try_batch(batch[half:]) if half else batch
 
     def count_control(self, batch, aims, control, known):
-        """Counts the control of a batch. Where what was drawn shows nothing, since it calls what isn't proved, another one is drawn, twice
-        at most. Returns the names of what was drawn so and isn't proved as it stands."""
+        """Counts the control of a batch. Where what was drawn shows nothing, since it calls what isn't proved, another
+        one is drawn, twice at most. Returns the names of what was drawn so and isn't proved as it stands."""
         bench = self.bench
         shows = lambda it: is_proved(known.get(self.printed(it), ""))
         tried = list(control)
@@ -83,9 +86,10 @@ class BatchTrials:
     # ---- edits that only an old proof is against
 
     def try_without_answers(self):
-        """Tries each edit that only answers of its function's own proof are against with these taken out, so that the search is asked. It
-        is refused where there are values at which a goal is false, or where a goal isn't proved that goes with the clause that the edit
-        names. In the gate, where .ci/halves has a crate as it is, that has been done, and is left out."""
+        """Tries each edit that only answers of its function's own proof are against with these taken out, so that the
+        search is asked. It is refused where there are values at which a goal is false, or where a goal isn't proved
+        that goes with the clause that the edit names. In the gate, where .ci/halves has a crate as it is, that has been
+        done, and is left out."""
         bench = self.bench
         edits = [it for it in bench.edits if it in bench.weak]
         for batch in bench.batches.apart(edits):

@@ -1,25 +1,33 @@
-"""What the tester of wrong bodies knows of the kit's insides. No other module of this folder calls the kit or has a pattern of what it
-prints, so that a new kit is met here.
+"""What the tester of wrong bodies knows of the kit's insides. No other module of this folder calls the kit or has a pattern
+of what it prints, so that a new kit is met here.
 
-Of the command `rt`, which is loaded as a module, since an edit has to be read and judged here just as `rt must-fail` and `rt ci` do:
+Of the command `rt`, which is loaded as a module, since an edit has to be read and judged here just as `rt must-fail` and
+`rt ci` do:
 
-    read_edit, must_fail, checked, unread   what an edit makes of the files, whether a crate with it is refused, its check, and
-                                            whether a row of that says that a text couldn't be read
-    read_files                              what crates.txt doesn't say of a program; `Crate` is made to call it, as `rt ci` does
-    processors, free                        how many checks there is room for
+    read_edit             what an edit makes of the files, or why it can't be applied
+    checked               a check of a whole crate with such files; it is made to keep what the check said
+    must_fail             whether a crate with an edit is refused
+    unread                whether a row of a check says that a text couldn't be read
+    read_files            what crates.txt doesn't say of a program; `Crate` is made to call it, as `rt ci` does
+    processors, free      how many checks there is room for
 
 Of its `rtlib.py`, since a batch is checked in a folder of its own, with the words that `rt check` would give:
 
-    Crate (name, folder, words, below, count), crates_below, guarded, PARTS, RATTLE
+    Crate                 name, folder, words, below, count
+    crates_below          the crates of a tree, lowest first
+    guarded               what has a check end with this command
+    PARTS, RATTLE         the parts of a crate, and the program `rattle`
 
 Of the program `rattle`, since no command of the kit proves some functions of a crate over holes for the others:
 
-    check       the options --jobs, --allow-holes, --margin (half counts) and --only; the status 1 where a function is refused, and 2
-                where there is no function of a name
-    fmt --tokens    a row for each word: its line, its start, its end, its kind and its text
-    the places of proofs/   Answers, Invariants and Proof of a function, its Goals, Given and Statement (rooms, copies)
+    check                 the options --jobs, --allow-holes, --margin (half counts) and --only; the status 1 where a function is
+                          refused, and 2 where there is no function of a name
+    fmt --tokens          a row for each word: its line, its start, its end, its kind and its text
+    proofs/               where Answers, Invariants and Proof of a function stand, and how these name its Statement and its
+                          Goals (rooms, copies)
 
-Of what these print: the patterns below, by which verdicts are read off. Only what a goal's name says is told by goals.kind_of."""
+Of what these print: the patterns below, by which verdicts are read off. Only what a goal's name says is told by
+goals.kind_of."""
 
 import contextlib
 import importlib.machinery
@@ -40,7 +48,8 @@ NO_FAULT = re.compile(
     r"|(no proof: |not proved; )(in `[^`]*`, of this cycle of calls: )?it calls .*"
     r"|no proof: the borrow checker's part .* which has no proof.*)$"
 )
-# What it says of a function whose goals it has all looked at: what one calls that isn't proved may have kept the search from them.
+# What it says of a function whose goals it has all looked at: what one calls that isn't proved may have kept the search
+# from them.
 ALL_GOALS_SHOWN = re.compile(r"(no holes|depends on a hole in `[^`]*LeftOut\.anything`)$")
 # A function that is only not proved since it stands on what is refused.
 STANDS_ON_REFUSED = re.compile(r"not proved; it stands on (.*), which antt refuses")
@@ -60,8 +69,8 @@ FALSE_AT_VALUES = "allow values at which"
 AT_A_LIMIT = "gave up at one of its limits"
 # The name of the goal that there isn't, whose answer keeps a check from offering proofs (rooms).
 NO_OFFER = "no-offer"
-# An error that only says that a name is gone, or that what it cites wasn't admitted: it tells nothing of the function itself. So does
-# that of the answer which is added so that no proof is offered.
+# An error that only says that a name is gone, or that what it cites wasn't admitted: it tells nothing of the function
+# itself. So does that of the answer which is added so that no proof is offered.
 NAMES_GONE = re.compile(
     rf"has no field|is not in scope|has no `|has no function|(was|is) not admitted|error: `{NO_OFFER}`"
 )
@@ -72,7 +81,8 @@ ONLY_NAMES_GONE = "only because a proof file names"
 # A crate that `rt ci` has proved.
 PROVED_CRATE = re.compile(r"^rt: (\w+) (?:proved$|is kept: )", re.M)
 
-# Starts a command on this one processor, where it isn't -1: with more of them the front end takes more processor time for the same work.
+# Starts a command on this one processor, where it isn't -1: with more of them the front end takes more processor time
+# for the same work.
 ON_ONE_PROCESSOR = [
     sys.executable,
     "-ISc",
@@ -81,7 +91,8 @@ ON_ONE_PROCESSOR = [
 
 
 def joined(said):
-    """Returns the rows of what a check said, each with the rows that go on with it: a long one is broken, and the others explain it."""
+    """Returns the rows of what a check said, each with the rows that go on with it: a long one is broken, and the
+    others explain it."""
     found = []
     for row in said.split("\n"):
         if row.startswith("  ") and found and PLACED_ROW.match(found[-1]):
@@ -144,7 +155,8 @@ def prepare():
 
 
 def code_words(file):
-    """Returns the line, the start, the end and the text of each word of the file that is code, by the kit's own lexer."""
+    """Returns the line, the start, the end and the text of each word of the file that is code, by the kit's own
+    lexer."""
     ran = subprocess.run([rt.rtlib.RATTLE, "fmt", "--tokens", file], capture_output=True, text=True, errors="replace")
     rows = (row.split(" ", 4) for row in ran.stdout.split("\n")[1:])
     return [(int(row[0]), int(row[1]), int(row[2]), row[4][1:-1]) for row in rows if len(row) == 5 and row[3] == "Code"]
@@ -167,12 +179,13 @@ def read_edit(edit, folder):
 
 
 def try_edit(crate, edit):
-    """Returns what a try of the whole crate with the edit came to ('refused', 'limit' or another word), what is said of it, and what the
-    check printed, where there was one."""
+    """Returns what a try of the whole crate with the edit came to ('refused', 'limit' or another word), what is said of
+    it, and what the check printed, where there was one."""
     LAST_CHECK.ran = None
     with in_a_file(edit) as path:
         came_to, text = rt.must_fail(crate, path, ["--jobs", "1"])
-    # (an older kit says by a truth value whether it is refused, and a newer one by a word that is true whatever it says)
+    # (an older kit says by a truth value whether it is refused, and a newer one by a word that is true whatever it
+    # says)
     came_to = "refused" if came_to is True else came_to
     return came_to, text.partition(": ")[2], LAST_CHECK.ran and LAST_CHECK.ran.stdout
 

@@ -19,7 +19,8 @@ def lanes(each):
 
 
 class Proofs:
-    """How far `rt ci` has come, by what it has printed to a file so far. With no file it has ended, and what it proves is there."""
+    """How far `rt ci` has come, by what it has printed to a file so far. With no file it has ended, and what it proves
+    is there."""
 
     def __init__(self, path):
         self.path, self.ended, self.proved = path, path is None, set()
@@ -38,7 +39,8 @@ class Proofs:
 
 
 class Lanes:
-    """Lets as many checks run side by side as processors and memory allow: beside the proofs, while they go on, and after them."""
+    """Lets as many checks run side by side as processors and memory allow: beside the proofs, while they go on, and
+    after them."""
 
     def __init__(self, proofs):
         self.proofs, self.running, self.turn, self.after = proofs, {}, threading.Condition(), lanes(EACH)
@@ -46,7 +48,8 @@ class Lanes:
         self.beside = max(0, min(kit.processors(), beside))
 
     def __enter__(self):
-        """Waits for a turn, and returns the processor that the check is to run on: one that no other check of a wrong body has."""
+        """Waits for a turn, and returns the processor that the check is to run on: one that no other check of a wrong
+        body has."""
         with self.turn:
             while len(self.running) >= (self.after if self.proofs.look() else self.beside):
                 self.turn.wait(2)
@@ -64,11 +67,12 @@ class Turns:
     """Gives out trials, each once the crates below its own are proved, the largest first."""
 
     def __init__(self, trials, proofs):
-        self.left, self.proofs, self.turn = sorted(trials, key=lambda it: -it.crate.count(rb"\n")), proofs, threading.Lock()
+        self.left = sorted(trials, key=lambda it: -it.crate.count(rb"\n"))
+        self.proofs, self.turn = proofs, threading.Lock()
 
     def take(self):
-        """Returns a trial and whether its turn has come, or none where one has to wait. Where the proofs have ended without what its crate
-        stands on, each of its edits has failed."""
+        """Returns a trial and whether its turn has come, or none where one has to wait. Where the proofs have ended
+        without what its crate stands on, each of its edits has failed."""
         with self.turn:
             self.proofs.look()
             trial = next((it for it in self.left if self.proofs.stand_below(it.crate)), None)

@@ -1,5 +1,5 @@
-"""Tries edits that each turn one statement of specs/ and name one law in one check, where none of the laws rests on a statement that another
-edit turns."""
+"""Tries edits that each turn one statement of specs/ and name one law in one check, where none of the laws rests on a
+statement that another edit turns."""
 
 from . import kit
 from .statements import Statements, words_of, words_of_clauses, words_of_header
@@ -23,8 +23,9 @@ class LawTrials:
         return told
 
     def apart(self, edits):
-        """Returns those of the edits that can be tried in one check, each with its law and with the names of what rests on the statement of
-        specs/ that it turns: no clause of src/ but its law's has one of them, and no header or proof of another law among these."""
+        """Returns those of the edits that can be tried in one check, each with its law and with the names of what rests
+        on the statement of specs/ that it turns: no clause of src/ but its law's has one of them, and no header or
+        proof of another law among these."""
         statements, found, words = Statements(self.sources.folder), {}, {}
         for edit in edits:
             law = self.law_of(edit)
@@ -55,8 +56,8 @@ class LawTrials:
         return words_of_header(law, self.sources.texts[law.file]).union(*of_proofs)
 
     def try_together(self, found):
-        """Returns which of these edits one check shows to be refused, with what it says of each one's law. A function on which none of them
-        bears must be proved in it."""
+        """Returns which of these edits one check shows to be refused, with what it says of each one's law. A function
+        on which none of them bears must be proved in it."""
         bench, texts = self.bench, {}
         laws = {edit: law for edit, (law, _) in found.items()}
         rests = set().union(*(names for _, names in found.values()))

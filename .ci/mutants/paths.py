@@ -4,18 +4,19 @@ from . import kit
 
 
 class PrintedPaths:
-    """The paths of a crate's functions as checks print them: as they should be by the sources, until a check has told."""
+    """The paths of a crate's functions as checks print them: as they should be by the sources, until a check has
+    told."""
 
     def __init__(self, sources):
         self.sources, self.crate_name = sources, sources.crate.name
-        # All paths that checks have printed; the one of each function, so far as it is known, and as it was last asked for; and the
-        # functions that a check has under no path at all.
+        # All paths that checks have printed; the one of each function, so far as it is known, and as it was last asked
+        # for; and the functions that a check has under no path at all.
         self.seen, self.of, self.asked, self.unnamed = set(), {}, {}, set()
 
     def candidates(self, function):
-        """Returns what the function's path may be as a check prints it, or the end of it: a method stands below the module of its type,
-        wherever its impl stands, and behind a trait's name may stand the trait's argument. Each is there once, since the next is looked for
-        by it."""
+        """Returns what the function's path may be as a check prints it, or the end of it: a method stands below the
+        module of its type, wherever its impl stands, and behind a trait's name may stand the trait's argument. Each is
+        there once, since the next is looked for by it."""
         *before, name = function.path.split("::")
         scope, _, argument = before[-1].partition(":")
         module_of_type = self.sources.module_of_type
@@ -24,7 +25,8 @@ class PrintedPaths:
         own = "::".join([*before[:-1], scope, name])
         with_argument = [f"{home}::{scope}{argument}::{name}", f"{scope}{argument}::{name}"] if argument else []
         # (each once: who asks for the name behind one that doesn't fit would else ask for the same again, for ever)
-        return list(dict.fromkeys([*with_argument, f"{home}::{scope}::{name}" if types else own, own, f"{scope}::{name}", name]))
+        first = f"{home}::{scope}::{name}" if types else own
+        return list(dict.fromkeys([*with_argument, first, own, f"{scope}::{name}", name]))
 
     def printed(self, function):
         """Returns the function's path as a check prints it, so far as that is known."""
@@ -46,7 +48,8 @@ class PrintedPaths:
                 self.of[it] = found[0]
 
     def ask_for_next(self, said):
-        """Asks for the next path where a check has no function of the one that was asked for, and returns whether there is one."""
+        """Asks for the next path where a check has no function of the one that was asked for, and returns whether there
+        is one."""
         told = kit.NO_SUCH_FUNCTION.search(said)
         unfit = [it for it, path in self.asked.items() if told and told[1] in (path, path.partition("::")[2])]
         for it in unfit:

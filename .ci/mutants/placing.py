@@ -40,7 +40,8 @@ class Placing:
         return self.fault_of_clauses(edit)
 
     def fault_of_clauses(self, edit):
-        """Says why where the clauses that the edit names aren't those of its functions, or where it has to name one and doesn't."""
+        """Says why where the clauses that the edit names aren't those of its functions, or where it has to name one and
+        doesn't."""
         has_answers = lambda place: os.path.isfile(f"{self.sources.folder}/proofs/{place}/Answers.antt")
         own = [place for it in edit.functions for place in self.paths.proof_folders(it) if has_answers(place)]
         if own and not edit.breaks and not edit.is_elsewhere:
@@ -73,12 +74,13 @@ class Placing:
         edit.functions += [it for it in (inside or headed)[:1] if it not in edit.functions]
 
     def keeps_header(self, function, at, was, new):
-        """Returns whether the function has the same header and contract after this replacement, which only puts another body before its
-        own: what calls it goes by them."""
+        """Returns whether the function has the same header and contract after this replacement, which only puts another
+        body before its own: what calls it goes by them."""
         text = self.sources.texts[function.file]
         edited = text[:at] + new + text[at + len(was) :]
         with tempfile.NamedTemporaryFile(suffix=".rt") as file:
             file.write(edited)
             file.flush()
             after = [it for it in functions(file.name, self.sources.crate.name) if it.head == function.head]
-        return [edited[it.head : it.body[0]].split() for it in after] == [text[function.head : function.body[0]].split()]
+        headers = [edited[it.head : it.body[0]].split() for it in after]
+        return headers == [text[function.head : function.body[0]].split()]

@@ -1,5 +1,5 @@
-"""The folder that a check runs in: a copy of a crate with other texts of its sources, in which each function that isn't to be proved has an
-endless loop for its body and a hole for its proof, so that nothing is read that isn't edited."""
+"""The folder that a check runs in: a copy of a crate with other texts of its sources, in which each function that isn't
+to be proved has an endless loop for its body and a hole for its proof, so that nothing is read that isn't edited."""
 
 import contextlib
 import os
@@ -17,8 +17,9 @@ class Rooms:
     # ---- its sources
 
     def edited(self, batch, proved, aims=None):
-        """Returns the texts of the files of src/, with each edit of the batch at its place in the original or in a copy, and with a body
-        that says nothing in each function that isn't to be proved: what calls it goes by its contract."""
+        """Returns the texts of the files of src/, with each edit of the batch at its place in the original or in a
+        copy, and with a body that says nothing in each function that isn't to be proved: what calls it goes by its
+        contract."""
         changes, copied = {}, []
         for edit in batch:
             if aims and aims[edit][0].of:
@@ -40,8 +41,8 @@ class Rooms:
         return texts
 
     def emptied(self, path, proved):
-        """Returns the functions of the file whose bodies a batch leaves out: those that it doesn't prove, but for what a cycle's one proof
-        or a function around them needs."""
+        """Returns the functions of the file whose bodies a batch leaves out: those that it doesn't prove, but for what
+        a cycle's one proof or a function around them needs."""
         near = self.sources.by_file[path]
         inside = lambda one, two: two.body[0] <= one.body[0] and one.body[1] <= two.body[1]
         is_nested = lambda it: any(it is not two and (inside(it, two) or inside(two, it)) for two in near)
@@ -50,8 +51,8 @@ class Rooms:
     # ---- its proofs
 
     def fill(self, room, texts, proved, edited, without):
-        """Makes the copy in this folder. For those functions that are edited no proof is offered. 'without' has functions with the answers
-        of their own proofs that are taken out."""
+        """Makes the copy in this folder. For those functions that are edited no proof is offered. 'without' has
+        functions with the answers of their own proofs that are taken out."""
         for part in kit.PARTS:
             if os.path.isdir(f"{self.sources.folder}/{part}"):
                 shutil.copytree(f"{self.sources.folder}/{part}", f"{room}/{part}")
@@ -81,12 +82,14 @@ class Rooms:
                 with contextlib.suppress(FileNotFoundError):
                     os.remove(f"{at}/{part}.antt")
             with open(f"{at}/Proof.antt", "w", encoding="utf-8") as file:
-                file.write(f"use {'.'.join([head, *places, name])}.Statement.{{statement}}\nuse {head}.LeftOut.{{anything}}\n\n")
+                file.write(f"use {'.'.join([head, *places, name])}.Statement.{{statement}}\n")
+                file.write(f"use {head}.LeftOut.{{anything}}\n\n")
                 file.write(f"pub {name}_spec : {{M : Type 1}} → statement M\n{name}_spec = anything\n")
 
     def ask_for_no_offers(self, functions, proofs):
-        """Adds to the proofs of these functions an answer to a goal that there isn't. A check that refuses a function reads all once more
-        to offer the answers that lack, but not where an answer has such a fault, which says nothing of the function (kit.NAMES_GONE)."""
+        """Adds to the proofs of these functions an answer to a goal that there isn't. A check that refuses a function
+        reads all once more to offer the answers that lack, but not where an answer has such a fault, which says nothing
+        of the function (kit.NAMES_GONE)."""
         for path in [self.paths.printed(it) for it in functions if not it.cycle]:
             _, *places, name = path.split("::")
             at = "/".join([proofs, *places, name])
@@ -105,7 +108,8 @@ class Rooms:
 
 
 def take_out(goals, files):
-    """Takes the answers of these goals out of the files, with what names them there, so that the search is asked for them."""
+    """Takes the answers of these goals out of the files, with what names them there, so that the search is asked for
+    them."""
     for path in (it for it in files if os.path.isfile(it)):
         with open(path, encoding="utf-8") as file:
             rows = file.read().split("\n")
@@ -118,7 +122,8 @@ def rows_without(rows, goals):
     parts, gone = list(Statements.parts(rows)), set(goals)
     while more := {name for _, declared, words in parts if (declared | words) & gone for name in declared} - gone:
         gone |= more
-    left = [row for at, row in enumerate(rows) if not any(at in place and declared & gone for place, declared, _ in parts)]
+    is_gone = lambda at: any(at in place and declared & gone for place, declared, _ in parts)
+    left = [row for at, row in enumerate(rows) if not is_gone(at)]
     # (places in the code are there only for answers that cite them)
     words = words_of("\n".join(left))
     kept = lambda names: ", ".join(it for it in names[1].split(", ") if it in words)

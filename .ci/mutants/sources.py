@@ -9,8 +9,8 @@ TYPE = re.compile(rb"^\s*(?:pub(?:\([a-z]+\))? )?(?:struct|enum|trait) (\w+)", r
 
 
 class Sources:
-    """By the file's path the bytes and the functions of each file of src/, the module of each type, and the text of each file of proofs/.
-    'copies' are the functions that the check at hand has beside these."""
+    """By the file's path the bytes and the functions of each file of src/, the module of each type, and the text of
+    each file of proofs/. 'copies' are the functions that the check at hand has beside these."""
 
     def __init__(self, crate):
         self.crate, self.folder = crate, crate.folder

@@ -12,7 +12,8 @@ from .of_laws import LawTrials
 
 
 class CrateTrial:
-    """The wrong bodies of one crate, and what became of them. What can't stand for an edit has failed from the start."""
+    """The wrong bodies of one crate, and what became of them. What can't stand for an edit has failed from the
+    start."""
 
     def __init__(self, crate, kinds, say, seed, lanes):
         self.crate = crate
@@ -56,8 +57,8 @@ class CrateTrial:
         bench.say(f"{self.crate.name}: {self.passed} of {len(self.edits)} refused, {how}, {self.took:.0f} s")
 
     def prove_halves(self):
-        """Proves the functions that wrong bodies edit, and the copies of them, as they stand, with half counts, and tells those that
-        aren't."""
+        """Proves the functions that wrong bodies edit, and the copies of them, as they stand, with half counts, and
+        tells those that aren't."""
         start, bench = time.time(), self.bench
         bench.sources.read()
         wanted = self.functions_and_copies()
@@ -74,7 +75,8 @@ class CrateTrial:
         bench.say(f"{self.crate.name}: {how}, {self.took:.0f} s")
 
     def functions_and_copies(self):
-        """Returns the functions that the edits change, and the copies that their batches make of them; these stay those of the sources."""
+        """Returns the functions that the edits change, and the copies that their batches make of them; these stay those
+        of the sources."""
         bench, copies = self.bench, []
         is_whole = lambda it: bench.paths.printed(it) in NEED_WHOLE
         batches, _, _ = bench.plan()

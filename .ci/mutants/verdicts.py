@@ -28,7 +28,8 @@ class Verdicts:
         return told_in(said, self.owner, outermost)
 
     def told_of_edited(self, said, batch):
-        """Returns the same, where that of any function of a cycle is of the one that the batch edits, since a cycle has one proof."""
+        """Returns the same, where that of any function of a cycle is of the one that the batch edits, since a cycle has
+        one proof."""
         by_cycle = {it.cycle: self.paths.printed(it) for edit in batch for it in edit.functions if it.cycle}
         own = {self.paths.printed(it): it.cycle for it in self.sources.all_functions() if it.cycle}
         found = {}
@@ -41,9 +42,9 @@ class Verdicts:
         return [fact for it in functions for fact in told.get(self.paths.printed(it), ())]
 
     def is_told(self, edit, facts, is_alone=False):
-        """Returns whether this shows that a contract refuses the edit: the search doesn't prove a goal of it, of a clause that it names, if
-        it names some. That the function's own answer for a goal of that clause is none any more is enough where the search was asked
-        before."""
+        """Returns whether this shows that a contract refuses the edit: the search doesn't prove a goal of it, of a
+        clause that it names, if it names some. That the function's own answer for a goal of that clause is none any
+        more is enough where the search was asked before."""
         goes = lambda goal: not edit.breaks or any(goes_with(clause, goal) for clause in edit.breaks)
         held = [it for it in facts if kind_of(it.goal) and goes(it.goal)]
         is_of_answers = edit.breaks and (is_alone or not self.is_thorough)
@@ -58,7 +59,8 @@ class Verdicts:
         return [edit for edit in batch if any(is_inside(it, *place) for place in places for it in aims[edit])]
 
     def strays(self, batch, said, told, edited):
-        """Returns the functions that aren't edited and are refused, so that what the check says of the others says little."""
+        """Returns the functions that aren't edited and are refused, so that what the check says of the others says
+        little."""
         is_sound = lambda what: kit.NO_FAULT.match(what) or self.rests_on(what, edited)
         known = dict(kit.FUNCTION_ROW.findall(said))
         found = {it for it, facts in told.items() if it not in edited and facts[0].how != "names"}

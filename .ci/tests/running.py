@@ -1,5 +1,5 @@
-"""What the tests of the built program share: the program, a folder of each test's own, and how a run has to end. Another program than the
-built one is named by the variable PROGRAM."""
+"""What the tests of the built program share: the program, a folder of each test's own, and how a run has to end.
+Another program than the built one is named by the variable PROGRAM."""
 
 import os
 import shutil
@@ -37,7 +37,8 @@ class ProgramTest(unittest.TestCase):
     def assert_ends(self, words, status, text="", complaint="", **how):
         """The program on these words ends with this status, and writes these texts to standard output and error."""
         ran = run([PROGRAM, *words], **how)
-        self.assertEqual((ran.status, ran.text.decode(errors="replace"), ran.complaint), (status, text, complaint), told(words))
+        was = ran.status, ran.text.decode(errors="replace"), ran.complaint
+        self.assertEqual(was, (status, text, complaint), told(words))
 
     def assert_complains(self, words, beginning):
         """The program on these words ends with status 2, and writes nothing but a complaint that begins so."""

@@ -1,6 +1,7 @@
-"""The built program on devices that fail: a file that may grow no further after each of many sizes, a file system of a few kilobytes that runs
-full, a pipe whose reader ends, an input that is cut off while it is read, and a pipe whose writer dies in the middle of a line. Each time it
-ends with the status and the line that the manual has, and what it wrote is a beginning of its output."""
+"""The built program on devices that fail: a file that may grow no further after each of many sizes, a file system of a
+few kilobytes that runs full, a pipe whose reader ends, an input that is cut off while it is read, and a pipe whose
+writer dies in the middle of a line. Each time it ends with the status and the line that the manual has, and what it
+wrote is a beginning of its output."""
 
 import os
 import subprocess
@@ -84,7 +85,8 @@ class Writing(ProgramTest):
 
 class Reading(ProgramTest):
     def test_log_that_is_cut_off_while_it_is_read(self):
-        """Nobody reads the output until then, so that the program has to wait in the middle. Its answer is that of a beginning of the log."""
+        """Nobody reads the output until then, so that the program has to wait in the middle. Its answer is that of a
+        beginning of the log."""
         log = FAULTY.read_bytes() * 65
         (self.work / "log").write_bytes(log)
         words = [PROGRAM, *LONG_OUTPUT]

@@ -1,5 +1,6 @@
-"""What the built program does at its ends: help, the version, each fault with its line and status but 'options out of range', which no
-command line leads to, names and lines at their limits, and a refused line that is written before the next one comes."""
+"""What the built program does at its ends: help, the version, each fault with its line and status but 'options out of
+range', which no command line leads to, names and lines at their limits, and a refused line that is written before the
+next one comes."""
 
 import os
 import select
@@ -126,7 +127,8 @@ AS_MANY_OPS = [(aborted(2, b",".join([READ] * 4096)), None)]
 
 class Lines(ProgramTest):
     def assert_answers(self, lines, transactions):
-        """Each of these lines is taken or refused as it should be, in one input, after which so many transactions are there."""
+        """Each of these lines is taken or refused as it should be, in one input, after which so many transactions are
+        there."""
         (self.work / "lines").write_bytes(b"".join(line + b"\n" for line, _ in lines))
         codes = [(number, code) for number, (_, code) in enumerate(lines, 1) if code]
         refused = "".join(f"refused source=0 line={number} code={code}\n" for number, code in codes)
@@ -164,8 +166,8 @@ class Lines(ProgramTest):
         self.assert_answers(AS_MANY_OPS, 1)
 
     def test_all_these_lines_in_one_input(self):
-        lines = [*CUT, *TOO_LONG, *AS_LONG, *TOO_DEEP, *DEEP, *NOT_UTF8, *KEY_TOO_LONG, *KEY_AS_LONG, *TOO_MANY_OPS, *AS_MANY_OPS]
-        self.assert_answers(lines, 2)
+        lines = [*CUT, *TOO_LONG, *AS_LONG, *TOO_DEEP, *DEEP, *NOT_UTF8]
+        self.assert_answers([*lines, *KEY_TOO_LONG, *KEY_AS_LONG, *TOO_MANY_OPS, *AS_MANY_OPS], 2)
 
     def test_longer_keys(self):
         """Each of 5,000 is written by one transaction and read by another, and then one reads what another key has."""

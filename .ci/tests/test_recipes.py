@@ -1,6 +1,7 @@
-"""Each recipe of examples/recipes with a small test in the place of a real one, clean and with a lost update: each has to end in time, with the
-checker's status, and the one that ends a test at a violation has to have ended it. The one that makes a log in commit order of one of snapshots
-has to write what was worked out by hand, and to take no more memory for a longer log."""
+"""Each recipe of examples/recipes with a small test in the place of a real one, clean and with a lost update: each has
+to end in time, with the checker's status, and the one that ends a test at a violation has to have ended it. The one
+that makes a log in commit order of one of snapshots has to write what was worked out by hand, and to take no more
+memory for a longer log."""
 
 import os
 import subprocess
@@ -31,7 +32,8 @@ class RecipeTest(ProgramTest):
         (self.work / "logs").mkdir()
 
     def assert_recipe(self, name, status, **variables):
-        """The recipe with these variables ends with this status, and complains of nothing where that isn't 2. Returns what it said."""
+        """The recipe with these variables ends with this status, and complains of nothing where that isn't 2. Returns
+        what it said."""
         fixed = {"LOGS": self.work / "logs", "ANSWER": self.answer, "CLIENTS": 2}
         env = {**os.environ, **{key: str(it) for key, it in {**fixed, **variables}.items()}}
         ran = run(["timeout", "60", RECIPES / name, RECIPES / "small_test"], 90, env=env)
@@ -157,7 +159,8 @@ class StopAtAViolation(RecipeTest):
         self.assert_bears_checker("stop_at_a_violation", GONE_AT_ONCE)
 
 
-# A log of snapshots: all outcomes, resolutions and withdrawals, and lines that are refused in it and in the one in commit order.
+# A log of snapshots: all outcomes, resolutions and withdrawals, and lines that are refused in it and in the one in
+# commit order.
 SNAPSHOTS = r"""{"do":"setup","key":"x","value":9}
 {"do":"txn","id":1,"start":2,"status":"committed","commit":7,"ops":[["r","x",9],["w","x",1]]}
  { "do": "txn", "id": 2, "start": 4, "status": "committed", "commit": 4, "ops": [["r", "x", 9]] }
@@ -228,7 +231,8 @@ class InCommitOrder(ProgramTest):
 
     def checked(self, text):
         """Returns the status with which ./sicheck checks this text, and its answer."""
-        ran = subprocess.run([ROOT / "sicheck", "check"], input=text, capture_output=True, text=True, timeout=60, check=False)
+        words = [ROOT / "sicheck", "check"]
+        ran = subprocess.run(words, input=text, capture_output=True, text=True, timeout=60, check=False)
         return ran.returncode, ran.stdout
 
     def refused(self, text):
