@@ -1,8 +1,8 @@
-"""What the tester of wrong bodies knows of the kit's insides. No other module of this folder calls the kit or has a pattern
-of what it prints, so that a new kit is met here.
+"""What the tester of wrong bodies knows of the kit's insides. No other module of this folder calls the kit or has a
+pattern of what it prints, so that a new kit is met here.
 
-Of the command `rt`, which is loaded as a module, since an edit has to be read and judged here just as `rt must-fail` and
-`rt ci` do:
+Of the command `rt`, which is loaded as a module, since an edit has to be read and judged here just as `rt must-fail`
+and `rt ci` do:
 
     read_edit             what an edit makes of the files, or why it can't be applied
     checked               a check of a whole crate with such files; it is made to keep what the check said
@@ -20,11 +20,11 @@ Of its `rtlib.py`, since a batch is checked in a folder of its own, with the wor
 
 Of the program `rattle`, since no command of the kit proves some functions of a crate over holes for the others:
 
-    check                 the options --jobs, --allow-holes, --margin (half counts) and --only; the status 1 where a function is
-                          refused, and 2 where there is no function of a name
+    check                 the options --jobs, --allow-holes, --margin (half counts) and --only; the status 1 where a
+                          function is refused, and 2 where there is no function of a name
     fmt --tokens          a row for each word: its line, its start, its end, its kind and its text
-    proofs/               where Answers, Invariants and Proof of a function stand, and how these name its Statement and its
-                          Goals (rooms, copies)
+    proofs/               where Answers, Invariants and Proof of a function stand, and how these name its Statement and
+                          its Goals (rooms, copies)
 
 Of what these print: the patterns below, by which verdicts are read off. Only what a goal's name says is told by
 goals.kind_of."""
@@ -86,7 +86,8 @@ PROVED_CRATE = re.compile(r"^rt: (\w+) (?:proved$|is kept: )", re.M)
 ON_ONE_PROCESSOR = [
     sys.executable,
     "-ISc",
-    "import os, sys; at = int(sys.argv[1]); at < 0 or os.sched_setaffinity(0, {at}); os.execvp(sys.argv[2], sys.argv[2:])",
+    "import os, sys; at, *words = sys.argv[1:]; int(at) < 0 or os.sched_setaffinity(0, {int(at)}); "
+    "os.execvp(words[0], words)",
 ]
 
 
