@@ -20,7 +20,8 @@ use Rattle.si_accept.specs.Books.{BookState}
 use Rattle.si_shard.specs.ShardIds.{is_ours}
 use Rattle.si_shard.specs.Shards.{ShardState, findings_in}
 use Rattle.si_core.specs.Machine.{IsLeastPosition, IsLeastSpoiled, IsSettled, Progress}
-use Rattle.si_core.specs.Worlds.{IsFirstSpoiled, IsLeastOf, IsWorld, machine_of, progress_of, shard_findings}
+use Rattle.si_shard.specs.Laws.{shard_id}
+use Rattle.si_core.specs.Worlds.{AreFoundOf, IsFirstSpoiled, IsLeastOf, IsWorld, machine_of, progress_of}
 
 module _ (book : BookState) (shards : List ShardState) (world : IsWorld book shards) where
   -- where the least position is the end of the journal each shard has stored it whole
@@ -38,40 +39,12 @@ module _ (book : BookState) (shards : List ShardState) (world : IsWorld book sha
       let same : length m.0.stored ≡ length book.journal = ap (λ l. length l) (stored_whole n least all g.0 m.0 g.1) in
       (ap (λ (q : Progress). q.spoiled) (sym m.2) ∙ whole m.0 m.1, ap (λ (q : Progress). q.position) (sym m.2) ∙ same)
 
-  module _ (n : ℕ) (least : IsLeastOf shards n) (all : length book.journal ≤ n) (accepted : IsAccepted book.journal) where
-    -- a finding on a key is one of the key's shard
-    of_its_shard : (f : Finding) → Contains (findings (present book.journal)) f → Contains (flat_map shard_findings shards) f
-    of_its_shard f c =
-        let count = length shards in
-        let some = world.some in
-        let k = shard_number f.key count in
-        let within : k < count = mod-lt (shard_hash f.key) some in
-        let g = shard_at k within in
-        let s = g.0 in
-        let is = world.each k s g.1 in
-        let ours : is_ours s.id f.key ≡ true = eq-eqb (shard_number f.key s.id.shards) s.id.shard (ap (shard_number f.key) is.count ∙ sym is.number) in
-        let stored = stored_whole n least all k s g.1 in
-        Contains-flat_map shard_findings shards s f (get_contains shards k s g.1)
-        (subst (λ J. Contains (findings_in s.id (present J)) f) (sym stored) (Contains-filter (λ h. is_ours s.id h.key) (findings (present book.journal)) f c ours))
-      where
-        shard_at : (k : ℕ) → k < length shards → (s : ShardState) × (slice_get shards k ≡ Some s)
-        shard_at k lt = (slice_index_or shards k least.0.0, slice_get-get_or shards k least.0.0 lt)
-
-    of_some_shard : (f : Finding) → Contains (flat_map shard_findings shards) f → Contains (findings (present book.journal)) f
-    of_some_shard f c =
-        let m = Contains-from_flat_map shard_findings shards f c in
-        let g = contains_get shards m.0 m.1 in
-        let stored = stored_whole n least all g.0 m.0 g.1 in
-        (Contains-from_filter (λ h. is_ours m.0.id h.key) (findings (present book.journal)) f (subst (λ J. Contains (findings_in m.0.id (present J)) f) stored m.2)).0
-
-    pub settled_findings : in_order finding_cmp (flat_map shard_findings shards) ≡ findings (present book.journal)
-    settled_findings = unique_list (in_order finding_cmp (flat_map shard_findings shards)) (findings (present book.journal))
-        (sorted-in_order findings_total (flat_map shard_findings shards))
-        (findings_exact (present book.journal) (present_history book.journal accepted)).ascends
-        (λ f. (
-          (λ c. of_some_shard f (Contains-from_in_order findings_total (flat_map shard_findings shards) f c)),
-          (λ c. Contains-in_order findings_total exact_findings (flat_map shard_findings shards) f (of_its_shard f c)),
-        ))
+  -- and its findings are those of the whole journal on its keys
+  pub found_of_journal : (n : ℕ) → IsLeastOf shards n → length book.journal ≤ n → AreFoundOf (present book.journal) shards
+  found_of_journal n least all k s at =
+      let is = world.each k s at in
+      let own : s.id ≡ shard_id k (length shards) = ap (λ j. record { shard = j; shards = s.id.shards }) is.number ∙ ap (shard_id k) is.count in
+      ap (λ J. findings_in s.id (present J)) (stored_whole n least all k s at) ∙ ap (λ id. findings_in id (present book.journal)) own
 
 -- ---- why it isn't settled
 

@@ -3,9 +3,11 @@ use Rattle.std.specs.Prelude.{◌≡◌, ◌⊎◌, ℕ, ◌+◌, ◌<◌, ◌�
 use Rattle.std.specs.List.{Contains}
 use Rattle.si_model.specs.declared.edits.Edit.{Edit}
 use Rattle.si_model.specs.declared.findings.Finding.{Finding}
+use Rattle.si_model.specs.Parts.{Present}
 use Rattle.si_model.specs.Journals.{present}
 use Rattle.si_accept.specs.Books.{BookState}
 use Rattle.si_shard.specs.Shards.{ShardState, findings_in}
+use Rattle.si_shard.specs.Laws.{shard_id}
 use Rattle.si_shard.specs.declared.shards.TheConstants.{MOST_SHARDS}
 use Rattle.si_core.specs.declared.steps.Reply.{Reply}
 use Rattle.si_core.specs.declared.steps.Reply.TheVariants as reply
@@ -69,6 +71,10 @@ IsLeastOf shards n = ((s : ShardState) × Contains shards s × (length s.stored 
 -- the findings of a shard
 abbrev pub shard_findings : ShardState → List Finding
 shard_findings s = findings_in s.id (present s.stored)
+
+-- the findings of each shard are those of what is present that are on its keys, by its place among them
+abbrev pub AreFoundOf : Present → List ShardState → Type 0
+AreFoundOf P shards = (k : ℕ) (s : ShardState) → slice_get shards k ≡ Some s → shard_findings s ≡ findings_in (shard_id k (length shards)) P
 
 -- the machine answers with that fault in place of its findings: the least shard that is spoiled; where none is, the least position, which isn't the
 -- end of the journal; or that memory was refused, where all is settled

@@ -4,11 +4,12 @@ ghost use Rattle.std.specs.Prelude.{◌≡◌, ◌⊎◌, ◌↔◌, ℕ, ◌+�
 ghost use Rattle.std.specs.Option.{option_map};
 ghost use Rattle.si_model.specs.Findings.{findings};
 ghost use Rattle.si_model.specs.Form.{IsWellFormed};
+ghost use Rattle.si_model.specs.History.{IsHistory};
 ghost use Rattle.si_model.specs.Journals.{IsAccepted, present};
+ghost use Rattle.si_model.specs.Parts.{Present};
 ghost use Rattle.si_graph.specs.Phenomena.{IsPlSi};
-ghost use Rattle.si_core.specs.Worlds.{AppliesAll, AppliesNext, IsFirstSpoiled, IsLeastOf, IsShardOf, WithholdsFindings, shard_findings};
-ghost use Rattle.std.specs.List.{Contains, flat_map};
-ghost use Rattle.si_model.specs.Order.{finding_cmp, in_order};
+ghost use Rattle.si_core.specs.Worlds.{AppliesAll, AppliesNext, AreFoundOf, IsFirstSpoiled, IsLeastOf, IsShardOf, WithholdsFindings};
+ghost use Rattle.std.specs.List.{Contains};
 ghost use Rattle.si_shard.specs.Shards.{ShardState};
 ghost use Rattle.si_core.specs.declared.steps.Reply.TheVariants as reply;
 ghost use Rattle.si_core.specs.declared.steps.WorldFault.TheVariants as fault;
@@ -17,10 +18,8 @@ ghost use Rattle.si_core.specs.Machine.{AppliesMany, AppliesUntil, IsAccept, IsA
 use crate::{Reply, Step, WorldFault};
 use si_accept::{AcceptFault, Book};
 use si_graph::laws::emptiness_is_exact;
-use si_model::laws::order_is_strict;
-use si_model::sorting::put_in_order;
 use si_model::{Edit, Finding, Key, MOST_EDITS, Number, OutOfMemory, Txn, Value};
-use si_shard::{MOST_SHARDS, Shard};
+use si_shard::{MOST_SHARDS, Shard, put_all_in_order};
 use std::alloc::{AllocError, Global};
 use std::hash::RandomState;
 use std::marker::Model;
@@ -201,7 +200,7 @@ impl World {
         if position < journal.len() as u64 {
             return Err(WorldFault::Unsettled(position));
         }
-        let Ok(found) = findings_in_order(self.alloc, self.shards.as_slice()) else {
+        let Ok(found) = findings_of(self.alloc, self.shards.as_slice()) else {
             return Err(WorldFault::OutOfMemory);
         };
         emptiness_is_exact();
@@ -326,11 +325,7 @@ fn apply_left(journal: &[Edit], shard: &mut Shard, number: usize) -> Reply
     requires shard { IsShardOf journal.now shard.old.id.shards number shard.old }
     ensures { AppliesAll journal.now number shard.old result shard.new }
 {
-    let left = &journal[shard.position() as usize..];
-    if left.is_empty() {
-        return Reply::Idle;
-    }
-    match shard.apply_all(left) {
+    match shard.catch_up(journal) {
         Ok(()) => Reply::Idle,
         Err(_) => Reply::Spoiled(number),
     }
@@ -407,27 +402,18 @@ fn least_position(shards: &[Shard]) -> u64
     least
 }
 
-/// The findings of the shards, of which none is spoiled, put in order.
-fn findings_in_order(alloc: Global, shards: &[Shard]) -> Result<Vec<Finding>, OutOfMemory>
-    requires { (s : ShardState) → Contains shards.now s → s.spoiled ≡ false }
-    ensures { IfOk result (λ found. found.items ≡ in_order finding_cmp (flat_map shard_findings shards.now)) }
+/// The findings of all shards, of which none is spoiled, in order.
+fn findings_of(alloc: Global, shards: &[Shard]) -> Result<Vec<Finding>, OutOfMemory>
+    requires some { 1 ≤ length shards.now }
+    requires whole { (s : ShardState) → Contains shards.now s → s.spoiled ≡ false }
+    ensures { IfOk result (λ found. (P : Present) → IsHistory P → AreFoundOf P shards.now → found.items ≡ findings P) }
 {
     let mut found = Vec::new(alloc);
-    for shard in shards {
-        add_findings(shard, &mut found)?;
+    for place in 0..shards.len() {
+        let Ok(()) = shards[place].add_findings(&mut found) else {
+            return Err(AllocError);
+        };
     }
-    order_is_strict();
-    put_in_order(&mut found);
+    put_all_in_order(&mut found);
     Ok(found)
-}
-
-fn add_findings(shard: &Shard, found: &mut Vec<Finding>) -> Result<(), OutOfMemory>
-    requires { shard.now.spoiled ≡ false }
-    ensures { OnOk result (found.new.items ≡ found.old.items ++ shard_findings shard.now) }
-{
-    let Ok(mut more) = shard.findings() else {
-        return Err(AllocError);
-    };
-    found.append(&mut more)?;
-    Ok(())
 }

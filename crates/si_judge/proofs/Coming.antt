@@ -15,10 +15,10 @@ use Rattle.si_judge.specs.Commits.{HaveValuesOnce}
 use Rattle.si_judge.specs.Values.{at_value, value_cmp}
 use Rattle.si_judge.specs.Maps.{AreInserted, AreTakenOut}
 use Rattle.si_judge.specs.Indexes.{AddsVersion, AreIndexes, Fits, Joins, LacksVersion, HasVersion, KeepsValuesOnce, RemovesVersion, other_writes_of, reads_in, version_by}
-use Rattle.si_judge.specs.Readers.{reader_cmp, own_at, AreInOrder}
+use Rattle.si_judge.specs.KeptReads.{kept_read_cmp, own_at, AreInOrder}
 use Rattle.si_judge.specs.Mending.{installer}
 use Rattle.si_judge.proofs.IndexEdits.{comes, goes, no_value}
-use Rattle.si_judge.proofs.Orders.{value_decides, reader_decides}
+use Rattle.si_judge.proofs.Orders.{value_decides, kept_read_decides}
 use Rattle.si_judge.proofs.PartLists.{added_are, reads_are_apart, others_are_apart, version_from, version_installs}
 
 -- what has no other transaction than a history is one
@@ -38,17 +38,17 @@ history_within Q R h initial within names = record {
 
 module _ (old new : Indexes) (T : Part) {M R : OnKey} (is : AreIndexes M old) (joins : Joins T M R) (history : IsOfHistory R) (initial : new.initial ≡ old.initial) where
   pub came : AreInserted (eq_by_cmp value_cmp) (at_value old.writes) (other_writes_of T) (at_value new.writes)
-      → AreInserted (eq_by_cmp reader_cmp) (own_at old.readers) (reads_in T) (own_at new.readers)
+      → AreInserted (eq_by_cmp kept_read_cmp) (own_at old.reads) (reads_in T) (own_at new.reads)
       → AddsVersion (version_by T) old.timeline new.timeline
-      → AreInOrder new.readers
+      → AreInOrder new.reads
       → AreIndexes R new
-  came writes readers timeline readers_ordered = record {
-    ordered = readers_ordered;
+  came writes readers timeline kept_reads_ordered = record {
+    ordered = kept_reads_ordered;
     history = history;
     initial = initial ∙ is.initial ∙ joins.initial;
     timeline = versions (version_by T) refl timeline;
     writes = comes (eq_by_cmp value_cmp) value_decides other_writes_of T M.parts R.parts joins.parts (others_are_apart R history) (at_value old.writes) (at_value new.writes) is.writes writes;
-    readers = comes (eq_by_cmp reader_cmp) reader_decides reads_in T M.parts R.parts joins.parts (reads_are_apart R history) (own_at old.readers) (own_at new.readers) is.readers readers;
+    reads = comes (eq_by_cmp kept_read_cmp) kept_read_decides reads_in T M.parts R.parts joins.parts (reads_are_apart R history) (own_at old.reads) (own_at new.reads) is.reads readers;
   }
     where
       versions : (o : Option Dated) → version_by T ≡ o → AddsVersion o old.timeline new.timeline → (d : Dated)
@@ -130,17 +130,17 @@ module _ (old new : Indexes) (T : Part) {M R : OnKey} (is : AreIndexes M old) (j
   apart_T X c e = joins.absent X c (ap (λ (Y : Part). Y.id) e)
 
   pub went : AreTakenOut (eq_by_cmp value_cmp) (at_value old.writes) (other_writes_of T) (at_value new.writes)
-      → AreTakenOut (eq_by_cmp reader_cmp) (own_at old.readers) (reads_in T) (own_at new.readers)
+      → AreTakenOut (eq_by_cmp kept_read_cmp) (own_at old.reads) (reads_in T) (own_at new.reads)
       → RemovesVersion (version_by T) old.timeline new.timeline
-      → AreInOrder new.readers
+      → AreInOrder new.reads
       → AreIndexes R new
-  went writes readers timeline readers_ordered = record {
-    ordered = readers_ordered;
+  went writes readers timeline kept_reads_ordered = record {
+    ordered = kept_reads_ordered;
     history = history;
     initial = initial ∙ is.initial ∙ sym joins.initial;
     timeline = versions (version_by T) refl timeline;
     writes = goes (eq_by_cmp value_cmp) value_decides other_writes_of T R.parts M.parts joins.parts (others_are_apart M is.history) (at_value old.writes) (at_value new.writes) apart_T is.writes writes;
-    readers = goes (eq_by_cmp reader_cmp) reader_decides reads_in T R.parts M.parts joins.parts (reads_are_apart M is.history) (own_at old.readers) (own_at new.readers) apart_T is.readers readers;
+    reads = goes (eq_by_cmp kept_read_cmp) kept_read_decides reads_in T R.parts M.parts joins.parts (reads_are_apart M is.history) (own_at old.reads) (own_at new.reads) apart_T is.reads readers;
   }
     where
       versions : (o : Option Dated) → version_by T ≡ o → RemovesVersion o old.timeline new.timeline → (d : Dated)

@@ -12,7 +12,7 @@ use Rattle.si_model.specs.declared.parts.Placed.{Placed}
 use Rattle.si_model.specs.declared.parts.Part.{Part}
 use Rattle.si_model.specs.declared.parts.OnKey.{OnKey}
 use Rattle.si_model.specs.Versions.{commit_of}
-use Rattle.si_judge.specs.declared.reads.Reader.{Reader}
+use Rattle.si_judge.specs.declared.reads.KeptRead.{KeptRead}
 use Rattle.si_judge.specs.declared.indexes.Indexes.{Indexes}
 use Rattle.si_judge.specs.Indexes.{AreIndexes, AreReadsOf, read_at, reads_by, reads_in, reads_of}
 use Rattle.si_judge.specs.Mending.{id_of}
@@ -22,10 +22,10 @@ use Rattle.si_judge.proofs.PairLists.{pairs_append, pairs_weaker}
 use Rattle.si_judge.proofs.PartLists.{by_read}
 
 -- a read by its transaction and place
-abbrev pub name_of : Reader × Option Value → TxnId × ℕ
+abbrev pub name_of : KeptRead × Option Value → TxnId × ℕ
 name_of p = (p.0.txn, p.0.place)
 
-same_id : (p q : Reader × Option Value) → name_of p ≡ name_of q → id_of p ≡ id_of q
+same_id : (p q : KeptRead × Option Value) → name_of p ≡ name_of q → id_of p ≡ id_of q
 same_id p q e = λ i. record { txn = (e i).0; place = (e i).1 }
 
 pub own_once : (T : Part) → AllPairs (λ a b. a.place < b.place) T.accesses → AllPairs (Differ name_of) (reads_in T)
@@ -35,23 +35,23 @@ own_once T rise = by (commit_of T.status)
     apart : (ys : List Placed) → AllPairs (λ a b. a.place < b.place) ys → AllPairs (Differ (λ (a : Placed). a.place)) ys
     apart ys p = pairs_weaker {R = λ a b. a.place < b.place} {S = Differ (λ (a : Placed). a.place)} ys p (λ a b c d lt e. omega (arith, lt, e))
 
-    at_place : (a : Placed) (p : Reader × Option Value) → read_at T a ≡ Some p → p.0.place ≡ a.place
-    at_place a p e = let r = by_read T a.place a.access p e in sym (ap (λ (q : Reader × Option Value). q.0.place) r.2)
+    at_place : (a : Placed) (p : KeptRead × Option Value) → read_at T a ≡ Some p → p.0.place ≡ a.place
+    at_place a p e = let r = by_read T a.place a.access p e in sym (ap (λ (q : KeptRead × Option Value). q.0.place) r.2)
 
     by : (o : Option Stamp) → AllPairs (Differ name_of) (reads_by T o)
     by None = pairs_nil (Differ name_of)
-    by (Some c) = pairs_weaker {R = Differ (λ (p : Reader × Option Value). p.0.place)} {S = Differ name_of} (reads_of T)
-        (names_filter_map (λ (a : Placed). a.place) (λ (p : Reader × Option Value). p.0.place) (read_at T) at_place T.accesses (apart T.accesses rise))
+    by (Some c) = pairs_weaker {R = Differ (λ (p : KeptRead × Option Value). p.0.place)} {S = Differ name_of} (reads_of T)
+        (names_filter_map (λ (a : Placed). a.place) (λ (p : KeptRead × Option Value). p.0.place) (read_at T) at_place T.accesses (apart T.accesses rise))
         (λ a b c d differ e. differ (ap (λ x. x.1) e))
 
-pub readers_once : {M : OnKey} (ix : Indexes) → AreIndexes M ix → (P : Reader → Type 0) (xs : List (Reader × Option Value)) → AreReadsOf ix P xs → AllPairs (Differ name_of) xs
-readers_once ix is P xs are = pairs_weaker {R = λ p q. p.0 ≢ q.0} {S = Differ name_of} xs are.once (λ p q c d differ e.
-    let a = (is.readers p.0 p.1).0 (are.only p c).0 in
-    let b = (is.readers q.0 q.1).0 (are.only q d).0 in
-    differ (ap (λ (x : Reader × Option Value). x.0) (same_read ix is p q a.0 b.0 a.1 b.1 a.2 b.2 (same_id p q e))))
+pub kept_reads_once : {M : OnKey} (ix : Indexes) → AreIndexes M ix → (P : KeptRead → Type 0) (xs : List (KeptRead × Option Value)) → AreReadsOf ix P xs → AllPairs (Differ name_of) xs
+kept_reads_once ix is P xs are = pairs_weaker {R = λ p q. p.0 ≢ q.0} {S = Differ name_of} xs are.once (λ p q c d differ e.
+    let a = (is.reads p.0 p.1).0 (are.only p c).0 in
+    let b = (is.reads q.0 q.1).0 (are.only q d).0 in
+    differ (ap (λ (x : KeptRead × Option Value). x.0) (same_read ix is p q a.0 b.0 a.1 b.1 a.2 b.2 (same_id p q e))))
 
 -- so many judgements are within the bound
-pub bounded : (Touched : TxnId × ℕ → Type 0) (xs : List (Reader × Option Value)) → AllPairs (Differ name_of) xs → ((p : Reader × Option Value) → Contains xs p → Touched (name_of p))
+pub bounded : (Touched : TxnId × ℕ → Type 0) (xs : List (KeptRead × Option Value)) → AllPairs (Differ name_of) xs → ((p : KeptRead × Option Value) → Contains xs p → Touched (name_of p))
     → (n : ℕ) → n ≤ length xs + 2 → IsBoundedBy Touched n
 bounded Touched xs once touched n le = record {
   reads = map name_of xs;
@@ -60,9 +60,9 @@ bounded Touched xs once touched n le = record {
   bound = subst (λ m. n ≤ m + 2) (sym (length-map xs name_of)) le;
 }
 
-pub bounded_by_both : (Touched : TxnId × ℕ → Type 0) (xs ys : List (Reader × Option Value)) → AllPairs (Differ name_of) xs → AllPairs (Differ name_of) ys
-    → ((p q : Reader × Option Value) → Contains xs p → Contains ys q → p.0.txn ≢ q.0.txn)
-    → ((p : Reader × Option Value) → Contains xs p → Touched (name_of p)) → ((p : Reader × Option Value) → Contains ys p → Touched (name_of p))
+pub bounded_by_both : (Touched : TxnId × ℕ → Type 0) (xs ys : List (KeptRead × Option Value)) → AllPairs (Differ name_of) xs → AllPairs (Differ name_of) ys
+    → ((p q : KeptRead × Option Value) → Contains xs p → Contains ys q → p.0.txn ≢ q.0.txn)
+    → ((p : KeptRead × Option Value) → Contains xs p → Touched (name_of p)) → ((p : KeptRead × Option Value) → Contains ys p → Touched (name_of p))
     → (n : ℕ) → n ≤ length xs + length ys + 2 → IsBoundedBy Touched n
 bounded_by_both Touched xs ys a b apart f g n le = bounded Touched (xs ++ ys)
     (pairs_append {R = Differ name_of} xs ys a b (λ p q c d e. apart p q c d (ap (λ x. x.0) e)))

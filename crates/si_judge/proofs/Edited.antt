@@ -15,16 +15,16 @@ use Rattle.si_model.specs.Findings.{Rules}
 use Rattle.si_model.specs.History.{IsOfHistory}
 use Rattle.si_model.proofs.Histories.{one_installer}
 use Rattle.si_timeline.specs.Timelines.{Dated}
-use Rattle.si_judge.specs.declared.reads.Reader.{Reader}
+use Rattle.si_judge.specs.declared.reads.KeptRead.{KeptRead}
 use Rattle.si_judge.specs.declared.judgements.ReadId.{ReadId}
 use Rattle.si_judge.specs.declared.indexes.Indexes.{Indexes}
-use Rattle.si_judge.specs.Indexes.{AreIndexes, AreReadsOf, Fits, IsTouchedBy, Joins, reader_of, reads_in, version_by}
+use Rattle.si_judge.specs.Indexes.{AreIndexes, AreReadsOf, Fits, IsTouchedBy, Joins, kept_read_of, reads_in, version_by}
 use Rattle.si_judge.specs.Mending.{ArePairKinds, AreReadKinds, Found, IsJudgedWith, IsJudgedWithout, IsReadKind, IsRight, IsVersionForgotten, IsVersionJudged, id_of, installer, read_cmp, risen}
 use Rattle.si_judge.specs.Touched.{IsBoundedBy, IsTouched, RestsOn}
-use Rattle.si_judge.proofs.Coverage.{bounded, bounded_by_both, own_once, readers_once}
+use Rattle.si_judge.proofs.Coverage.{bounded, bounded_by_both, own_once, kept_reads_once}
 use Rattle.si_judge.proofs.Gathered.{touched_are}
 use Rattle.si_judge.proofs.IndexEdits.{no_value}
-use Rattle.si_judge.proofs.Mended.{IsReader, NotAmong, differ, is_read, reader_id, reader_read, right_after, same_kind}
+use Rattle.si_judge.proofs.Mended.{IsKeptRead, NotAmong, differ, is_read, kept_read_id, reader_read, right_after, same_kind}
 use Rattle.si_judge.proofs.Orders.{read_decides}
 use Rattle.si_judge.proofs.Pairs.{pairs_after_coming, pairs_after_going, pairs_apart}
 use Rattle.si_judge.proofs.PartLists.{installs_version, read_from, version_installs}
@@ -35,16 +35,16 @@ use Rattle.si_judge.proofs.Updates.{key_or_not, others_stay, value_stands}
 abbrev pub WithinBound : OnKey → OnKey → TxnId → Found → Found → Type 0
 WithinBound Q R u old new = (n : ℕ) × IsBoundedBy (IsTouched Q R u) n × (new.answers ≡ risen old.answers n)
 
-started : (X : Part) (p : Reader × Option Value) → Contains (reads_in X) p → p.0.start ≡ X.start
+started : (X : Part) (p : KeptRead × Option Value) → Contains (reads_in X) p → p.0.start ≡ X.start
 started X p c = sym (ap (λ q. q.0.start) (read_from X p c).is)
 
-reader_in : {M : OnKey} (ix : Indexes) (is : AreIndexes M ix) (P : Reader → Type 0) (xs : List (Reader × Option Value)) → AreReadsOf ix P xs → (p : Reader × Option Value) → Contains xs p → IsReader M p
-reader_in ix is P xs are p c = (is.readers p.0 p.1).0 (are.only p c).0
+kept_read_in : {M : OnKey} (ix : Indexes) (is : AreIndexes M ix) (P : KeptRead → Type 0) (xs : List (KeptRead × Option Value)) → AreReadsOf ix P xs → (p : KeptRead × Option Value) → Contains xs p → IsKeptRead M p
+kept_read_in ix is P xs are p c = (is.reads p.0 p.1).0 (are.only p c).0
 
 -- ---- T comes to what is in the indexes
 
 module _ (J : Rules) {M R : OnKey} (ix new_ix : Indexes) (is : AreIndexes M ix) (is_new : AreIndexes R new_ix) (T U : Part) (joins : Joins T M R)
-    (Q : OnKey) (before : IsSide M U Q) (named : U.id ≡ T.id) (less : (r : Reader) → IsTouchedBy ix U r → IsTouchedBy ix T r)
+    (Q : OnKey) (before : IsSide M U Q) (named : U.id ≡ T.id) (less : (r : KeptRead) → IsTouchedBy ix U r → IsTouchedBy ix T r)
     (silent : (X : Part) (i : ℕ) (v : Option Value) → IsRead Q X i v → X.id ≡ T.id → ⊥) (idle : (n : Installer) → IsInstaller Q n → n.txn ≢ T.id)
     (old new : Found) (right : IsRight J Q old) (judged : IsJudgedWith J T R ix new_ix old new) where
   fits : Fits T M
@@ -62,8 +62,8 @@ module _ (J : Rules) {M R : OnKey} (ix new_ix : Indexes) (is : AreIndexes M ix) 
   gathered : AreReadsOf ix (IsTouchedBy ix T) judged.others
   gathered = touched_are ix is T fits judged.others judged.touched
 
-  still : (p : Reader × Option Value) → Contains judged.others p → IsReader R p
-  still p c = let x = reader_in ix is (IsTouchedBy ix T) judged.others gathered p c in (x.0, (joins.parts x.0).1 (inl x.1), x.2)
+  still : (p : KeptRead × Option Value) → Contains judged.others p → IsKeptRead R p
+  still p c = let x = kept_read_in ix is (IsTouchedBy ix T) judged.others gathered p c in (x.0, (joins.parts x.0).1 (inl x.1), x.2)
 
   reads_right : AreReadKinds J R new.reads
   reads_right o k = right_after J new_ix is_new (reads_in T) (λ p c. (T, there, c)) judged.middle new.reads judged.own_judged o k (λ not_own.
@@ -74,7 +74,7 @@ module _ (J : Rules) {M R : OnKey} (ix new_ix : Indexes) (is : AreIndexes M ix) 
       ((λ e. same.0 ((right.reads o k).0 e)), (λ f. (right.reads o k).1 (same.1 f)))))
     where
       own : (X : Part) (v : Option Value) → IsRead R X o.place v → X.id ≡ o.txn → X ≡ T → NotAmong (reads_in T) o → ⊥
-      own X v read e s none = none (reader_of X o.place v, own_value X o.place) (subst (λ Y. Contains (reads_in Y) (reader_of X o.place v, own_value X o.place)) s (reader_read R X o.place v read))
+      own X v read e s none = none (kept_read_of X o.place v, own_value X o.place) (subst (λ Y. Contains (reads_in Y) (kept_read_of X o.place v, own_value X o.place)) s (reader_read R X o.place v read))
           (λ i. record { txn = e i; place = o.place })
 
   pairs_right : ArePairKinds J R new.overlaps
@@ -101,16 +101,16 @@ module _ (J : Rules) {M R : OnKey} (ix new_ix : Indexes) (is : AreIndexes M ix) 
   bound_with = (
     judged.counted.0,
     bounded_by_both (IsTouched Q R T.id) judged.others (reads_in T)
-        (readers_once ix is (IsTouchedBy ix T) judged.others gathered) (own_once T (is_new.history.places T there))
-        (λ p q c d e. (let x = reader_in ix is (IsTouchedBy ix T) judged.others gathered p c in joins.absent x.0 x.1 (reader_id x.0 p x.2 ∙ e ∙ sym (reader_id T q d))))
+        (kept_reads_once ix is (IsTouchedBy ix T) judged.others gathered) (own_once T (is_new.history.places T there))
+        (λ p q c d e. (let x = kept_read_in ix is (IsTouchedBy ix T) judged.others gathered p c in joins.absent x.0 x.1 (kept_read_id x.0 p x.2 ∙ e ∙ sym (kept_read_id T q d))))
         (λ p c. (let x = still p c in record {
           part = x.0;
           value = p.0.value;
           read = is_read R x.0 p x.1 x.2;
-          of = reader_id x.0 p x.2;
+          of = kept_read_id x.0 p x.2;
           touched = inr (inr (subst (λ s. RestsOn R T.id s p.0.value) (started x.0 p x.2) (touches ix is T joins.absent R after there p.0 (gathered.only p c).1)));
         }))
-        (λ p c. record { part = T; value = p.0.value; read = is_read R T p there c; of = reader_id T p c; touched = inl (sym (reader_id T p c)) })
+        (λ p c. record { part = T; value = p.0.value; read = is_read R T p there c; of = kept_read_id T p c; touched = inl (sym (kept_read_id T p c)) })
         judged.counted.0 judged.counted.1,
     judged.counted.2,
   )
@@ -138,7 +138,7 @@ module _ (J : Rules) {M : OnKey} (ix : Indexes) (is : AreIndexes M ix) (T : Part
   forgotten_or_not o k not_other = elim (key_or_not {V = Kind} (eq_by_cmp read_cmp) read_decides id_of (λ p. None) (reads_in T) o) [
     | inl hit ↦ (
         let gone : judged.middle o ≡ None = judged.own_forgotten o ∙ value_stands (eq_by_cmp read_cmp) read_decides id_of (λ p. None) (reads_in T) old.reads o None hit.0 hit.1 hit.2 (λ p c e. refl) in
-        ((λ e. absurd (no_value k (sym gone ∙ e))), (λ f. absurd (joins.absent f.0 f.2.part (f.3 ∙ sym (ap (λ (x : ReadId). x.txn) hit.2) ∙ sym (reader_id T hit.0 hit.1))))))
+        ((λ e. absurd (no_value k (sym gone ∙ e))), (λ f. absurd (joins.absent f.0 f.2.part (f.3 ∙ sym (ap (λ (x : ReadId). x.txn) hit.2) ∙ sym (kept_read_id T hit.0 hit.1))))))
     | inr none ↦ (
         let same : judged.middle o ≡ old.reads o = judged.own_forgotten o ∙ others_stay (eq_by_cmp read_cmp) read_decides id_of (λ p. None) (reads_in T) old.reads o none in
         let kind = same_kind J ix is T T refl joins.absent Q M was stays (λ r t. t) judged.others collected o k not_other
@@ -148,12 +148,12 @@ module _ (J : Rules) {M : OnKey} (ix : Indexes) (is : AreIndexes M ix) (T : Part
   ]
     where
       own : (X : Part) (v : Option Value) → IsRead Q X o.place v → X.id ≡ o.txn → X ≡ T → NotAmong (reads_in T) o → ⊥
-      own X v read e s none = none (reader_of X o.place v, own_value X o.place) (subst (λ Y. Contains (reads_in Y) (reader_of X o.place v, own_value X o.place)) s (reader_read Q X o.place v read))
+      own X v read e s none = none (kept_read_of X o.place v, own_value X o.place) (subst (λ Y. Contains (reads_in Y) (kept_read_of X o.place v, own_value X o.place)) s (reader_read Q X o.place v read))
           (λ i. record { txn = e i; place = o.place })
 
   pub right_without : IsRight J M new
   right_without = record {
-    reads = λ o k. right_after J ix is judged.others (λ p c. reader_in ix is (IsTouchedBy ix T) judged.others collected p c) judged.middle new.reads judged.others_judged o k (forgotten_or_not o k);
+    reads = λ o k. right_after J ix is judged.others (λ p c. kept_read_in ix is (IsTouchedBy ix T) judged.others collected p c) judged.middle new.reads judged.others_judged o k (forgotten_or_not o k);
     overlaps = by (version_by T) refl judged.version;
   }
     where
@@ -176,12 +176,12 @@ module _ (J : Rules) {M : OnKey} (ix : Indexes) (is : AreIndexes M ix) (T : Part
   pub bound_without : WithinBound Q M T.id old new
   bound_without = (
     judged.counted.0,
-    bounded (IsTouched Q M T.id) judged.others (readers_once ix is (IsTouchedBy ix T) judged.others collected)
-        (λ p c. (let x = reader_in ix is (IsTouchedBy ix T) judged.others collected p c in record {
+    bounded (IsTouched Q M T.id) judged.others (kept_reads_once ix is (IsTouchedBy ix T) judged.others collected)
+        (λ p c. (let x = kept_read_in ix is (IsTouchedBy ix T) judged.others collected p c in record {
           part = x.0;
           value = p.0.value;
           read = is_read M x.0 p x.1 x.2;
-          of = reader_id x.0 p x.2;
+          of = kept_read_id x.0 p x.2;
           touched = inr (inl (subst (λ s. RestsOn Q T.id s p.0.value) (started x.0 p x.2) (touches ix is T joins.absent Q was had p.0 (collected.only p c).1)));
         }))
         judged.counted.0 judged.counted.1,

@@ -27,20 +27,20 @@ use Rattle.si_model.proofs.Equalities.{read_is}
 use Rattle.si_model.proofs.Histories.{one_installer, one_part}
 use Rattle.si_model.proofs.LastWrites.{last_written, one_access}
 use Rattle.si_timeline.specs.Timelines.{Dated, IsNearestBefore}
-use Rattle.si_judge.specs.declared.reads.Reader.{Reader}
+use Rattle.si_judge.specs.declared.reads.KeptRead.{KeptRead}
 use Rattle.si_judge.specs.declared.reads.Write.{Write}
 use Rattle.si_judge.specs.declared.indexes.Indexes.{Indexes}
-use Rattle.si_judge.specs.Indexes.{AreIndexes, AreReadsBefore, AreReadsOf, AreTouchedReads, Fits, IsTouchedBy, IsValueBefore, reader_of, readers_in, reads_in, returned_by, version_by, write_at, write_by, write_of, writes_of}
-use Rattle.si_judge.specs.Readers.{IsLaterThan, IsReaderOf, is_later, is_reader_of, reader_cmp, own_at}
+use Rattle.si_judge.specs.Indexes.{AreIndexes, AreReadsBefore, AreReadsOf, AreTouchedReads, Fits, IsTouchedBy, IsValueBefore, kept_read_of, kept_reads_in, reads_in, returned_by, version_by, write_at, write_by, write_of, writes_of}
+use Rattle.si_judge.specs.KeptReads.{IsLaterThan, IsKeptReadOf, is_later, is_kept_read_of, kept_read_cmp, own_at}
 use Rattle.si_judge.specs.Mending.{id_of, installer}
 use Rattle.si_judge.proofs.IndexEdits.{no_value}
-use Rattle.si_judge.proofs.Orders.{reader_decides}
-use Rattle.si_judge.proofs.ReaderLists.{stands_beside}
+use Rattle.si_judge.proofs.Orders.{kept_read_decides}
+use Rattle.si_judge.proofs.KeptReadLists.{stands_beside}
 use Rattle.si_judge.proofs.PartLists.{read_from, version_from, version_installs, write_from, write_to}
 
 -- ---- the readers of a value
 
-reader_is : (v : Option Value) (after : Option Stamp) (r : Reader) → (is_reader_of v after r ≡ true) ↔ IsReaderOf v after r
+reader_is : (v : Option Value) (after : Option Stamp) (r : KeptRead) → (is_kept_read_of v after r ≡ true) ↔ IsKeptReadOf v after r
 reader_is v after r = (
   (λ e. let both = and_parts _ (is_later after r.start) e in ((read_is r.value v).0 both.0, later after both.1)),
   (λ i. and_from _ (is_later after r.start) ((read_is r.value v).1 i.0) (from_later after i.1)),
@@ -54,40 +54,40 @@ reader_is v after r = (
     from_later None i = refl
     from_later (Some c) i = lt-ltb c.0 r.start.0 i
 
-keys_apart : (es : List (Reader × Option Value)) → IsStrictlySortedBy reader_cmp (keys_of es) → AllPairs (λ p q. p.0 ≢ q.0) es
+keys_apart : (es : List (KeptRead × Option Value)) → IsStrictlySortedBy kept_read_cmp (keys_of es) → AllPairs (λ p q. p.0 ≢ q.0) es
 keys_apart [] s = pairs_nil (λ p q. p.0 ≢ q.0)
-keys_apart (e ∷ es) s = pairs_cons (λ p q. p.0 ≢ q.0) e es (below e.0 es (sorted_head reader_cmp e.0 (keys_of es) s)) (keys_apart es (sorted_tail reader_cmp e.0 (keys_of es) s))
+keys_apart (e ∷ es) s = pairs_cons (λ p q. p.0 ≢ q.0) e es (below e.0 es (sorted_head kept_read_cmp e.0 (keys_of es) s)) (keys_apart es (sorted_tail kept_read_cmp e.0 (keys_of es) s))
   where
-    less : (r q : Reader) → reader_cmp r q ≡ Less → r ≢ q
-    less r q e same = true≢false (sym ((reader_decides r q).1 same) ∙ ap is_eq e)
+    less : (r q : KeptRead) → kept_read_cmp r q ≡ Less → r ≢ q
+    less r q e same = true≢false (sym ((kept_read_decides r q).1 same) ∙ ap is_eq e)
 
-    below : (r : Reader) (ds : List (Reader × Option Value)) → AllByRecursion (λ k. reader_cmp r k ≡ Less) (keys_of ds) → (d : Reader × Option Value) → Contains ds d → r ≢ d.0
+    below : (r : KeptRead) (ds : List (KeptRead × Option Value)) → AllByRecursion (λ k. kept_read_cmp r k ≡ Less) (keys_of ds) → (d : KeptRead × Option Value) → Contains ds d → r ≢ d.0
     below r [] h d c = absurd (Contains-nil d c)
     below r (x ∷ ds) h d c = elim (Contains-cons_cases x ds d c) [
-      | inl same ↦ subst (λ (y : Reader × Option Value). r ≢ y.0) same (less r x.0 h.0)
+      | inl same ↦ subst (λ (y : KeptRead × Option Value). r ≢ y.0) same (less r x.0 h.0)
       | inr rest ↦ below r ds h.1 d rest
     ]
 
 module _ {M : OnKey} (ix : Indexes) (is : AreIndexes M ix) where
-  entry : (r : Reader) (own : Option Value) → own_at ix.readers r ≡ Some own → Contains ix.readers (r, own)
+  entry : (r : KeptRead) (own : Option Value) → own_at ix.reads r ≡ Some own → Contains ix.reads (r, own)
   entry r own e =
-      let p = place_from_lookup (is_at (reader_cmp r)) ix.readers own e in
-      subst (λ k. Contains ix.readers (k, own)) (sym ((reader_decides r p.1).0 p.3)) (get_contains ix.readers p.0 (p.1, own) p.2)
+      let p = place_from_lookup (is_at (kept_read_cmp r)) ix.reads own e in
+      subst (λ k. Contains ix.reads (k, own)) (sym ((kept_read_decides r p.1).0 p.3)) (get_contains ix.reads p.0 (p.1, own) p.2)
 
-  stands : (p : Reader × Option Value) → Contains ix.readers p → own_at ix.readers p.0 ≡ Some p.1
-  stands = stands_beside ix.readers (keys_apart ix.readers is.ordered)
+  stands : (p : KeptRead × Option Value) → Contains ix.reads p → own_at ix.reads p.0 ≡ Some p.1
+  stands = stands_beside ix.reads (keys_apart ix.reads is.ordered)
 
-  pub readers_are : (v : Option Value) (after : Option Stamp) → AreReadsOf ix (IsReaderOf v after) (readers_in ix v after)
-  readers_are v after = record {
-    all = λ r own e i. Contains-filter (λ p. is_reader_of v after p.0) ix.readers (r, own) (entry r own e) ((reader_is v after r).1 i);
-    only = λ p c. let f = Contains-from_filter (λ q. is_reader_of v after q.0) ix.readers p c in (stands p f.0, (reader_is v after p.0).0 f.1);
-    once = AllPairs-filter (λ p q. p.0 ≢ q.0) (λ p. is_reader_of v after p.0) ix.readers (keys_apart ix.readers is.ordered);
+  pub kept_reads_are : (v : Option Value) (after : Option Stamp) → AreReadsOf ix (IsKeptReadOf v after) (kept_reads_in ix v after)
+  kept_reads_are v after = record {
+    all = λ r own e i. Contains-filter (λ p. is_kept_read_of v after p.0) ix.reads (r, own) (entry r own e) ((reader_is v after r).1 i);
+    only = λ p c. let f = Contains-from_filter (λ q. is_kept_read_of v after q.0) ix.reads p c in (stands p f.0, (reader_is v after p.0).0 f.1);
+    once = AllPairs-filter (λ p q. p.0 ≢ q.0) (λ p. is_kept_read_of v after p.0) ix.reads (keys_apart ix.reads is.ordered);
   }
 
-  pub none_are : {P : Reader → Type 0} → ((r : Reader) → P r → ⊥) → AreReadsOf ix P []
+  pub none_are : {P : KeptRead → Type 0} → ((r : KeptRead) → P r → ⊥) → AreReadsOf ix P []
   none_are none = record { all = λ r own e p. absurd (none r p); only = λ p c. absurd (Contains-nil p c); once = pairs_nil (λ p q. p.0 ≢ q.0) }
 
-  pub both_are : {P R : Reader → Type 0} (xs ys : List (Reader × Option Value)) → AreReadsOf ix P xs → AreReadsOf ix R ys → ((r : Reader) → P r → R r → ⊥)
+  pub both_are : {P R : KeptRead → Type 0} (xs ys : List (KeptRead × Option Value)) → AreReadsOf ix P xs → AreReadsOf ix R ys → ((r : KeptRead) → P r → R r → ⊥)
       → AreReadsOf ix (λ r. P r ⊎ R r) (xs ++ ys)
   both_are {P} {R} xs ys a b apart = record {
     all = λ r own e i. elim i [ inl p ↦ Contains-append_left xs ys (r, own) (a.all r own e p) | inr q ↦ Contains-append_right xs ys (r, own) (b.all r own e q) ];
@@ -95,24 +95,24 @@ module _ {M : OnKey} (ix : Indexes) (is : AreIndexes M ix) where
     once = joined xs a.once (λ p q c d same. apart p.0 (a.only p c).1 (subst R (sym same) (b.only q d).1));
   }
     where
-      joined : (zs : List (Reader × Option Value)) → AllPairs (λ p q. p.0 ≢ q.0) zs → ((p q : Reader × Option Value) → Contains zs p → Contains ys q → p.0 ≢ q.0) → AllPairs (λ p q. p.0 ≢ q.0) (zs ++ ys)
+      joined : (zs : List (KeptRead × Option Value)) → AllPairs (λ p q. p.0 ≢ q.0) zs → ((p q : KeptRead × Option Value) → Contains zs p → Contains ys q → p.0 ≢ q.0) → AllPairs (λ p q. p.0 ≢ q.0) (zs ++ ys)
       joined [] once differ = b.once
       joined (z ∷ zs) once differ = pairs_cons (λ p q. p.0 ≢ q.0) z (zs ++ ys)
           (λ q c. elim (Contains-append_cases zs ys q c) [ inl l ↦ pairs_head (λ p q. p.0 ≢ q.0) z zs once q l | inr r ↦ differ z q (here z zs) r ])
           (joined zs (pairs_tail (λ p q. p.0 ≢ q.0) z zs once) (λ p q c. differ p q (there z zs p c)))
 
-  pub same_reads : {P R : Reader → Type 0} (xs : List (Reader × Option Value)) → AreReadsOf ix P xs → ((r : Reader) → P r ↔ R r) → AreReadsOf ix R xs
+  pub same_reads : {P R : KeptRead → Type 0} (xs : List (KeptRead × Option Value)) → AreReadsOf ix P xs → ((r : KeptRead) → P r ↔ R r) → AreReadsOf ix R xs
   same_reads xs a same = record { all = λ r own e i. a.all r own e ((same r).1 i); only = λ p c. let o = a.only p c in (o.0, (same p.0).0 o.1); once = a.once }
 
   -- ---- the readers of what is written
 
-  abbrev IsReadOfOne : List (Value × Write) → Reader → Type 0
+  abbrev IsReadOfOne : List (Value × Write) → KeptRead → Type 0
   IsReadOfOne ws r = (w : Value × Write) × Contains ws w × (r.value ≡ Some w.0)
 
-  of_writes : (ws : List (Value × Write)) → AllPairs (λ a b. a.0 ≢ b.0) ws → AreReadsOf ix (IsReadOfOne ws) (flat_map (λ w. readers_in ix (Some w.0) None) ws)
+  of_writes : (ws : List (Value × Write)) → AllPairs (λ a b. a.0 ≢ b.0) ws → AreReadsOf ix (IsReadOfOne ws) (flat_map (λ w. kept_reads_in ix (Some w.0) None) ws)
   of_writes [] apart = none_are (λ r i. Contains-nil i.0 i.1)
-  of_writes (w ∷ ws) apart = same_reads (readers_in ix (Some w.0) None ++ flat_map (λ w. readers_in ix (Some w.0) None) ws)
-      (both_are (readers_in ix (Some w.0) None) (flat_map (λ w. readers_in ix (Some w.0) None) ws) (readers_are (Some w.0) None)
+  of_writes (w ∷ ws) apart = same_reads (kept_reads_in ix (Some w.0) None ++ flat_map (λ w. kept_reads_in ix (Some w.0) None) ws)
+      (both_are (kept_reads_in ix (Some w.0) None) (flat_map (λ w. kept_reads_in ix (Some w.0) None) ws) (kept_reads_are (Some w.0) None)
       (of_writes ws (pairs_tail (λ a b. a.0 ≢ b.0) w ws apart))
       (λ r a b. pairs_head (λ a b. a.0 ≢ b.0) w ws apart b.0 b.1 (same_some (sym a.0 ∙ b.2))))
       (λ r. (
@@ -164,14 +164,14 @@ module _ {M : OnKey} (ix : Indexes) (is : AreIndexes M ix) where
             (subst (λ v. WritesAt x.0 written.0 v) (sym (same_some same)) written.1) writes.1 in
             fits.1.absent x.0 x.1 one.0
 
-    written_is : (r : Reader) → IsReadOfOne (writes_of T) r ↔ ((w : Value) × Writes T w × (r.value ≡ Some w))
+    written_is : (r : KeptRead) → IsReadOfOne (writes_of T) r ↔ ((w : Value) × Writes T w × (r.value ≡ Some w))
     written_is r = (
       (λ i. let f = write_from T i.0.0 i.0.1 i.1 in (i.0.0, (f.0, f.1), i.2)),
       (λ i. (write_of T i.1.0 i.0, write_to T i.1.0 i.0 i.1.1, i.2)),
     )
 
-    abbrev IsReadBefore : Reader → Type 0
-    IsReadBefore r = (d : Dated) × (v : Option Value) × (version_by T ≡ Some d) × IsValueBefore ix d.0 v × IsReaderOf v (Some d.0) r
+    abbrev IsReadBefore : KeptRead → Type 0
+    IsReadBefore r = (d : Dated) × (v : Option Value) × (version_by T ≡ Some d) × IsValueBefore ix d.0 v × IsKeptReadOf v (Some d.0) r
 
     -- two stand before one stamp only where they are one
     same_before : (c : Stamp) (v w : Option Value) → IsValueBefore ix c v → IsValueBefore ix c w → v ≡ w
@@ -195,9 +195,9 @@ module _ {M : OnKey} (ix : Indexes) (is : AreIndexes M ix) where
             let n : o.0.0 ≡ p.0.0 = omega (arith, a, b) in
             e ∙ ap (λ (d : Dated). Some d.1.value) (one o p near.0 close.0 (ap (λ (k : ℕ). record { 0 = k }) n)) ∙ sym f
 
-    before_are : (o : Option Dated) (reads : List (Reader × Option Value)) → version_by T ≡ o → AreReadsBefore ix o reads → AreReadsOf ix IsReadBefore reads
+    before_are : (o : Option Dated) (reads : List (KeptRead × Option Value)) → version_by T ≡ o → AreReadsBefore ix o reads → AreReadsOf ix IsReadBefore reads
     before_are None reads e is_none = subst (AreReadsOf ix IsReadBefore) (sym is_none) (none_are (λ r i. no_value i.0 (sym e ∙ i.2)))
-    before_are (Some d) reads e before = subst (AreReadsOf ix IsReadBefore) (sym before.2) (same_reads (readers_in ix before.0 (Some d.0)) (readers_are before.0 (Some d.0)) (λ r. (
+    before_are (Some d) reads e before = subst (AreReadsOf ix IsReadBefore) (sym before.2) (same_reads (kept_reads_in ix before.0 (Some d.0)) (kept_reads_are before.0 (Some d.0)) (λ r. (
       (λ i. (d, before.0, e, before.1, i)),
       (λ i. let same : d ≡ i.0 = same_some (sym e ∙ i.2) in
           let v : i.1 ≡ before.0 = same_before d.0 i.1 before.0 (subst (λ (x : Dated). IsValueBefore ix x.0 i.1) (sym same) i.3) before.1 in
@@ -205,15 +205,15 @@ module _ {M : OnKey} (ix : Indexes) (is : AreIndexes M ix) where
     )))
 
     -- what is gathered is what T touches
-    pub touched_are : (reads : List (Reader × Option Value)) → AreTouchedReads ix T (writes_of T) reads → AreReadsOf ix (IsTouchedBy ix T) reads
+    pub touched_are : (reads : List (KeptRead × Option Value)) → AreTouchedReads ix T (writes_of T) reads → AreReadsOf ix (IsTouchedBy ix T) reads
     touched_are reads t =
         let written = same_reads _ (of_writes (writes_of T) values_apart) written_is in
-        subst (AreReadsOf ix (IsTouchedBy ix T)) (sym t.2) (both_are (flat_map (λ w. readers_in ix (Some w.0) None) (writes_of T)) t.0 written (before_are (version_by T) t.0 refl t.1)
+        subst (AreReadsOf ix (IsTouchedBy ix T)) (sym t.2) (both_are (flat_map (λ w. kept_reads_in ix (Some w.0) None) (writes_of T)) t.0 written (before_are (version_by T) t.0 refl t.1)
         (λ r a b. not_before b.0.0 b.1 a.0 b.3 (sym b.4.0 ∙ a.2) a.1))
 
   -- ---- one read of an id
 
-  pub same_read : (p q : Reader × Option Value) (A B : Part) → Contains M.parts A → Contains M.parts B → Contains (reads_in A) p → Contains (reads_in B) q → id_of p ≡ id_of q → p ≡ q
+  pub same_read : (p q : KeptRead × Option Value) (A B : Part) → Contains M.parts A → Contains M.parts B → Contains (reads_in A) p → Contains (reads_in B) q → id_of p ≡ id_of q → p ≡ q
   same_read p q A B a b c d e =
       let i = read_from A p c in
       let j = read_from B q d in
@@ -223,7 +223,7 @@ module _ {M : OnKey} (ix : Indexes) (is : AreIndexes M ix) where
       let one = one_access M is.history B (record { place = i.place; access = access.Read i.value }) (record { place = j.place; access = access.Read j.value }) b
       (subst (λ (T : Part). Contains T.accesses (record { place = i.place; access = access.Read i.value })) part i.returned) j.returned place in
       let value : i.value ≡ j.value = read_value i.value j.value (ap (λ x. x.access) one) in
-      sym i.is ∙ (λ k. (reader_of (part k) (place k) (value k), own_value (part k) (place k))) ∙ j.is
+      sym i.is ∙ (λ k. (kept_read_of (part k) (place k) (value k), own_value (part k) (place k))) ∙ j.is
     where
       read_value : (v w : Option Value) → access.Read v ≡ access.Read w → v ≡ w
       read_value v w e = cc

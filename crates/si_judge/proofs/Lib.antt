@@ -14,7 +14,7 @@ pub mod Neighbours
 pub mod Told
 pub mod Nearest
 pub mod Ranges
-pub mod ReaderLists
+pub mod KeptReadLists
 pub mod OwnApart
 pub mod Seen
 pub mod Gathered

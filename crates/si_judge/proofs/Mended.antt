@@ -12,10 +12,10 @@ use Rattle.si_model.specs.Findings.{Rules}
 use Rattle.si_model.proofs.Histories.{one_part}
 use Rattle.si_model.proofs.LastWrites.{one_access}
 use Rattle.si_model.proofs.Sources.{sight_law}
-use Rattle.si_judge.specs.declared.reads.Reader.{Reader}
+use Rattle.si_judge.specs.declared.reads.KeptRead.{KeptRead}
 use Rattle.si_judge.specs.declared.judgements.ReadId.{ReadId}
 use Rattle.si_judge.specs.declared.indexes.Indexes.{Indexes}
-use Rattle.si_judge.specs.Indexes.{AreIndexes, AreReadsOf, IsTouchedBy, reader_of, reads_in}
+use Rattle.si_judge.specs.Indexes.{AreIndexes, AreReadsOf, IsTouchedBy, kept_read_of, reads_in}
 use Rattle.si_judge.specs.Mending.{AreReadsJudged, IsReadKind, id_of, read_cmp}
 use Rattle.si_judge.specs.Sights.{sight_in}
 use Rattle.si_judge.specs.Touched.{DifferIn, RestsOn}
@@ -28,38 +28,38 @@ use Rattle.si_judge.proofs.Touching.{IsSide, rests_touch}
 use Rattle.si_judge.proofs.Updates.{key_or_not, others_stay, value_stands}
 
 -- the read is one of a committed transaction on the key
-abbrev pub IsReader : OnKey → Reader × Option Value → Type 0
-IsReader M p = (T : Part) × Contains M.parts T × Contains (reads_in T) p
+abbrev pub IsKeptRead : OnKey → KeptRead × Option Value → Type 0
+IsKeptRead M p = (T : Part) × Contains M.parts T × Contains (reads_in T) p
 
-abbrev pub NotAmong : List (Reader × Option Value) → ReadId → Type 0
-NotAmong xs o = (p : Reader × Option Value) → Contains xs p → id_of p ≢ o
+abbrev pub NotAmong : List (KeptRead × Option Value) → ReadId → Type 0
+NotAmong xs o = (p : KeptRead × Option Value) → Contains xs p → id_of p ≢ o
 
-pub is_read : (Q : OnKey) (T : Part) (p : Reader × Option Value) → Contains Q.parts T → Contains (reads_in T) p → IsRead Q T p.0.place p.0.value
+pub is_read : (Q : OnKey) (T : Part) (p : KeptRead × Option Value) → Contains Q.parts T → Contains (reads_in T) p → IsRead Q T p.0.place p.0.value
 is_read Q T p there c =
     let r = read_from T p c in
-    record { part = there; committed = (r.commit, r.committed); returned = subst (λ (q : Reader × Option Value). Contains T.accesses (record { place = q.0.place; access = access.Read q.0.value })) r.is r.returned }
+    record { part = there; committed = (r.commit, r.committed); returned = subst (λ (q : KeptRead × Option Value). Contains T.accesses (record { place = q.0.place; access = access.Read q.0.value })) r.is r.returned }
 
-pub reader_id : (T : Part) (p : Reader × Option Value) → Contains (reads_in T) p → T.id ≡ p.0.txn
-reader_id T p c = let r = read_from T p c in ap (λ (q : Reader × Option Value). q.0.txn) r.is
+pub kept_read_id : (T : Part) (p : KeptRead × Option Value) → Contains (reads_in T) p → T.id ≡ p.0.txn
+kept_read_id T p c = let r = read_from T p c in ap (λ (q : KeptRead × Option Value). q.0.txn) r.is
 
-pub reader_read : (Q : OnKey) (T : Part) (i : ℕ) (v : Option Value) → IsRead Q T i v → Contains (reads_in T) (reader_of T i v, own_value T i)
+pub reader_read : (Q : OnKey) (T : Part) (i : ℕ) (v : Option Value) → IsRead Q T i v → Contains (reads_in T) (kept_read_of T i v, own_value T i)
 reader_read Q T i v r = read_to T r.committed.0 i v r.committed.1 r.returned
 
 module _ (J : Rules) {M : OnKey} (ix : Indexes) (is : AreIndexes M ix) where
   -- what the judge answers of a read is what it finds of it
-  pub judged_kind : (p : Reader × Option Value) → IsReader M p → (k : Kind) → (J.read (sight_in M ix p) ≡ Some k) ↔ IsReadKind J M (id_of p) k
+  pub judged_kind : (p : KeptRead × Option Value) → IsKeptRead M p → (k : Kind) → (J.read (sight_in M ix p) ≡ Some k) ↔ IsReadKind J M (id_of p) k
   judged_kind p reader k = (to, from)
     where
       T : Part
       T = reader.0
 
       to : J.read (sight_in M ix p) ≡ Some k → IsReadKind J M (id_of p) k
-      to e = (reader.0, p.0.value, is_read M reader.0 p reader.1 reader.2, reader_id reader.0 p reader.2, ap J.read (sym (seen_is ix is reader.0 p reader.1 reader.2)) ∙ e)
+      to e = (reader.0, p.0.value, is_read M reader.0 p reader.1 reader.2, kept_read_id reader.0 p reader.2, ap J.read (sym (seen_is ix is reader.0 p reader.1 reader.2)) ∙ e)
 
       from : IsReadKind J M (id_of p) k → J.read (sight_in M ix p) ≡ Some k
       from found =
           let Y = found.0 in
-          let part = one_part M is.history Y reader.0 found.2.part reader.1 (found.3 ∙ sym (reader_id reader.0 p reader.2)) in
+          let part = one_part M is.history Y reader.0 found.2.part reader.1 (found.3 ∙ sym (kept_read_id reader.0 p reader.2)) in
           let r = is_read M reader.0 p reader.1 reader.2 in
           let one = one_access M is.history reader.0 (record { place = p.0.place; access = access.Read found.1 }) (record { place = p.0.place; access = access.Read p.0.value }) reader.1
           (subst (λ (X : Part). Contains X.accesses (record { place = p.0.place; access = access.Read found.1 })) part found.2.returned) r.returned refl in
@@ -70,8 +70,8 @@ module _ (J : Rules) {M : OnKey} (ix : Indexes) (is : AreIndexes M ix) where
           same_access v w e = cc
 
   -- after some reads were judged there stands what the judge answers of them, and else what stood there
-  pub judged_or_not : (xs : List (Reader × Option Value)) → ((p : Reader × Option Value) → Contains xs p → IsReader M p) → (old new : ReadId → Option Kind) → AreReadsJudged J M ix xs old new
-      → (o : ReadId) → ((p : Reader × Option Value) × Contains xs p × (id_of p ≡ o) × (new o ≡ J.read (sight_in M ix p))) ⊎ (NotAmong xs o × (new o ≡ old o))
+  pub judged_or_not : (xs : List (KeptRead × Option Value)) → ((p : KeptRead × Option Value) → Contains xs p → IsKeptRead M p) → (old new : ReadId → Option Kind) → AreReadsJudged J M ix xs old new
+      → (o : ReadId) → ((p : KeptRead × Option Value) × Contains xs p × (id_of p ≡ o) × (new o ≡ J.read (sight_in M ix p))) ⊎ (NotAmong xs o × (new o ≡ old o))
   judged_or_not xs readers old new judged o = elim (key_or_not (eq_by_cmp read_cmp) read_decides id_of (λ p. J.read (sight_in M ix p)) xs o) [
     | inl h ↦ inl (
       h.0,
@@ -84,7 +84,7 @@ module _ (J : Rules) {M : OnKey} (ix : Indexes) (is : AreIndexes M ix) where
   ]
 
   -- where what stands under others is right, all is right once these were judged
-  pub right_after : (xs : List (Reader × Option Value)) → ((p : Reader × Option Value) → Contains xs p → IsReader M p) → (old new : ReadId → Option Kind) → AreReadsJudged J M ix xs old new
+  pub right_after : (xs : List (KeptRead × Option Value)) → ((p : KeptRead × Option Value) → Contains xs p → IsKeptRead M p) → (old new : ReadId → Option Kind) → AreReadsJudged J M ix xs old new
       → (o : ReadId) (k : Kind) → (NotAmong xs o → (old o ≡ Some k) ↔ IsReadKind J M o k) → (new o ≡ Some k) ↔ IsReadKind J M o k
   right_after xs readers old new judged o k stays = elim (judged_or_not xs readers old new judged o) [
     | inl h ↦ (let j = judged_kind h.0 (readers h.0 h.1) k in (
@@ -97,8 +97,8 @@ module _ (J : Rules) {M : OnKey} (ix : Indexes) (is : AreIndexes M ix) where
 -- ---- reads that weren't touched
 
 module _ (J : Rules) {M : OnKey} (ix : Indexes) (is : AreIndexes M ix) (T U : Part) (named : U.id ≡ T.id) (absent : (X : Part) → Contains M.parts X → X.id ≢ T.id)
-    (Q R : OnKey) (before : IsSide M U Q) (after : IsSide M T R) (less : (r : Reader) → IsTouchedBy ix U r → IsTouchedBy ix T r)
-    (others : List (Reader × Option Value)) (are : AreReadsOf ix (IsTouchedBy ix T) others) where
+    (Q R : OnKey) (before : IsSide M U Q) (after : IsSide M T R) (less : (r : KeptRead) → IsTouchedBy ix U r → IsTouchedBy ix T r)
+    (others : List (KeptRead × Option Value)) (are : AreReadsOf ix (IsTouchedBy ix T) others) where
   pub differ : DifferIn T.id Q R
   differ = record {
     initial = sym before.initial ∙ after.initial;
@@ -113,13 +113,13 @@ module _ (J : Rules) {M : OnKey} (ix : Indexes) (is : AreIndexes M ix) (T U : Pa
   same_seen o none X v c read e =
       let seen = (sight_law Q X o.place v (sight_of Q X o.place v) before.history read.part).1 refl in
       let stays = reads_stay Q R T.id X o.place v (sight_of Q X o.place v) before.history after.history differ read (absent X c)
-      (λ rests. untouched (less (reader_of X o.place v) (rests_touch ix is U (λ Y d s. absent Y d (s ∙ named)) Q before (reader_of X o.place v) (subst (λ u. RestsOn Q u X.start v) (sym named) rests))))
-      (λ rests. untouched (rests_touch ix is T absent R after (reader_of X o.place v) rests)) seen in
+      (λ rests. untouched (less (kept_read_of X o.place v) (rests_touch ix is U (λ Y d s. absent Y d (s ∙ named)) Q before (kept_read_of X o.place v) (subst (λ u. RestsOn Q u X.start v) (sym named) rests))))
+      (λ rests. untouched (rests_touch ix is T absent R after (kept_read_of X o.place v) rests)) seen in
       (sight_law R X o.place v (sight_of Q X o.place v) after.history stays.0.part).0 stays.1
     where
-      untouched : IsTouchedBy ix T (reader_of X o.place v) → ⊥
-      untouched touched = none (reader_of X o.place v, own_value X o.place)
-          (are.all (reader_of X o.place v) (own_value X o.place) ((is.readers (reader_of X o.place v) (own_value X o.place)).1 (X, c, reader_read Q X o.place v read)) touched)
+      untouched : IsTouchedBy ix T (kept_read_of X o.place v) → ⊥
+      untouched touched = none (kept_read_of X o.place v, own_value X o.place)
+          (are.all (kept_read_of X o.place v) (own_value X o.place) ((is.reads (kept_read_of X o.place v) (own_value X o.place)).1 (X, c, reader_read Q X o.place v read)) touched)
           (λ i. record { txn = e i; place = o.place })
 
   -- what is found of a read that wasn't touched is as it was

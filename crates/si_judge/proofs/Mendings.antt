@@ -17,7 +17,7 @@ use Rattle.si_model.specs.Reads.{IsRead}
 use Rattle.si_model.specs.Findings.{Rules}
 use Rattle.si_model.specs.History.{IsOfHistory}
 use Rattle.si_model.proofs.Histories.{one_part}
-use Rattle.si_judge.specs.declared.reads.Reader.{Reader}
+use Rattle.si_judge.specs.declared.reads.KeptRead.{KeptRead}
 use Rattle.si_judge.specs.declared.indexes.Indexes.{Indexes}
 use Rattle.si_judge.specs.Indexes.{AreIndexes, Fits, IsTouchedBy, Joins}
 use Rattle.si_judge.specs.Mending.{Found, IsJudgedWith, IsJudgedWithout, IsRight}
@@ -69,7 +69,7 @@ resolved J {M} {R} ix new_ix T o Q old new is is_new h was doubt joins right jud
     is_T : (X : Part) → Contains Q.parts X → X.id ≡ T.id → X ≡ T
     is_T X c e = one_part Q h X T c ((was.parts T).1 (inr refl)) e
 
-    less : (r : Reader) → IsTouchedBy ix T r → IsTouchedBy ix (record T { status = status_after o }) r
+    less : (r : KeptRead) → IsTouchedBy ix T r → IsTouchedBy ix (record T { status = status_after o }) r
     less r (inl w) = inl w
     less r (inr i) = absurd (no_commit T.status i.0.0 doubt (version_from T i.0 i.2).committed)
 

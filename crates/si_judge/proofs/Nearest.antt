@@ -15,7 +15,7 @@ use Rattle.si_model.proofs.Equalities.{read_is, same_id_is}
 use Rattle.si_model.proofs.LastWrites.{last_written}
 use Rattle.si_model.proofs.NextVersions.{next_exact}
 use Rattle.si_timeline.specs.Timelines.{Dated, IsNearestBefore}
-use Rattle.si_judge.specs.declared.reads.Reader.{Reader}
+use Rattle.si_judge.specs.declared.reads.KeptRead.{KeptRead}
 use Rattle.si_judge.specs.declared.indexes.Indexes.{Indexes}
 use Rattle.si_judge.specs.Indexes.{AreIndexes}
 use Rattle.si_judge.specs.Sights.{later_with, sight_in, sight_of_nearest, source_in, source_with, version_in, write_in}
@@ -23,7 +23,7 @@ use Rattle.si_judge.proofs.Neighbours.{standing}
 use Rattle.si_judge.proofs.PartLists.{version_from}
 use Rattle.si_judge.proofs.Told.{found_once, installed_alone, once}
 
-module _ {M : OnKey} (ix : Indexes) (is : AreIndexes M ix) (p : Reader × Option Value) (d : Dated) (near : IsNearestBefore ix.timeline p.0.start (Some d))
+module _ {M : OnKey} (ix : Indexes) (is : AreIndexes M ix) (p : KeptRead × Option Value) (d : Dated) (near : IsNearestBefore ix.timeline p.0.start (Some d))
     (returned : p.0.value ≡ Some d.1.value) (others : d.1.writer ≢ p.0.txn) where
   no_write : write_in ix p.0.value ≡ None
   no_write = ap (write_in ix) returned ∙ installed_alone ix is d near.0

@@ -8,7 +8,7 @@ use Rattle.std.specs.declared.cmp.Ordering.TheVariants.{Less, Equal, Greater}
 use Rattle.si_model.specs.declared.numbers.TxnId.{TxnId}
 use Rattle.si_model.specs.declared.numbers.Value.{Value}
 use Rattle.si_judge.specs.Values.{value_cmp}
-use Rattle.si_judge.specs.Readers.{reader_cmp}
+use Rattle.si_judge.specs.KeptReads.{kept_read_cmp}
 use Rattle.si_judge.specs.Mending.{read_cmp, stamp_cmp}
 
 -- the test of a tie decides whether two keys are one
@@ -57,8 +57,8 @@ read_decides o p = (
   (λ e. tie_both (nat_cmp o.txn.0 p.txn.0) (nat_cmp o.place p.place) ((nat_decides o.txn.0 p.txn.0).1 (ap (λ x. x.txn.0) e)) ((nat_decides o.place p.place).1 (ap (λ x. x.place) e))),
 )
 
-pub reader_decides : Decides reader_cmp
-reader_decides r s = (
+pub kept_read_decides : Decides kept_read_cmp
+kept_read_decides r s = (
   (λ e.
       let a = both_tie (option_cmp value_cmp r.value s.value) _ e in
       let b = both_tie (nat_cmp r.start.0 s.start.0) _ a.1 in

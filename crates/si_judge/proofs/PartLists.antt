@@ -18,9 +18,9 @@ use Rattle.si_model.proofs.Histories.{one_part}
 use Rattle.si_model.proofs.LastWrites.{commit_is, last_written, some_last}
 use Rattle.si_timeline.specs.Timelines.{Adds, Dated}
 use Rattle.si_timeline.specs.declared.versions.Version.{Version}
-use Rattle.si_judge.specs.declared.reads.Reader.{Reader}
+use Rattle.si_judge.specs.declared.reads.KeptRead.{KeptRead}
 use Rattle.si_judge.specs.declared.reads.Write.{Write}
-use Rattle.si_judge.specs.Indexes.{reader_of, read_by, read_at, reads_by, reads_in, write_of, write_by, write_at, writes_of, is_other, other_writes_of, version_with, version_by}
+use Rattle.si_judge.specs.Indexes.{kept_read_of, read_by, read_at, reads_by, reads_in, write_of, write_by, write_at, writes_of, is_other, other_writes_of, version_with, version_by}
 use Rattle.si_judge.specs.Mending.{installer}
 use Rattle.si_judge.proofs.IndexEdits.{IsApart}
 
@@ -61,7 +61,7 @@ others_are_apart Q h A B v x y a b c d = writes_are_apart Q h A B v x y a b (oth
 
 -- ---- reads
 
-pub by_read : (T : Part) (i : ℕ) (a : Access) (p : Reader × Option Value) → read_by T i a ≡ Some p → (v : Option Value) × (a ≡ access.Read v) × ((reader_of T i v, own_value T i) ≡ p)
+pub by_read : (T : Part) (i : ℕ) (a : Access) (p : KeptRead × Option Value) → read_by T i a ≡ Some p → (v : Option Value) × (a ≡ access.Read v) × ((kept_read_of T i v, own_value T i) ≡ p)
 by_read T i (access.Read v) p e = (v, refl, same_some e)
 by_read T i (access.Write v) p e = absurd (no_pair p e)
   where
@@ -69,15 +69,15 @@ by_read T i (access.Write v) p e = absurd (no_pair p e)
     no_pair y e = cc
 
 -- T is committed, and the read is the one at a place of its
-pub record IsReadAt (T : Part) (p : Reader × Option Value) : Type 0 where
+pub record IsReadAt (T : Part) (p : KeptRead × Option Value) : Type 0 where
   pub commit : Stamp
   pub committed : T.status ≡ status.Committed commit
   pub place : ℕ
   pub value : Option Value
   pub returned : Contains T.accesses (record { place = place; access = access.Read value })
-  pub is : (reader_of T place value, own_value T place) ≡ p
+  pub is : (kept_read_of T place value, own_value T place) ≡ p
 
-pub read_from : (T : Part) (p : Reader × Option Value) → Contains (reads_in T) p → IsReadAt T p
+pub read_from : (T : Part) (p : KeptRead × Option Value) → Contains (reads_in T) p → IsReadAt T p
 unfolding reads_in
 read_from T p c = by (commit_of T.status) refl c
   where
@@ -96,10 +96,10 @@ read_from T p c = by (commit_of T.status) refl c
         }
 
 pub read_to : (T : Part) (c : Stamp) (i : ℕ) (v : Option Value) → T.status ≡ status.Committed c → Contains T.accesses (record { place = i; access = access.Read v })
-    → Contains (reads_in T) (reader_of T i v, own_value T i)
+    → Contains (reads_in T) (kept_read_of T i v, own_value T i)
 unfolding reads_in
-read_to T c i v e at = subst (λ o. Contains (reads_by T o) (reader_of T i v, own_value T i)) (sym (ap commit_of e))
-    (Contains-filter_map (read_at T) T.accesses (record { place = i; access = access.Read v }) (reader_of T i v, own_value T i) at refl)
+read_to T c i v e at = subst (λ o. Contains (reads_by T o) (kept_read_of T i v, own_value T i)) (sym (ap commit_of e))
+    (Contains-filter_map (read_at T) T.accesses (record { place = i; access = access.Read v }) (kept_read_of T i v, own_value T i) at refl)
 
 pub reads_are_apart : (Q : OnKey) → IsOfHistory Q → IsApart reads_in Q.parts
 reads_are_apart Q h A B r x y a b c d =

@@ -23,10 +23,10 @@ use Rattle.si_model.proofs.LastWrites.{last_is_final, last_written, later_are, o
 use Rattle.si_model.proofs.Sources.{writer_found}
 use Rattle.si_timeline.specs.Timelines.{Dated}
 use Rattle.si_judge.specs.declared.reads.Fate.TheVariants as fate
-use Rattle.si_judge.specs.declared.reads.Reader.{Reader}
+use Rattle.si_judge.specs.declared.reads.KeptRead.{KeptRead}
 use Rattle.si_judge.specs.declared.reads.Write.{Write}
 use Rattle.si_judge.specs.declared.indexes.Indexes.{Indexes}
-use Rattle.si_judge.specs.Indexes.{AreIndexes, fate_of, reader_of, reads_in, write_of}
+use Rattle.si_judge.specs.Indexes.{AreIndexes, fate_of, kept_read_of, reads_in, write_of}
 use Rattle.si_judge.specs.Values.{at_value}
 use Rattle.si_judge.specs.Sights.{is_version_after, is_write_after, later_with, sight_in, source_in, source_told, source_with, version_in, write_in}
 use Rattle.si_judge.proofs.PartLists.{IsVersionOf, other_from, read_from, version_from, write_from}
@@ -112,10 +112,10 @@ module _ {M : OnKey} (ix : Indexes) (is : AreIndexes M ix) where
         differ : access.Read read ≡ access.Write w → ⊥
         differ e = cc
 
-    later_found : (w : Value) (x : Write) → at_value ix.writes w ≡ Some x → is_write_after (reader_of T i (Some w)) x ≡ writes_later T i (Some w)
-    later_found w x e = same_tests (is_write_after (reader_of T i (Some w)) x) (writes_later T i (Some w)) to from
+    later_found : (w : Value) (x : Write) → at_value ix.writes w ≡ Some x → is_write_after (kept_read_of T i (Some w)) x ≡ writes_later T i (Some w)
+    later_found w x e = same_tests (is_write_after (kept_read_of T i (Some w)) x) (writes_later T i (Some w)) to from
       where
-        to : is_write_after (reader_of T i (Some w)) x ≡ true → writes_later T i (Some w) ≡ true
+        to : is_write_after (kept_read_of T i (Some w)) x ≡ true → writes_later T i (Some w) ≡ true
         to t =
             let u = found w x e in
             let both = and_parts (same_id x.txn T.id) (nat_lt i x.place) t in
@@ -132,7 +132,7 @@ module _ {M : OnKey} (ix : Indexes) (is : AreIndexes M ix) where
               ),
             )
 
-        from : writes_later T i (Some w) ≡ true → is_write_after (reader_of T i (Some w)) x ≡ true
+        from : writes_later T i (Some w) ≡ true → is_write_after (kept_read_of T i (Some w)) x ≡ true
         from t =
             let u = found w x e in
             let l = (later_are T i (Some w)).0 t in
@@ -159,10 +159,10 @@ module _ {M : OnKey} (ix : Indexes) (is : AreIndexes M ix) where
         beyond : i ≤ final.place → (final.place ≢ i) → i < final.place
         beyond ge other = elim (cases_lt i final.place) [ inl less ↦ less | inr le ↦ absurd (other (omega (arith, ge, le))) ]
 
-    later_version : (w : Value) (d : Dated) → version_in ix (Some w) ≡ Some d → is_version_after (reader_of T i (Some w), own_value T i) (Some d) ≡ writes_later T i (Some w)
-    later_version w d e = same_tests (is_version_after (reader_of T i (Some w), own_value T i) (Some d)) (writes_later T i (Some w)) to from
+    later_version : (w : Value) (d : Dated) → version_in ix (Some w) ≡ Some d → is_version_after (kept_read_of T i (Some w), own_value T i) (Some d) ≡ writes_later T i (Some w)
+    later_version w d e = same_tests (is_version_after (kept_read_of T i (Some w), own_value T i) (Some d)) (writes_later T i (Some w)) to from
       where
-        to : is_version_after (reader_of T i (Some w), own_value T i) (Some d) ≡ true → writes_later T i (Some w) ≡ true
+        to : is_version_after (kept_read_of T i (Some w), own_value T i) (Some d) ≡ true → writes_later T i (Some w) ≡ true
         to t =
             let u = versioned w d e in
             let both = and_parts (same_id d.1.writer T.id) (not (option_eq same_value (own_value T i) (Some w))) t in
@@ -175,7 +175,7 @@ module _ {M : OnKey} (ix : Indexes) (is : AreIndexes M ix) where
             not_both true f g = true≢false (sym f)
             not_both false f g = true≢false (sym g)
 
-        from : writes_later T i (Some w) ≡ true → is_version_after (reader_of T i (Some w), own_value T i) (Some d) ≡ true
+        from : writes_later T i (Some w) ≡ true → is_version_after (kept_read_of T i (Some w), own_value T i) (Some d) ≡ true
         from t =
             let u = versioned w d e in
             let l = (later_are T i (Some w)).0 t in
@@ -194,19 +194,19 @@ module _ {M : OnKey} (ix : Indexes) (is : AreIndexes M ix) where
                 let place = one.1 in
                 absurd (omega (arith, before, place, lt))
 
-    later_of : (w : Value) (o : Option Write) (p : Option Dated) → at_value ix.writes w ≡ o → version_in ix (Some w) ≡ p → later_with (reader_of T i (Some w), own_value T i) o p ≡ writes_later T i (Some w)
+    later_of : (w : Value) (o : Option Write) (p : Option Dated) → at_value ix.writes w ≡ o → version_in ix (Some w) ≡ p → later_with (kept_read_of T i (Some w), own_value T i) o p ≡ writes_later T i (Some w)
     later_of w (Some x) p e f = later_found w x e
     later_of w None (Some d) e f = later_version w d f
     later_of w None None e f = later_none w e f
 
-    later_is : (v : Option Value) → later_with (reader_of T i v, own_value T i) (write_in ix v) (version_in ix v) ≡ writes_later T i v
+    later_is : (v : Option Value) → later_with (kept_read_of T i v, own_value T i) (write_in ix v) (version_in ix v) ≡ writes_later T i v
     unfolding writes_later
     later_is None = refl
     later_is (Some w) = later_of w (at_value ix.writes w) (version_in ix (Some w)) refl refl
 
   -- ---- all of it
 
-  seen_at : (T : Part) → Contains M.parts T → (i : ℕ) (v : Option Value) → Contains T.accesses (record { place = i; access = access.Read v }) → sight_in M ix (reader_of T i v, own_value T i) ≡ sight_of M T i v
+  seen_at : (T : Part) → Contains M.parts T → (i : ℕ) (v : Option Value) → Contains T.accesses (record { place = i; access = access.Read v }) → sight_in M ix (kept_read_of T i v, own_value T i) ≡ sight_of M T i v
   unfolding sight_of missed_at
   seen_at T there i v is_read = λ k. record {
     txn = T.id;
@@ -219,7 +219,7 @@ module _ {M : OnKey} (ix : Indexes) (is : AreIndexes M ix) where
     missed = missed_of M.parts T.start (version_of (source_is v k));
   }
 
-  pub seen_is : (T : Part) (p : Reader × Option Value) → Contains M.parts T → Contains (reads_in T) p
+  pub seen_is : (T : Part) (p : KeptRead × Option Value) → Contains M.parts T → Contains (reads_in T) p
       → sight_in M ix p ≡ sight_of M T p.0.place p.0.value
   seen_is T p there c =
       let r = read_from T p c in

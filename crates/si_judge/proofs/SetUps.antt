@@ -14,25 +14,25 @@ use Rattle.si_model.specs.Findings.{Rules}
 use Rattle.si_model.specs.History.{IsOfHistory}
 use Rattle.si_model.specs.KeyEdits.{set_up_on}
 use Rattle.si_model.proofs.Sources.{sight_law}
-use Rattle.si_judge.specs.declared.reads.Reader.{Reader}
+use Rattle.si_judge.specs.declared.reads.KeptRead.{KeptRead}
 use Rattle.si_judge.specs.declared.judgements.ReadId.{ReadId}
 use Rattle.si_judge.specs.declared.indexes.Indexes.{Indexes}
-use Rattle.si_judge.specs.Indexes.{AreIndexes, AreReadsOf, reader_of, readers_in}
-use Rattle.si_judge.specs.Readers.{IsReaderOf}
+use Rattle.si_judge.specs.Indexes.{AreIndexes, AreReadsOf, kept_read_of, kept_reads_in}
+use Rattle.si_judge.specs.KeptReads.{IsKeptReadOf}
 use Rattle.si_judge.specs.Mending.{AreReadsJudged, Found, IsPairKind, IsRight, risen}
 use Rattle.si_judge.specs.Touched.{IsBoundedBy, IsTouchedBySetUp}
-use Rattle.si_judge.proofs.Coverage.{bounded, readers_once}
-use Rattle.si_judge.proofs.Gathered.{both_are, readers_are}
+use Rattle.si_judge.proofs.Coverage.{bounded, kept_reads_once}
+use Rattle.si_judge.proofs.Gathered.{both_are, kept_reads_are}
 use Rattle.si_judge.proofs.IndexEdits.{no_value}
-use Rattle.si_judge.proofs.Mended.{IsReader, NotAmong, is_read, reader_id, reader_read, right_after}
+use Rattle.si_judge.proofs.Mended.{IsKeptRead, NotAmong, is_read, kept_read_id, reader_read, right_after}
 use Rattle.si_judge.proofs.Staying.{others_stay}
 
 -- the indexes once the key is set up
 abbrev pub set_up_in : Value → Indexes → Indexes
-set_up_in w ix = record { initial = Some w; timeline = ix.timeline; writes = ix.writes; readers = ix.readers }
+set_up_in w ix = record { initial = Some w; timeline = ix.timeline; writes = ix.writes; reads = ix.reads }
 
 pub indexes_set_up : (w : Value) {M : OnKey} (ix : Indexes) → AreIndexes M ix → IsOfHistory (set_up_on w M) → AreIndexes (set_up_on w M) (set_up_in w ix)
-indexes_set_up w ix is h = record { history = h; initial = refl; timeline = is.timeline; writes = is.writes; readers = is.readers; ordered = is.ordered }
+indexes_set_up w ix is h = record { history = h; initial = refl; timeline = is.timeline; writes = is.writes; reads = is.reads; ordered = is.ordered }
 
 next_again : (p q : Option Value) (parts : List Part) (a : VersionId) (n : Installer) → IsNext (record { initial = p; parts = parts }) a n → IsNext (record { initial = q; parts = parts }) a n
 next_again p q parts a n next = record { installs = next.installs; after = next.after; first = next.first }
@@ -41,30 +41,30 @@ pair_again : (J : Rules) (p q : Option Value) (parts : List Part) (c : Stamp) (k
 pair_again J p q parts c k f = (f.0, f.1, f.2, f.3, next_again p q parts _ f.1 f.4, f.5, f.6)
 
 -- a read that returned null or the value
-abbrev IsOfEither : Value → Reader → Type 0
-IsOfEither w r = IsReaderOf None None r ⊎ IsReaderOf (Some w) None r
+abbrev IsOfEither : Value → KeptRead → Type 0
+IsOfEither w r = IsKeptReadOf None None r ⊎ IsKeptReadOf (Some w) None r
 
 module _ (J : Rules) {M : OnKey} (ix : Indexes) (is : AreIndexes M ix) (w : Value) (unset : M.initial ≡ None) (h : IsOfHistory (set_up_on w M)) (old new : Found) (right : IsRight J M old)
-    (judged : AreReadsJudged J (set_up_on w M) (set_up_in w ix) (readers_in (set_up_in w ix) None None ++ readers_in (set_up_in w ix) (Some w) None) old.reads new.reads)
+    (judged : AreReadsJudged J (set_up_on w M) (set_up_in w ix) (kept_reads_in (set_up_in w ix) None None ++ kept_reads_in (set_up_in w ix) (Some w) None) old.reads new.reads)
     (same : (c : Stamp) → new.overlaps c ≡ old.overlaps c)
-    (counted : new.answers ≡ risen old.answers (length (readers_in (set_up_in w ix) None None ++ readers_in (set_up_in w ix) (Some w) None))) where
+    (counted : new.answers ≡ risen old.answers (length (kept_reads_in (set_up_in w ix) None None ++ kept_reads_in (set_up_in w ix) (Some w) None))) where
   set : Indexes
   set = set_up_in w ix
 
   are_set : AreIndexes (set_up_on w M) (set_up_in w ix)
   are_set = indexes_set_up w ix is h
 
-  reads : List (Reader × Option Value)
-  reads = readers_in (set_up_in w ix) None None ++ readers_in (set_up_in w ix) (Some w) None
+  reads : List (KeptRead × Option Value)
+  reads = kept_reads_in (set_up_in w ix) None None ++ kept_reads_in (set_up_in w ix) (Some w) None
 
-  are_reads : AreReadsOf (set_up_in w ix) (IsOfEither w) (readers_in (set_up_in w ix) None None ++ readers_in (set_up_in w ix) (Some w) None)
-  are_reads = both_are (set_up_in w ix) are_set (readers_in (set_up_in w ix) None None) (readers_in (set_up_in w ix) (Some w) None)
-      (readers_are (set_up_in w ix) are_set None None) (readers_are (set_up_in w ix) are_set (Some w) None) (λ r a b. no_value w (sym a.0 ∙ b.0))
+  are_reads : AreReadsOf (set_up_in w ix) (IsOfEither w) (kept_reads_in (set_up_in w ix) None None ++ kept_reads_in (set_up_in w ix) (Some w) None)
+  are_reads = both_are (set_up_in w ix) are_set (kept_reads_in (set_up_in w ix) None None) (kept_reads_in (set_up_in w ix) (Some w) None)
+      (kept_reads_are (set_up_in w ix) are_set None None) (kept_reads_are (set_up_in w ix) are_set (Some w) None) (λ r a b. no_value w (sym a.0 ∙ b.0))
 
-  reader : (p : Reader × Option Value) → Contains (readers_in (set_up_in w ix) None None ++ readers_in (set_up_in w ix) (Some w) None) p → IsReader (set_up_on w M) p
-  reader p c = (are_set.readers p.0 p.1).0 (are_reads.only p c).0
+  reader : (p : KeptRead × Option Value) → Contains (kept_reads_in (set_up_in w ix) None None ++ kept_reads_in (set_up_in w ix) (Some w) None) p → IsKeptRead (set_up_on w M) p
+  reader p c = (are_set.reads p.0 p.1).0 (are_reads.only p c).0
 
-  same_seen : (o : ReadId) → NotAmong (readers_in (set_up_in w ix) None None ++ readers_in (set_up_in w ix) (Some w) None) o → (X : Part) (v : Option Value) → IsRead M X o.place v → X.id ≡ o.txn
+  same_seen : (o : ReadId) → NotAmong (kept_reads_in (set_up_in w ix) None None ++ kept_reads_in (set_up_in w ix) (Some w) None) o → (X : Part) (v : Option Value) → IsRead M X o.place v → X.id ≡ o.txn
       → sight_of M X o.place v ≡ sight_of (set_up_on w M) X o.place v
   same_seen o none X v read e =
       let seen = (sight_law M X o.place v (sight_of M X o.place v) is.history read.part).1 refl in
@@ -72,14 +72,14 @@ module _ (J : Rules) {M : OnKey} (ix : Indexes) (is : AreIndexes M ix) (w : Valu
       (λ n. untouched (inl (n, tt))) (λ n. untouched (inr (n, tt))) seen in
       (sight_law (set_up_on w M) X o.place v (sight_of M X o.place v) h stays.0.part).0 stays.1
     where
-      untouched : IsOfEither w (reader_of X o.place v) → ⊥
-      untouched t = none (reader_of X o.place v, own_value X o.place)
-          (are_reads.all (reader_of X o.place v) (own_value X o.place) ((are_set.readers (reader_of X o.place v) (own_value X o.place)).1 (X, read.part, reader_read M X o.place v read)) t)
+      untouched : IsOfEither w (kept_read_of X o.place v) → ⊥
+      untouched t = none (kept_read_of X o.place v, own_value X o.place)
+          (are_reads.all (kept_read_of X o.place v) (own_value X o.place) ((are_set.reads (kept_read_of X o.place v) (own_value X o.place)).1 (X, read.part, reader_read M X o.place v read)) t)
           (λ i. record { txn = e i; place = o.place })
 
   pub right_set_up : IsRight J (set_up_on w M) new
   right_set_up = record {
-    reads = λ o k. right_after J (set_up_in w ix) are_set (readers_in (set_up_in w ix) None None ++ readers_in (set_up_in w ix) (Some w) None) reader old.reads new.reads judged o k (λ none. (
+    reads = λ o k. right_after J (set_up_in w ix) are_set (kept_reads_in (set_up_in w ix) None None ++ kept_reads_in (set_up_in w ix) (Some w) None) reader old.reads new.reads judged o k (λ none. (
       (λ e. let f = (right.reads o k).0 e in
           (f.0, f.1, record { part = f.2.part; committed = f.2.committed; returned = f.2.returned }, f.3, ap J.read (sym (same_seen o none f.0 f.1 f.2 f.3)) ∙ f.4)),
       (λ f. let read : IsRead M f.0 o.place f.1 = record { part = f.2.part; committed = f.2.committed; returned = f.2.returned } in
@@ -93,16 +93,16 @@ module _ (J : Rules) {M : OnKey} (ix : Indexes) (is : AreIndexes M ix) (w : Valu
 
   pub bound_set_up : (n : ℕ) × IsBoundedBy (IsTouchedBySetUp (set_up_on w M) w) n × (new.answers ≡ risen old.answers n)
   bound_set_up = (
-    length (readers_in (set_up_in w ix) None None ++ readers_in (set_up_in w ix) (Some w) None),
-    bounded (IsTouchedBySetUp (set_up_on w M) w) (readers_in (set_up_in w ix) None None ++ readers_in (set_up_in w ix) (Some w) None)
-        (readers_once (set_up_in w ix) are_set (IsOfEither w) (readers_in (set_up_in w ix) None None ++ readers_in (set_up_in w ix) (Some w) None) are_reads)
+    length (kept_reads_in (set_up_in w ix) None None ++ kept_reads_in (set_up_in w ix) (Some w) None),
+    bounded (IsTouchedBySetUp (set_up_on w M) w) (kept_reads_in (set_up_in w ix) None None ++ kept_reads_in (set_up_in w ix) (Some w) None)
+        (kept_reads_once (set_up_in w ix) are_set (IsOfEither w) (kept_reads_in (set_up_in w ix) None None ++ kept_reads_in (set_up_in w ix) (Some w) None) are_reads)
         (λ p c. (let x = reader p c in record {
           part = x.0;
           value = p.0.value;
           read = is_read (set_up_on w M) x.0 p x.1 x.2;
-          of = reader_id x.0 p x.2;
+          of = kept_read_id x.0 p x.2;
           touched = elim (are_reads.only p c).1 [ inl a ↦ inl a.0 | inr b ↦ inr b.0 ];
         }))
-        (length (readers_in (set_up_in w ix) None None ++ readers_in (set_up_in w ix) (Some w) None)) (omega arith),
+        (length (kept_reads_in (set_up_in w ix) None None ++ kept_reads_in (set_up_in w ix) (Some w) None)) (omega arith),
     counted,
   )

@@ -19,7 +19,7 @@ use Rattle.si_model.specs.History.{IsOfHistory}
 use Rattle.si_model.proofs.Histories.{same_commit}
 use Rattle.si_model.proofs.LastWrites.{last_is_final, last_written}
 use Rattle.si_timeline.specs.Timelines.{Dated, IsNearestBefore}
-use Rattle.si_judge.specs.declared.reads.Reader.{Reader}
+use Rattle.si_judge.specs.declared.reads.KeptRead.{KeptRead}
 use Rattle.si_judge.specs.declared.indexes.Indexes.{Indexes}
 use Rattle.si_judge.specs.Indexes.{AreIndexes, IsTouchedBy, IsValueBefore, returned_by, version_by}
 use Rattle.si_judge.specs.Mending.{installer}
@@ -95,7 +95,7 @@ module _ {M : OnKey} (ix : Indexes) (is : AreIndexes M ix) (T : Part) (absent : 
               i.2,
             )
 
-  pub rests_touch : (r : Reader) → RestsOn S T.id r.start r.value → IsTouchedBy ix T r
+  pub rests_touch : (r : KeptRead) → RestsOn S T.id r.start r.value → IsTouchedBy ix T r
   rests_touch r (inl writes) =
       let part = named writes.1 writes.3 writes.4 in
       inl (writes.0, subst (λ (X : Part). Writes X writes.0) part writes.5, writes.2)
@@ -157,6 +157,6 @@ module _ {M : OnKey} (ix : Indexes) (is : AreIndexes M ix) (T : Part) (absent : 
               late,
             )
 
-    pub touches : (r : Reader) → IsTouchedBy ix T r → RestsOn S T.id r.start r.value
+    pub touches : (r : KeptRead) → IsTouchedBy ix T r → RestsOn S T.id r.start r.value
     touches r (inl w) = inl (w.0, T, w.2, there, refl, w.1)
     touches r (inr i) = inr (subst (InstallsMissed S T.id r.start) (sym i.4.0) (installs_missed i.0 i.1 r.start i.2 i.3 i.4.1))

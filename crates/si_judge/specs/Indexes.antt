@@ -19,40 +19,40 @@ use Rattle.si_model.specs.History.{IsOfHistory}
 use Rattle.si_timeline.specs.Timelines.{Adds, Dated, Has, IsNearestBefore, Lacks}
 use Rattle.si_timeline.specs.declared.versions.Version.{Version}
 use Rattle.si_judge.specs.Commits.{HaveValuesOnce}
-use Rattle.si_judge.specs.Readers.{AreInOrder, IsReaderOf, own_at, readers_among}
+use Rattle.si_judge.specs.KeptReads.{AreInOrder, IsKeptReadOf, own_at, kept_reads_among}
 use Rattle.si_judge.specs.Values.{at_value}
 use Rattle.si_judge.specs.declared.indexes.Indexes.{Indexes}
 use Rattle.si_judge.specs.declared.reads.Fate.{Fate}
 use Rattle.si_judge.specs.declared.reads.Fate.TheVariants as fate
-use Rattle.si_judge.specs.declared.reads.Reader.{Reader}
+use Rattle.si_judge.specs.declared.reads.KeptRead.{KeptRead}
 use Rattle.si_judge.specs.declared.reads.Write.{Write}
 
 -- ---- the reads and writes of a transaction
 
 -- a read of T that returned v at the place i
-abbrev pub reader_of : Part → ℕ → Option Value → Reader
-reader_of T i v = record { value = v; start = T.start; txn = T.id; place = i }
+abbrev pub kept_read_of : Part → ℕ → Option Value → KeptRead
+kept_read_of T i v = record { value = v; start = T.start; txn = T.id; place = i }
 
 -- a read of T with T's own value there, if the access is a read
-abbrev pub read_by : Part → ℕ → Access → Option (Reader × Option Value)
-read_by T i (access.Read v) = Some (reader_of T i v, own_value T i)
+abbrev pub read_by : Part → ℕ → Access → Option (KeptRead × Option Value)
+read_by T i (access.Read v) = Some (kept_read_of T i v, own_value T i)
 read_by T i (access.Write v) = None
 
 -- the same of an access with its place
-abbrev pub read_at : Part → Placed → Option (Reader × Option Value)
+abbrev pub read_at : Part → Placed → Option (KeptRead × Option Value)
 read_at T a = read_by T a.place a.access
 
 -- the reads of T
-abbrev pub reads_of : Part → List (Reader × Option Value)
+abbrev pub reads_of : Part → List (KeptRead × Option Value)
 reads_of T = filter_map (read_at T) T.accesses
 
 -- the reads of a transaction with that commit stamp, if it has one
-abbrev pub reads_by : Part → Option Stamp → List (Reader × Option Value)
+abbrev pub reads_by : Part → Option Stamp → List (KeptRead × Option Value)
 reads_by T None = []
 reads_by T (Some c) = reads_of T
 
 -- the reads of T if it is committed, and else none
-unfoldable pub reads_in : Part → List (Reader × Option Value)
+unfoldable pub reads_in : Part → List (KeptRead × Option Value)
 reads_in T = reads_by T (commit_of T.status)
 
 -- what became of a write of v by a transaction with that status, which writes l last
@@ -115,8 +115,8 @@ pub record AreIndexes (M : OnKey) (ix : Indexes) : Type 0 where
   pub initial : ix.initial ≡ M.initial
   pub timeline : (d : Dated) → Contains ix.timeline d ↔ ((T : Part) × Contains M.parts T × (version_by T ≡ Some d))
   pub writes : IsIndexOf other_writes_of M.parts (at_value ix.writes)
-  pub readers : IsIndexOf reads_in M.parts (own_at ix.readers)
-  pub ordered : AreInOrder ix.readers
+  pub reads : IsIndexOf reads_in M.parts (own_at ix.reads)
+  pub ordered : AreInOrder ix.reads
 
 -- R has T besides what M has, which has no other transaction of that id
 pub record Joins (T : Part) (M R : OnKey) : Type 0 where
@@ -165,27 +165,27 @@ abbrev pub IsValueBefore : Indexes → Stamp → Option Value → Type 0
 IsValueBefore ix c v = (o : Option Dated) × IsNearestBefore ix.timeline c o × (v ≡ returned_by ix.initial o)
 
 -- the reads of the value by readers that started after the stamp
-abbrev pub readers_in : Indexes → Option Value → Option Stamp → List (Reader × Option Value)
-readers_in ix v after = readers_among ix.readers v after
+abbrev pub kept_reads_in : Indexes → Option Value → Option Stamp → List (KeptRead × Option Value)
+kept_reads_in ix v after = kept_reads_among ix.reads v after
 
 -- the reads of the version before this one, by readers that started after its commit, if there is one
-abbrev pub AreReadsBefore : Indexes → Option Dated → List (Reader × Option Value) → Type 0
+abbrev pub AreReadsBefore : Indexes → Option Dated → List (KeptRead × Option Value) → Type 0
 AreReadsBefore ix None reads = reads ≡ []
-AreReadsBefore ix (Some d) reads = (v : Option Value) × IsValueBefore ix d.0 v × (reads ≡ readers_in ix v (Some d.0))
+AreReadsBefore ix (Some d) reads = (v : Option Value) × IsValueBefore ix d.0 v × (reads ≡ kept_reads_in ix v (Some d.0))
 
 -- the reads of what T writes, and those of the version before its own
-abbrev pub AreTouchedReads : Indexes → Part → List (Value × Write) → List (Reader × Option Value) → Type 0
-AreTouchedReads ix T writes reads = (more : List (Reader × Option Value)) × AreReadsBefore ix (version_by T) more
-    × (reads ≡ flat_map (λ w. readers_in ix (Some w.0) None) writes ++ more)
+abbrev pub AreTouchedReads : Indexes → Part → List (Value × Write) → List (KeptRead × Option Value) → Type 0
+AreTouchedReads ix T writes reads = (more : List (KeptRead × Option Value)) × AreReadsBefore ix (version_by T) more
+    × (reads ≡ flat_map (λ w. kept_reads_in ix (Some w.0) None) writes ++ more)
 
 -- a read of another transaction that T touches: of a value that T writes, or of the version before T's by a reader that started
 -- after T's commit
-abbrev pub IsTouchedBy : Indexes → Part → Reader → Type 0
+abbrev pub IsTouchedBy : Indexes → Part → KeptRead → Type 0
 IsTouchedBy ix T r = ((w : Value) × Writes T w × (r.value ≡ Some w))
-    ⊎ ((d : Dated) × (v : Option Value) × (version_by T ≡ Some d) × IsValueBefore ix d.0 v × IsReaderOf v (Some d.0) r)
+    ⊎ ((d : Dated) × (v : Option Value) × (version_by T ≡ Some d) × IsValueBefore ix d.0 v × IsKeptReadOf v (Some d.0) r)
 
 -- the reads that P holds of, each once
-pub record AreReadsOf (ix : Indexes) (P : Reader → Type 0) (reads : List (Reader × Option Value)) : Type 0 where
-  pub all : (r : Reader) (own : Option Value) → own_at ix.readers r ≡ Some own → P r → Contains reads (r, own)
-  pub only : (p : Reader × Option Value) → Contains reads p → (own_at ix.readers p.0 ≡ Some p.1) × P p.0
+pub record AreReadsOf (ix : Indexes) (P : KeptRead → Type 0) (reads : List (KeptRead × Option Value)) : Type 0 where
+  pub all : (r : KeptRead) (own : Option Value) → own_at ix.reads r ≡ Some own → P r → Contains reads (r, own)
+  pub only : (p : KeptRead × Option Value) → Contains reads p → (own_at ix.reads p.0 ≡ Some p.1) × P p.0
   pub once : AllPairs (λ p q. p.0 ≢ q.0) reads

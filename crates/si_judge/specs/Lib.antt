@@ -6,7 +6,7 @@ pub mod KeyParts
 pub mod Kept
 pub mod Maps
 pub mod Mending
-pub mod Readers
+pub mod KeptReads
 pub mod Sights
 pub mod States
 pub mod Touched

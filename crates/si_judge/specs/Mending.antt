@@ -17,7 +17,7 @@ use Rattle.si_model.specs.Versions.{IsInstaller, IsNext, next_after}
 use Rattle.si_model.specs.Reads.{IsRead, sight_of}
 use Rattle.si_model.specs.Findings.{Rules, overlap_with}
 use Rattle.si_timeline.specs.Timelines.{Dated, IsNearestBefore}
-use Rattle.si_judge.specs.declared.reads.Reader.{Reader}
+use Rattle.si_judge.specs.declared.reads.KeptRead.{KeptRead}
 use Rattle.si_judge.specs.declared.indexes.Indexes.{Indexes}
 use Rattle.si_judge.specs.declared.judgements.ReadId.{ReadId}
 use Rattle.si_judge.specs.declared.judgements.Judgements.{Judgements}
@@ -39,7 +39,7 @@ abbrev pub stamp_cmp : Stamp → Stamp → Ordering
 stamp_cmp c d = nat_cmp c.0 d.0
 
 -- the read by its transaction and its place there
-abbrev pub id_of : Reader × Option Value → ReadId
+abbrev pub id_of : KeptRead × Option Value → ReadId
 id_of p = record { txn = p.0.txn; place = p.0.place }
 
 -- the installer of a version
@@ -66,11 +66,11 @@ abbrev pub ArePairKinds : Rules → OnKey → (Stamp → Option Kind) → Type 0
 ArePairKinds J Q at = (c : Stamp) (k : Kind) → (at c ≡ Some k) ↔ IsPairKind J Q c k
 
 -- these reads were judged, in turn
-abbrev pub AreReadsJudged : Rules → OnKey → Indexes → List (Reader × Option Value) → (ReadId → Option Kind) → (ReadId → Option Kind) → Type 0
+abbrev pub AreReadsJudged : Rules → OnKey → Indexes → List (KeptRead × Option Value) → (ReadId → Option Kind) → (ReadId → Option Kind) → Type 0
 AreReadsJudged J M ix reads old new = (o : ReadId) → new o ≡ fold (λ f p. update (eq_by_cmp read_cmp) f (id_of p) (J.read (sight_in M ix p))) old reads o
 
 -- these reads were forgotten, in turn
-abbrev pub AreForgotten : List (Reader × Option Value) → (ReadId → Option Kind) → (ReadId → Option Kind) → Type 0
+abbrev pub AreForgotten : List (KeptRead × Option Value) → (ReadId → Option Kind) → (ReadId → Option Kind) → Type 0
 AreForgotten reads old new = (o : ReadId) → new o ≡ fold (λ f p. update (eq_by_cmp read_cmp) f (id_of p) None) old reads o
 
 -- ---- what each step does
@@ -121,7 +121,7 @@ pub record IsRight (J : Rules) (Q : OnKey) (m : Found) : Type 0 where
 
 -- T came to what the indexes held before, and R is on the key: the reads that it touches were judged, its own, and its version
 pub record IsJudgedWith (J : Rules) (T : Part) (R : OnKey) (before after : Indexes) (old new : Found) : Type 0 where
-  pub others : List (Reader × Option Value)
+  pub others : List (KeptRead × Option Value)
   pub touched : AreTouchedReads before T (writes_of T) others
   pub middle : ReadId → Option Kind
   pub others_judged : AreReadsJudged J R after others old.reads middle
@@ -132,7 +132,7 @@ pub record IsJudgedWith (J : Rules) (T : Part) (R : OnKey) (before after : Index
 -- T went from a key on which R is left, and the indexes are without it: the reads that it touched were judged, its own were
 -- forgotten, and its version
 pub record IsJudgedWithout (J : Rules) (T : Part) (R : OnKey) (after : Indexes) (old new : Found) : Type 0 where
-  pub others : List (Reader × Option Value)
+  pub others : List (KeptRead × Option Value)
   pub touched : AreTouchedReads after T (writes_of T) others
   pub middle : ReadId → Option Kind
   pub own_forgotten : AreForgotten (reads_in T) old.reads middle

@@ -16,7 +16,7 @@ use Rattle.si_model.specs.Edits.{same_id}
 use Rattle.si_model.specs.Reads.{missed_of, version_of}
 use Rattle.si_judge.specs.declared.reads.Fate.{Fate}
 use Rattle.si_judge.specs.declared.reads.Fate.TheVariants as fate
-use Rattle.si_judge.specs.declared.reads.Reader.{Reader}
+use Rattle.si_judge.specs.declared.reads.KeptRead.{KeptRead}
 use Rattle.si_judge.specs.declared.reads.Write.{Write}
 use Rattle.si_judge.specs.declared.indexes.Indexes.{Indexes}
 use Rattle.si_judge.specs.Values.{at_value}
@@ -55,21 +55,21 @@ abbrev pub source_in : Indexes → Option Value → Source
 source_in ix v = if option_eq same_value v ix.initial then source.Initial else source_with (write_in ix v) (version_in ix v)
 
 -- whether the write is one of the reader, after the read
-abbrev pub is_write_after : Reader → Write → Bool
+abbrev pub is_write_after : KeptRead → Write → Bool
 is_write_after r w = same_id w.txn r.txn && nat_lt r.place w.place
 
 -- whether the version, if there is one, is the reader's, which wrote it after the read: before the read it would be the own value there
-abbrev pub is_version_after : Reader × Option Value → Option Dated → Bool
+abbrev pub is_version_after : KeptRead × Option Value → Option Dated → Bool
 is_version_after p None = false
 is_version_after p (Some d) = same_id d.1.writer p.0.txn && not (option_eq same_value p.1 p.0.value)
 
 -- whether the reader writes what it read after the read, by the write of it that installed no version, or else by the version of it
-abbrev pub later_with : Reader × Option Value → Option Write → Option Dated → Bool
+abbrev pub later_with : KeptRead × Option Value → Option Write → Option Dated → Bool
 later_with p (Some w) d = is_write_after p.0 w
 later_with p None d = is_version_after p d
 
 -- all that is seen at a read of a key on which M is
-abbrev pub sight_in : OnKey → Indexes → Reader × Option Value → Sight
+abbrev pub sight_in : OnKey → Indexes → KeptRead × Option Value → Sight
 sight_in M ix p = record {
   txn = p.0.txn;
   op = p.0.place;
@@ -83,7 +83,7 @@ sight_in M ix p = record {
 
 -- the same of a read that returned the last version before its reader's start, which another transaction installed at the commit: the
 -- reader wrote no such value and missed no version
-abbrev pub sight_of_nearest : Reader × Option Value → TxnId → Stamp → Sight
+abbrev pub sight_of_nearest : KeptRead × Option Value → TxnId → Stamp → Sight
 sight_of_nearest p writer commit = record {
   txn = p.0.txn;
   op = p.0.place;

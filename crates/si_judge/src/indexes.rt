@@ -12,13 +12,13 @@ ghost use Rattle.si_model.specs.Versions.{next_after};
 ghost use Rattle.si_model.specs.Reads.{missed_of};
 ghost use Rattle.si_model.specs.Reads.{version_of};
 ghost use Rattle.si_timeline.specs.Timelines.{IsNearestBefore};
-ghost use Rattle.si_judge.specs.Indexes.{AddsVersion, AreIndexes, Fits, HasVersion, IsValueBefore, Joins, KeepsValuesOnce, LacksVersion, RemovesVersion, readers_in, reads_in, version_by, writes_of};
+ghost use Rattle.si_judge.specs.Indexes.{AddsVersion, AreIndexes, Fits, HasVersion, IsValueBefore, Joins, KeepsValuesOnce, LacksVersion, RemovesVersion, kept_reads_in, reads_in, version_by, writes_of};
 ghost use Rattle.si_judge.specs.Sights.{is_write_after, later_with, sight_in, sight_of_nearest, source_with, stamp_of, version_in, write_in};
 ghost use Rattle.si_judge.specs.Mending.{installer};
 
+use crate::kept_reads::KeptReads;
 use crate::maps::{insert_writes, remove_writes};
-use crate::readers::Readers;
-use crate::reads::{OwnRead, Reader, Write, reads_in, version_by, writes_of};
+use crate::reads::{KeptRead, ReadWithOwn, Write, reads_in, version_by, writes_of};
 use crate::versions::Versions;
 use si_model::reads::{if_before, version_of};
 use si_model::{Installer, OutOfMemory, Part, Sight, Source, Stamp, TxnId, Value, VersionId};
@@ -36,13 +36,13 @@ pub struct Indexes {
     /// The writes of all transactions that installed no version, by their values.
     pub writes: SortedMap<Value, Write>,
     /// The reads of the committed transactions, each with its transaction's own value there.
-    pub readers: Readers,
+    pub reads: KeptReads,
 }
 
 /// The reads and writes of a transaction that was taken out.
 #[derive(Drop)]
 pub struct TakenOut {
-    pub reads: Vec<OwnRead>,
+    pub reads: Vec<ReadWithOwn>,
     pub writes: Vec<(Value, Write)>,
 }
 
@@ -51,13 +51,13 @@ impl Indexes {
         ensures initial { result.initial ≡ None }
         ensures timeline { result.timeline ≡ [] }
         ensures writes { result.writes ≡ [] }
-        ensures readers { result.readers ≡ [] }
+        ensures reads { result.reads ≡ [] }
     {
         Indexes {
             initial: None,
             timeline: Versions::new(alloc),
             writes: SortedMap::new(alloc),
-            readers: Readers::new(alloc),
+            reads: KeptReads::new(alloc),
         }
     }
 
@@ -65,7 +65,7 @@ impl Indexes {
     pub fn put_in(
         &mut self,
         part: &Part,
-        reads: &[OwnRead],
+        reads: &[ReadWithOwn],
         writes: &[(Value, Write)],
     ) -> Result<(), OutOfMemory>
         requires fits { (M : OnKey) × AreIndexes M self.old × Fits part.now M }
@@ -74,7 +74,7 @@ impl Indexes {
         ensures { OnOk result ((M R : OnKey) → AreIndexes M self.old → Joins part.now M R → IsOfHistory R → AreIndexes R self.new) }
     {
         insert_writes(&mut self.writes, writes)?;
-        self.readers.insert_all(reads)?;
+        self.reads.insert_all(reads)?;
         add_version(&mut self.timeline, part)?;
         Ok(())
     }
@@ -89,29 +89,29 @@ impl Indexes {
         let reads = reads_in(alloc, part)?;
         let writes = writes_of(alloc, part)?;
         remove_writes(&mut self.writes, writes.as_slice());
-        self.readers.remove_all(reads.as_slice());
+        self.reads.remove_all(reads.as_slice());
         remove_version(&mut self.timeline, part);
         Ok(TakenOut { reads, writes })
     }
 
     /// Whether nothing is looked for on the key.
     pub fn is_empty(&self) -> bool
-        ensures { IsTrue result ↔ ((self.now.initial ≡ None) × (self.now.timeline ≡ []) × (self.now.writes ≡ []) × (self.now.readers ≡ [])) }
+        ensures { IsTrue result ↔ ((self.now.initial ≡ None) × (self.now.timeline ≡ []) × (self.now.writes ≡ []) × (self.now.reads ≡ [])) }
     {
         let has_writes = !self.timeline.is_empty() || !self.writes.is_empty();
-        self.initial == None && !has_writes && self.readers.is_empty()
+        self.initial == None && !has_writes && self.reads.is_empty()
     }
 
     /// Adds the reads that returned the value, by readers that started after the stamp, if there is one.
-    pub fn add_readers(
+    pub fn add_reads(
         &self,
-        reads: &mut Vec<OwnRead>,
+        reads: &mut Vec<ReadWithOwn>,
         value: Option<Value>,
         after: Option<Stamp>,
     ) -> Result<(), OutOfMemory>
-        ensures { OnOk result (reads.new.items ≡ reads.old.items ++ readers_in self.now value after) }
+        ensures { OnOk result (reads.new.items ≡ reads.old.items ++ kept_reads_in self.now value after) }
     {
-        self.readers.add_to(reads, value, after)
+        self.reads.add_to(reads, value, after)
     }
 
     /// What a read of the version returns that stands before all that were installed at the stamp or later.
@@ -135,7 +135,7 @@ impl Indexes {
     }
 
     /// All that is seen at a read.
-    pub fn sight_of(&self, read: OwnRead) -> Sight
+    pub fn sight_of(&self, read: ReadWithOwn) -> Sight
         ensures { (M : OnKey) → AreIndexes M self.now → result ≡ sight_in M self.now read }
     {
         match self.nearest_read(read.0) {
@@ -146,7 +146,7 @@ impl Indexes {
 
     /// The version that a read returned, where it is the last one before its reader's start and another transaction's. It mostly is,
     /// and then nothing has to be looked for by its value, and no version was missed.
-    fn nearest_read(&self, reader: Reader) -> Option<(Stamp, Version)>
+    fn nearest_read(&self, reader: KeptRead) -> Option<(Stamp, Version)>
         ensures { IfSome result (λ d. IsNearestBefore self.now.timeline reader.start (Some d) × (reader.value ≡ Some d.1.value) × (d.1.writer ≢ reader.txn)) }
     {
         let (commit, version) = self.timeline.before(reader.start)?;
@@ -157,7 +157,7 @@ impl Indexes {
     }
 
     /// All that is seen at a read, whose value is looked for among the writes and the versions.
-    fn sight_by_value(&self, read: OwnRead) -> Sight
+    fn sight_by_value(&self, read: ReadWithOwn) -> Sight
         ensures { (M : OnKey) → AreIndexes M self.now → result ≡ sight_in M self.now read }
     {
         let (reader, own) = read;
@@ -176,7 +176,7 @@ impl Indexes {
     }
 
     /// Where what a read returned comes from if some transaction wrote it, and whether it is the reader's own, written after the read.
-    fn told_of(&self, read: OwnRead) -> (Source, bool)
+    fn told_of(&self, read: ReadWithOwn) -> (Source, bool)
         ensures source { (M : OnKey) → AreIndexes M self.now → result.0 ≡ source_with (write_in self.now read.0.value) (version_in self.now read.0.value) }
         ensures later { (M : OnKey) → AreIndexes M self.now → result.1 ≡ later_with read (write_in self.now read.0.value) (version_in self.now read.0.value) }
     {
@@ -239,7 +239,7 @@ fn remove_version(timeline: &mut Versions, part: &Part)
 }
 
 /// All that is seen at a read that returned the last version before its reader's start, which that transaction installed at the commit.
-fn sight_of_nearest(read: OwnRead, writer: TxnId, commit: Stamp) -> Sight
+fn sight_of_nearest(read: ReadWithOwn, writer: TxnId, commit: Stamp) -> Sight
     ensures { result ≡ sight_of_nearest read writer commit }
 {
     let (reader, own) = read;
@@ -256,7 +256,7 @@ fn sight_of_nearest(read: OwnRead, writer: TxnId, commit: Stamp) -> Sight
 }
 
 /// The same where no write of the value but one of a version is known, by that version, if there is one.
-fn told_by_version(read: OwnRead, version: Option<(Stamp, Version)>) -> (Source, bool)
+fn told_by_version(read: ReadWithOwn, version: Option<(Stamp, Version)>) -> (Source, bool)
     ensures source { result.0 ≡ source_with None version }
     ensures later { result.1 ≡ later_with read None version }
 {
@@ -271,7 +271,7 @@ fn told_by_version(read: OwnRead, version: Option<(Stamp, Version)>) -> (Source,
 }
 
 /// Whether the write is one of the reader, after the read.
-fn is_write_after(reader: Reader, write: Write) -> bool
+fn is_write_after(reader: KeptRead, write: Write) -> bool
     ensures { result ≡ is_write_after reader write }
 {
     write.txn == reader.txn && reader.place < write.place

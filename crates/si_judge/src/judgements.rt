@@ -11,7 +11,7 @@ ghost use Rattle.si_judge.specs.Mending.{AreForgotten, RisesBy, IsVersionForgott
 use crate::Judge;
 use crate::indexes::{Indexes, installer};
 use crate::maps::put;
-use crate::reads::OwnRead;
+use crate::reads::ReadWithOwn;
 use si_model::{Installer, Kind, OutOfMemory, Stamp, TxnId, VersionId};
 use si_timeline::Version;
 use std::alloc::Global;
@@ -48,7 +48,11 @@ impl<J: Judge + Drop> Judgements<J> {
     }
 
     /// Judges these reads.
-    pub fn judge_reads(&mut self, indexes: &Indexes, reads: &[OwnRead]) -> Result<(), OutOfMemory>
+    pub fn judge_reads(
+        &mut self,
+        indexes: &Indexes,
+        reads: &[ReadWithOwn],
+    ) -> Result<(), OutOfMemory>
         ensures reads { OnOk result ((M : OnKey) → AreIndexes M indexes.now
             → AreReadsJudged J.rules M indexes.now reads.now (get read_cmp self.old.reads) (get read_cmp self.new.reads)) }
         ensures overlaps { OnOk result (self.new.overlaps ≡ self.old.overlaps) }
@@ -62,7 +66,7 @@ impl<J: Judge + Drop> Judgements<J> {
     }
 
     /// Forgets what was found of these reads.
-    pub fn forget_reads(&mut self, reads: &[OwnRead])
+    pub fn forget_reads(&mut self, reads: &[ReadWithOwn])
         ensures reads { AreForgotten reads.now (get read_cmp self.old.reads) (get read_cmp self.new.reads) }
         ensures overlaps { self.new.overlaps ≡ self.old.overlaps }
         ensures judge { self.new.judge ≡ self.old.judge }
@@ -197,7 +201,7 @@ impl<J: Judge + Drop> Judgements<J> {
     }
 }
 
-fn id_of(read: OwnRead) -> ReadId
+fn id_of(read: ReadWithOwn) -> ReadId
     ensures { result ≡ id_of read }
 {
     ReadId {

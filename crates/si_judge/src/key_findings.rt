@@ -13,14 +13,14 @@ ghost use Rattle.si_model.specs.KeyEdits.{arrived_on, resolved_on, set_up_on, wi
 ghost use Rattle.si_judge.specs.Touched.{IsTouched, IsTouchedBySetUp};
 ghost use Rattle.si_judge.specs.States.{AreSameOnKey};
 ghost use Rattle.si_judge.specs.Kept.{IsBare, IsInDoubt, IsShown, Shows};
-ghost use Rattle.si_judge.specs.declared.reads.Reader.{Reader};
+ghost use Rattle.si_judge.specs.declared.reads.KeptRead.{KeptRead};
 ghost use Rattle.si_judge.specs.Indexes.{AreIndexes, AreReadsBefore, AreTouchedReads, Fits, Joins, reads_in, version_by, writes_of};
 ghost use Rattle.si_judge.specs.Mending.{IsJudgedWith, IsJudgedWithout, found_by};
 
 use crate::Judge;
 use crate::indexes::{Indexes, TakenOut};
 use crate::judgements::Judgements;
-use crate::reads::{OwnRead, Write, reads_in, version_by, writes_of};
+use crate::reads::{ReadWithOwn, Write, reads_in, version_by, writes_of};
 use si_model::sorting::put_in_order;
 use si_model::{Finding, Key, Kind, OutOfMemory, Outcome, Part, Value};
 use std::alloc::Global;
@@ -122,8 +122,8 @@ impl<J: Judge + Drop> KeyFindings<J> {
     {
         self.indexes.initial = Some(value);
         let mut reads = Vec::new(self.alloc);
-        self.indexes.add_readers(&mut reads, None, None)?;
-        self.indexes.add_readers(&mut reads, Some(value), None)?;
+        self.indexes.add_reads(&mut reads, None, None)?;
+        self.indexes.add_reads(&mut reads, Some(value), None)?;
         self.judgements
             .judge_reads(&self.indexes, reads.as_slice())?;
         Ok(())
@@ -146,7 +146,7 @@ impl<J: Judge + Drop> KeyFindings<J> {
     pub fn heads(&self) -> u64 {
         let indexed = self.indexes.timeline.len()
             ^ self.indexes.writes.len()
-            ^ self.indexes.readers.len();
+            ^ self.indexes.reads.len();
         let judged = self.judgements.reads.len() ^ self.judgements.overlaps.len();
         (indexed ^ judged) as u64
     }
@@ -157,7 +157,7 @@ impl<J: Judge + Drop> KeyFindings<J> {
             Some((commit, _)) => commit.0,
             None => 0,
         };
-        let reader = match self.indexes.readers.last() {
+        let reader = match self.indexes.reads.last() {
             Some(reader) => reader.start.0,
             None => 0,
         };
@@ -263,30 +263,30 @@ fn touched(
     indexes: &Indexes,
     part: &Part,
     writes: &[(Value, Write)],
-) -> Result<Vec<OwnRead>, OutOfMemory>
+) -> Result<Vec<ReadWithOwn>, OutOfMemory>
     ensures { IfOk result (λ reads. AreTouchedReads indexes.now part.now writes.now reads.items) }
 {
     let mut reads = Vec::new(alloc);
     for write in writes {
-        indexes.add_readers(&mut reads, Some(write.0), None)?;
+        indexes.add_reads(&mut reads, Some(write.0), None)?;
     }
-    add_readers_before(indexes, part, &mut reads)?;
+    add_reads_before(indexes, part, &mut reads)?;
     Ok(reads)
 }
 
 /// Adds the reads of the version before the one that the transaction installs, by readers that started after its commit.
-fn add_readers_before(
+fn add_reads_before(
     indexes: &Indexes,
     part: &Part,
-    reads: &mut Vec<OwnRead>,
+    reads: &mut Vec<ReadWithOwn>,
 ) -> Result<(), OutOfMemory>
-    ensures { OnOk result ((more : List (Reader × Option Value)) × AreReadsBefore indexes.now (version_by part.now) more
+    ensures { OnOk result ((more : List (KeptRead × Option Value)) × AreReadsBefore indexes.now (version_by part.now) more
         × (reads.new.items ≡ reads.old.items ++ more)) }
 {
     match version_by(part) {
         Some((commit, _)) => {
             let before = indexes.value_before(commit);
-            indexes.add_readers(reads, before, Some(commit))
+            indexes.add_reads(reads, before, Some(commit))
         }
         None => Ok(()),
     }

@@ -9,11 +9,11 @@
 mod indexes;
 mod judgements;
 pub mod judges;
+mod kept_reads;
 pub mod key_findings;
 pub mod laws;
 mod maps;
 mod parts;
-mod readers;
 mod reads;
 pub mod states;
 mod versions;

@@ -12,9 +12,9 @@ use si_model::{Access, OutOfMemory, Part, Placed, Source, Stamp, Status, TxnId, 
 use si_timeline::Version;
 use std::alloc::Global;
 
-/// A read of a committed transaction. Readers are in the order of what they returned, and then of their starts.
+/// A read of a committed transaction. KeptReads are in the order of what they returned, and then of their starts.
 #[derive(Clone, Copy, Debug, PartialEq, Eq, PartialOrd, Ord)]
-pub struct Reader {
+pub struct KeptRead {
     /// What the read returned: `None` for `null`.
     pub value: Option<Value>,
     pub start: Stamp,
@@ -24,7 +24,7 @@ pub struct Reader {
 }
 
 /// A read, and its transaction's own value there.
-pub type OwnRead = (Reader, Option<Value>);
+pub type ReadWithOwn = (KeptRead, Option<Value>);
 
 /// What became of a write.
 #[derive(Clone, Copy, Debug, PartialEq, Eq)]
@@ -76,7 +76,7 @@ impl Write {
 
 /// The reads of the transaction if it is committed, and else none.
 #[tactic(auto, unfolding(crate::specs::Indexes::reads_in))]
-pub fn reads_in(alloc: Global, part: &Part) -> Result<Vec<OwnRead>, OutOfMemory>
+pub fn reads_in(alloc: Global, part: &Part) -> Result<Vec<ReadWithOwn>, OutOfMemory>
     requires { AllPairs (λ a b. a.place < b.place) part.now.accesses }
     ensures { IfOk result (λ reads. reads.items ≡ reads_in part.now) }
 {
@@ -87,7 +87,7 @@ pub fn reads_in(alloc: Global, part: &Part) -> Result<Vec<OwnRead>, OutOfMemory>
 }
 
 #[tactic(auto, using(crate::proofs::OwnValues::own_is, crate::proofs::OwnValues::last_grows))]
-fn reads_of(alloc: Global, part: &Part) -> Result<Vec<OwnRead>, OutOfMemory>
+fn reads_of(alloc: Global, part: &Part) -> Result<Vec<ReadWithOwn>, OutOfMemory>
     requires { AllPairs (λ a b. a.place < b.place) part.now.accesses }
     ensures { IfOk result (λ reads. reads.items ≡ reads_of part.now) }
 {
@@ -103,14 +103,14 @@ fn reads_of(alloc: Global, part: &Part) -> Result<Vec<OwnRead>, OutOfMemory>
 }
 
 /// The read, if the access is one, where the transaction's own value is `own`.
-fn read_at(part: &Part, own: Option<Value>, placed: Placed) -> Option<OwnRead>
+fn read_at(part: &Part, own: Option<Value>, placed: Placed) -> Option<ReadWithOwn>
     requires { own ≡ own_value part.now placed.place }
     ensures { result ≡ read_at part.now placed }
 {
     match placed.access {
         Access::Write(_) => None,
         Access::Read(value) => {
-            let reader = Reader {
+            let reader = KeptRead {
                 value,
                 start: part.start,
                 txn: part.id,

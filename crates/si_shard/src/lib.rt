@@ -15,5 +15,5 @@ pub mod shards;
 mod single_edits;
 mod stored_edits;
 
-pub use shards::{MOST_SHARDS, Shard};
+pub use shards::{MOST_SHARDS, Shard, put_all_in_order};
 pub use si_judge::KeyFault;

@@ -1,17 +1,24 @@
 //! A shard: the edits that it was given, those of them that it keeps, and what these make of its keys, or that it is spoiled. What one edit
 //! is on the keys stands in `applied_edits.rt`.
 
-ghost use Rattle.std.specs.Prelude.{◌≡◌, ◌↔◌, ℕ, ◌+◌, ◌<◌, ◌≤◌, true, false, [], ◌∷◌, ◌++◌, length, Err, IfOk, OnOk, OnErr};
+ghost use Rattle.std.specs.Prelude.{◌≡◌, ◌↔◌, ℕ, ◌+◌, ◌<◌, ◌≤◌, true, false, [], ◌∷◌, ◌++◌, drop, length, Err, IfOk, OnOk, OnErr};
+ghost use Rattle.si_model.specs.Findings.{findings};
+ghost use Rattle.si_model.specs.History.{IsHistory};
 ghost use Rattle.si_model.specs.Journals.{IsAccepted, present};
+ghost use Rattle.si_model.specs.Parts.{Present};
 ghost use Rattle.si_judge.specs.declared.states.KeyFault.TheVariants as fault;
 ghost use Rattle.si_shard.specs.AppliedEdits.{AreApplied};
 ghost use Rattle.si_shard.specs.Keeping.{AreKept, BeginsWith};
+ghost use Rattle.si_shard.specs.Laws.{findings_below};
 ghost use Rattle.si_shard.specs.Shards.{findings_in};
 
 use crate::applied_edits::Applied;
+use crate::laws::findings_are_of_shards;
 use crate::shard_ids::ShardId;
 use crate::stored_edits::Stored;
 use si_judge::KeyFault;
+use si_model::laws::order_is_strict;
+use si_model::sorting::put_in_order;
 use si_model::{Edit, Finding, Number, OutOfMemory};
 use std::alloc::Global;
 use std::hash::RandomState;
@@ -151,6 +158,25 @@ impl Shard {
         Ok(())
     }
 
+    /// Stores the edits of the journal that come after as many as it has stored, and mends the findings on the shard's keys: so a shard
+    /// that has stored the beginning of a journal stores the whole of it.
+    ///
+    /// Where none is left nothing happens. Else it answers as [`Shard::apply_all`], so after an error one was left.
+    pub fn catch_up(&mut self, journal: &[Edit]) -> Result<(), KeyFault>
+        requires within { length self.old.stored ≤ length journal.now }
+        requires accepted { IsAccepted (self.old.stored ++ drop (length self.old.stored) journal.now) }
+        ensures ok { OnOk result (self.new ≡ record self.old { stored = self.old.stored ++ drop (length self.old.stored) journal.now }) }
+        ensures spoiled { (result ≡ Err fault.Spoiled) ↔ ((self.old.spoiled ≡ true) × (length self.old.stored < length journal.now)) }
+        ensures left { OnErr result (length self.old.stored < length journal.now) }
+        ensures wanting { OnErr result (self.new ≡ record self.old { spoiled = true }) }
+    {
+        let left = &journal[self.position() as usize..];
+        if left.is_empty() {
+            return Ok(());
+        }
+        self.apply_all(left)
+    }
+
     /// The findings on the shard's keys of what is present after the stored edits, in order. It costs what is found.
     ///
     /// It answers [`KeyFault::Spoiled`] where memory was refused to an edit and no rebuild came since.
@@ -163,6 +189,19 @@ impl Shard {
         }
         let found = self.applied.findings()?;
         Ok(found)
+    }
+
+    /// Adds the findings on the shard's keys of what is present after the stored edits, in order. It costs what is found.
+    ///
+    /// It answers [`KeyFault::Spoiled`] as [`Shard::findings`] does. After a fault none was added.
+    pub fn add_findings(&self, found: &mut Vec<Finding>) -> Result<(), KeyFault>
+        ensures ok { OnOk result (found.new.items ≡ found.old.items ++ findings_in self.now.id (present self.now.stored)) }
+        ensures spoiled { (result ≡ Err fault.Spoiled) ↔ (self.now.spoiled ≡ true) }
+        ensures err { OnErr result (found.new.items ≡ found.old.items) }
+    {
+        let mut more = self.findings()?;
+        found.append(&mut more)?;
+        Ok(())
     }
 
     /// Makes all that is known of the keys anew from the kept edits, and so ends a spoiled state.
@@ -190,6 +229,15 @@ impl Shard {
     {
         self.spoiled
     }
+}
+
+/// Puts the findings of all shards in order, which stand there shard by shard: then they are the findings.
+pub fn put_all_in_order(found: &mut Vec<Finding>)
+    ensures { (shards : ℕ) (P : Present) → 1 ≤ shards → IsHistory P → found.old.items ≡ findings_below shards shards P → found.new.items ≡ findings P }
+{
+    findings_are_of_shards();
+    order_is_strict();
+    put_in_order(found);
 }
 
 /// Applies the edit, stores it, and keeps it where it is anything on the shard's keys. Where memory was refused it may be kept.

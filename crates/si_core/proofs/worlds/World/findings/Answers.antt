@@ -1,13 +1,12 @@
 use Rattle.std.proofs.Common.{◌≡◌, ◌∙◌, ◌<◌, ◌≤◌, Some, length, false, sym, ap, subst}
-use Rattle.std.specs.List.{Contains, flat_map}
+use Rattle.std.specs.List.{Contains}
 use Rattle.si_model.specs.Findings.{findings}
 use Rattle.si_model.specs.Journals.{IsAccepted, present}
-use Rattle.si_model.specs.Order.{finding_cmp, in_order}
 use Rattle.si_model.proofs.PresentHistories.{present_history}
 use Rattle.si_shard.specs.Shards.{ShardState}
 use Rattle.si_core.specs.Machine.{IsLeastPosition, IsLeastSpoiled, IsSettled, Machine}
-use Rattle.si_core.specs.Worlds.{IsFirstSpoiled, IsLeastOf, shard_findings}
-use Rattle.si_core.proofs.Settled.{is_settled, least_spoiled, least_unsettled, settled_findings}
+use Rattle.si_core.specs.Worlds.{AreFoundOf, IsFirstSpoiled, IsLeastOf}
+use Rattle.si_core.proofs.Settled.{found_of_journal, is_settled, least_spoiled, least_unsettled}
 use Rattle.si_core.proofs.worlds.World.findings.Goals as goal
 
 pub returns-in-Some-clause-fault : goal.returns-in-Some-clause-fault
@@ -24,11 +23,14 @@ returns-then-position-journal-clause-fault c =
     let left = subst (λ J. n < length J) c.journal-journal.ensures.journal c.if-position-journal.true in
     subst (λ M. IsLeastPosition M n) c.self.view_is (least_unsettled c.self.inside.book c.self.inside.shards.items n whole least left)
 
-pub findings_in_order-requires : goal.findings_in_order-requires
-findings_in_order-requires c = λ s at. c.in_default.ensures s (subst (λ l. Contains l s) (c.as_slice-3.ensures.value ∙ sym c.as_slice.ensures.value) at)
+pub findings_of-requires-clause-some : goal.findings_of-requires-clause-some
+findings_of-requires-clause-some c = subst (λ l. 1 ≤ length l) (sym c.as_slice-3.ensures.value) c.self.invariant.some
 
-pub returns-in_default-findings_in_order-clause-fault : goal.returns-in_default-findings_in_order-clause-fault
-returns-in_default-findings_in_order-clause-fault c =
+pub findings_of-requires-clause-whole : goal.findings_of-requires-clause-whole
+findings_of-requires-clause-whole c = λ s at. c.in_default.ensures s (subst (λ l. Contains l s) (c.as_slice-3.ensures.value ∙ sym c.as_slice.ensures.value) at)
+
+pub returns-in_default-findings_of-clause-fault : goal.returns-in_default-findings_of-clause-fault
+returns-in_default-findings_of-clause-fault c =
     let n = c.least_position-position.result in
     let whole = subst (λ l. (s : ShardState) → Contains l s → s.spoiled ≡ false) c.as_slice.ensures.value c.in_default.ensures in
     let least = subst (λ l. IsLeastOf l n) c.as_slice-2.ensures.value c.least_position-position.ensures in
@@ -42,8 +44,10 @@ found_is c =
     let shards = c.self.inside.shards.items in
     let least = subst (λ l. IsLeastOf l n) c.as_slice-2.ensures.value c.least_position-position.ensures in
     let all = subst (λ J. length J ≤ n) c.journal-journal.ensures.journal c.if-position-journal.false in
-    c.in-Ok.ensures ∙ ap (λ l. in_order finding_cmp (flat_map shard_findings l)) c.as_slice-3.ensures.value
-    ∙ settled_findings book shards c.self.invariant n least all c.journal-journal.ensures.accepted ∙ ap (λ (M : Machine). findings (present M.journal)) c.self.view_is
+    let P = present book.journal in
+    c.in-Ok.ensures P (present_history book.journal c.journal-journal.ensures.accepted)
+    (subst (AreFoundOf P) (sym c.as_slice-3.ensures.value) (found_of_journal book shards c.self.invariant n least all))
+    ∙ ap (λ (M : Machine). findings (present M.journal)) c.self.view_is
 
 pub returns-clause-found : goal.returns-clause-found
 returns-clause-found c = found_is c

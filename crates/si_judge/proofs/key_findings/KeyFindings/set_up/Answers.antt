@@ -4,7 +4,7 @@ use Rattle.si_model.specs.declared.numbers.Stamp.{Stamp}
 use Rattle.si_model.specs.declared.parts.OnKey.{OnKey}
 use Rattle.si_model.specs.KeyEdits.{set_up_on}
 use Rattle.si_model.specs.History.{IsOfHistory}
-use Rattle.si_judge.specs.Indexes.{readers_in}
+use Rattle.si_judge.specs.Indexes.{kept_reads_in}
 use Rattle.si_judge.specs.Kept.{IsShown, Shows}
 use Rattle.si_judge.specs.Mending.{AreReadsJudged, found_by, risen, stamp_cmp}
 use Rattle.si_judge.specs.Touched.{IsTouchedBySetUp}
@@ -13,10 +13,10 @@ use Rattle.si_judge.proofs.key_findings.KeyFindings.set_up.Goals as goal
 
 module _ (g : _) (c : goal.After-drop-reads-2 g) where
   -- what was judged
-  reads_are : c.as_slice.result.now ≡ readers_in (set_up_in c.args.value c.self.inside.indexes) None None ++ readers_in (set_up_in c.args.value c.self.inside.indexes) (Some c.args.value) None
-  reads_are = c.as_slice.ensures.value ∙ c.in_ok-add_readers-2.ensures
-      ∙ ap (λ l. l ++ readers_in (set_up_in c.args.value c.self.inside.indexes) (Some c.args.value) None)
-      (c.in_ok-add_readers.ensures ∙ ap (λ l. l ++ readers_in (set_up_in c.args.value c.self.inside.indexes) None None) c.new-reads.ensures.items)
+  reads_are : c.as_slice.result.now ≡ kept_reads_in (set_up_in c.args.value c.self.inside.indexes) None None ++ kept_reads_in (set_up_in c.args.value c.self.inside.indexes) (Some c.args.value) None
+  reads_are = c.as_slice.ensures.value ∙ c.in_ok-add_reads-2.ensures
+      ∙ ap (λ l. l ++ kept_reads_in (set_up_in c.args.value c.self.inside.indexes) (Some c.args.value) None)
+      (c.in_ok-add_reads.ensures ∙ ap (λ l. l ++ kept_reads_in (set_up_in c.args.value c.self.inside.indexes) None None) c.new-reads.ensures.items)
 
 pub returns-clause-ok : goal.returns-clause-ok
 returns-clause-ok g c =

@@ -1,7 +1,7 @@
 use Rattle.std.proofs.Common.{◌∙◌, ap, sym}
-use Rattle.si_judge.specs.Readers.{with_own}
+use Rattle.si_judge.specs.KeptReads.{with_own}
 use Rattle.si_judge.proofs.OwnApart.{none_with_own}
-use Rattle.si_judge.proofs.readers.Readers.is_empty.Goals as goal
+use Rattle.si_judge.proofs.kept_reads.KeptReads.is_empty.Goals as goal
 
 pub returns : goal.returns
 returns c = (

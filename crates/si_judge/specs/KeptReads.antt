@@ -13,32 +13,32 @@ use Rattle.si_model.specs.declared.numbers.Value.{Value}
 use Rattle.si_model.specs.Operations.{same_value}
 use Rattle.si_sorted.specs.Entries.{Sets, value_at}
 use Rattle.si_judge.specs.Values.{value_cmp}
-use Rattle.si_judge.specs.declared.reads.Reader.{Reader}
+use Rattle.si_judge.specs.declared.reads.KeptRead.{KeptRead}
 
 -- readers in their order
-abbrev pub reader_cmp : Reader → Reader → Ordering
-reader_cmp r s = ordering_then (option_cmp value_cmp r.value s.value)
+abbrev pub kept_read_cmp : KeptRead → KeptRead → Ordering
+kept_read_cmp r s = ordering_then (option_cmp value_cmp r.value s.value)
     (ordering_then (nat_cmp r.start.0 s.start.0) (ordering_then (nat_cmp r.txn.0 s.txn.0) (nat_cmp r.place s.place)))
 
 -- each reader with its transaction's own value there, which stands apart, if it has one
-abbrev pub with_own : {X : Type 0} → List (Reader × Value) → List (Reader × X) → List (Reader × Option Value)
-with_own own = map (λ e. (e.0, value_at reader_cmp own e.0))
+abbrev pub with_own : {X : Type 0} → List (KeptRead × Value) → List (KeptRead × X) → List (KeptRead × Option Value)
+with_own own = map (λ e. (e.0, value_at kept_read_cmp own e.0))
 
 -- an own value stands apart only for a reader that is there
-abbrev pub AreOfReaders : {X : Type 0} → List (Reader × Value) → List (Reader × X) → Type 0
-AreOfReaders own es = (r : Reader) → value_at reader_cmp es r ≡ None → value_at reader_cmp own r ≡ None
+abbrev pub AreOfKeptReads : {X : Type 0} → List (KeptRead × Value) → List (KeptRead × X) → Type 0
+AreOfKeptReads own es = (r : KeptRead) → value_at kept_read_cmp es r ≡ None → value_at kept_read_cmp own r ≡ None
 
 -- what stands beside the reader: its transaction's own value there, if it has one
-abbrev pub own_at : List (Reader × Option Value) → Reader → Option (Option Value)
-own_at = value_at reader_cmp
+abbrev pub own_at : List (KeptRead × Option Value) → KeptRead → Option (Option Value)
+own_at = value_at kept_read_cmp
 
 -- each reader stands once, in order
-abbrev pub AreInOrder : List (Reader × Option Value) → Type 0
-AreInOrder es = IsStrictlySortedBy reader_cmp (keys_of es)
+abbrev pub AreInOrder : List (KeptRead × Option Value) → Type 0
+AreInOrder es = IsStrictlySortedBy kept_read_cmp (keys_of es)
 
 -- o stands beside the reader afterwards, and all else as before
-abbrev pub SetsOwn : Reader → Option (Option Value) → List (Reader × Option Value) → List (Reader × Option Value) → Type 0
-SetsOwn = Sets reader_cmp
+abbrev pub SetsOwn : KeptRead → Option (Option Value) → List (KeptRead × Option Value) → List (KeptRead × Option Value) → Type 0
+SetsOwn = Sets kept_read_cmp
 
 -- ---- the reads of a value
 
@@ -48,31 +48,31 @@ IsLaterThan None s = ⊤
 IsLaterThan (Some c) s = c.0 < s.0
 
 -- the least reader that the bounds let in for reads of a value after the stamp
-abbrev pub least_reader : Option Value → Option Stamp → Bound Reader
-least_reader v None = Included (record { value = v; start = record { 0 = 0 }; txn = record { 0 = 0 }; place = 0 })
-least_reader v (Some c) = Included (record { value = v; start = c; txn = record { 0 = 0 }; place = 0 })
+abbrev pub least_kept_read : Option Value → Option Stamp → Bound KeptRead
+least_kept_read v None = Included (record { value = v; start = record { 0 = 0 }; txn = record { 0 = 0 }; place = 0 })
+least_kept_read v (Some c) = Included (record { value = v; start = c; txn = record { 0 = 0 }; place = 0 })
 
 -- the least reader of a value beyond n
-abbrev pub least_of : ℕ → Bound Reader
+abbrev pub least_of : ℕ → Bound KeptRead
 least_of n = Excluded (record { value = Some (record { 0 = n }); start = record { 0 = 0 }; txn = record { 0 = 0 }; place = 0 })
 
 -- where the readers of a greater value begin
-abbrev pub beyond : Option Value → Bound Reader
+abbrev pub beyond : Option Value → Bound KeptRead
 beyond None = least_of 0
 beyond (Some v) = if nat_eq v.0 (2 ^ 64 - 1) then Unbounded else least_of (v.0 + 1)
 
 -- a read of the value by a reader that started after the stamp
-abbrev pub IsReaderOf : Option Value → Option Stamp → Reader → Type 0
-IsReaderOf v after r = (r.value ≡ v) × IsLaterThan after r.start
+abbrev pub IsKeptReadOf : Option Value → Option Stamp → KeptRead → Type 0
+IsKeptReadOf v after r = (r.value ≡ v) × IsLaterThan after r.start
 
 -- the same as tests
 abbrev pub is_later : Option Stamp → Stamp → Bool
 is_later None s = true
 is_later (Some c) s = nat_lt c.0 s.0
 
-abbrev pub is_reader_of : Option Value → Option Stamp → Reader → Bool
-is_reader_of v after r = option_eq same_value r.value v && is_later after r.start
+abbrev pub is_kept_read_of : Option Value → Option Stamp → KeptRead → Bool
+is_kept_read_of v after r = option_eq same_value r.value v && is_later after r.start
 
 -- those among the readers that returned the value and started after the stamp
-abbrev pub readers_among : List (Reader × Option Value) → Option Value → Option Stamp → List (Reader × Option Value)
-readers_among es v after = filter (λ p. is_reader_of v after p.0) es
+abbrev pub kept_reads_among : List (KeptRead × Option Value) → Option Value → Option Stamp → List (KeptRead × Option Value)
+kept_reads_among es v after = filter (λ p. is_kept_read_of v after p.0) es

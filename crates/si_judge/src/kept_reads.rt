@@ -5,9 +5,9 @@ ghost use Rattle.std.specs.Map.{keys_of};
 ghost use Rattle.std.specs.Ordering.{eq_by_cmp};
 ghost use Rattle.si_sorted.specs.Entries.{Sets, value_at};
 ghost use Rattle.si_judge.specs.Maps.{AreInserted, AreTakenOut};
-ghost use Rattle.si_judge.specs.Readers.{AreInOrder, SetsOwn, beyond, is_later, is_reader_of, least_reader, own_at, reader_cmp, readers_among};
+ghost use Rattle.si_judge.specs.KeptReads.{AreInOrder, SetsOwn, beyond, is_later, is_kept_read_of, least_kept_read, own_at, kept_read_cmp, kept_reads_among};
 
-use crate::reads::{OwnRead, Reader};
+use crate::reads::{KeptRead, ReadWithOwn};
 use si_model::{OutOfMemory, Stamp, TxnId, Value};
 use si_sorted::{Choice, SortedMap};
 use std::alloc::Global;
@@ -15,29 +15,29 @@ use std::marker::Model;
 use std::ops::Bound;
 
 /// The own values of readers.
-type OwnValues = SortedMap<Reader, Value>;
+type OwnValues = SortedMap<KeptRead, Value>;
 
 /// The reads of the committed transactions of a key, each with its transaction's own value there, if it has one.
 ///
 /// Contracts see the list of pairs, in the order of readers.
 #[derive(Drop)]
-pub struct Readers {
-    all: SortedMap<Reader, ()>,
+pub struct KeptReads {
+    all: SortedMap<KeptRead, ()>,
     // For those few alone whose transaction has one.
     own: OwnValues,
 }
 
-impl Model for Readers {
+impl Model for KeptReads {
     ghost use Rattle.std.specs.Prelude.{List, Option};
     ghost use Rattle.si_model.specs.declared.numbers.Value.{Value as Written};
-    ghost use Rattle.si_judge.specs.declared.reads.Reader.{Reader};
-    ghost use Rattle.si_judge.specs.Readers.{AreOfReaders, with_own};
+    ghost use Rattle.si_judge.specs.declared.reads.KeptRead.{KeptRead};
+    ghost use Rattle.si_judge.specs.KeptReads.{AreOfKeptReads, with_own};
 
-    ghost Value = { List (Reader × Option Written) };
+    ghost Value = { List (KeptRead × Option Written) };
 
     ghost view = { λ s. with_own s.own s.all };
 
-    ghost invariant = { λ s. AreOfReaders s.own s.all };
+    ghost invariant = { λ s. AreOfKeptReads s.own s.all };
 }
 
 /// The reads of a value, by readers that started after a stamp, if there is one.
@@ -48,30 +48,30 @@ struct OfValue<'a> {
     own: &'a OwnValues,
 }
 
-impl<'a> Choice<Reader, (), OwnRead> for OfValue<'a> {
+impl<'a> Choice<KeptRead, (), ReadWithOwn> for OfValue<'a> {
     ghost use Rattle.std.specs.Prelude.{None, Some};
     ghost use Rattle.std.specs.Prelude.{if◌then◌else◌};
     ghost use Rattle.si_sorted.specs.Entries.{value_at};
-    ghost use Rattle.si_judge.specs.Readers.{is_reader_of, reader_cmp};
+    ghost use Rattle.si_judge.specs.KeptReads.{is_kept_read_of, kept_read_cmp};
 
-    ghost tells = { λ w r _. if is_reader_of w.value w.after r then Some (r, value_at reader_cmp w.own.now r) else None };
+    ghost tells = { λ w r _. if is_kept_read_of w.value w.after r then Some (r, value_at kept_read_cmp w.own.now r) else None };
 
-    fn told(&self, reader: Reader, _nothing: ()) -> Option<OwnRead> {
-        if is_reader_of(self.value, self.after, reader) {
+    fn told(&self, reader: KeptRead, _nothing: ()) -> Option<ReadWithOwn> {
+        if is_kept_read_of(self.value, self.after, reader) {
             return Some((reader, own_of(self.own, reader)));
         }
         None
     }
 }
 
-impl Readers {
+impl KeptReads {
     ghost use Rattle.std.specs.Prelude.{[]};
 
     /// No read.
     pub fn new(alloc: Global) -> Self
         ensures { result ≡ [] }
     {
-        Readers {
+        KeptReads {
             all: SortedMap::new(alloc),
             own: SortedMap::new(alloc),
         }
@@ -92,7 +92,7 @@ impl Readers {
     }
 
     /// The last reader, in their order.
-    pub fn last(&self) -> Option<Reader>
+    pub fn last(&self) -> Option<KeptRead>
         ensures { result ≡ slice_get (keys_of self.now) (length self.now - 1) }
     {
         let (reader, ()) = self.all.last()?;
@@ -100,8 +100,8 @@ impl Readers {
     }
 
     /// Puts the reads in.
-    pub fn insert_all(&mut self, reads: &[OwnRead]) -> Result<(), OutOfMemory>
-        ensures values { OnOk result (AreInserted (eq_by_cmp reader_cmp) (own_at self.old) reads.now (own_at self.new)) }
+    pub fn insert_all(&mut self, reads: &[ReadWithOwn]) -> Result<(), OutOfMemory>
+        ensures values { OnOk result (AreInserted (eq_by_cmp kept_read_cmp) (own_at self.old) reads.now (own_at self.new)) }
         ensures ordered { OnOk result (AreInOrder self.old → AreInOrder self.new) }
     {
         for read in reads {
@@ -110,7 +110,7 @@ impl Readers {
         Ok(())
     }
 
-    fn insert(&mut self, reader: Reader, own: Option<Value>) -> Result<(), OutOfMemory>
+    fn insert(&mut self, reader: KeptRead, own: Option<Value>) -> Result<(), OutOfMemory>
         ensures value { OnOk result (SetsOwn reader (Some own) self.old self.new) }
         ensures ordered { OnOk result (AreInOrder self.new) }
     {
@@ -120,8 +120,8 @@ impl Readers {
     }
 
     /// Takes the reads out.
-    pub fn remove_all(&mut self, reads: &[OwnRead])
-        ensures values { AreTakenOut (eq_by_cmp reader_cmp) (own_at self.old) reads.now (own_at self.new) }
+    pub fn remove_all(&mut self, reads: &[ReadWithOwn])
+        ensures values { AreTakenOut (eq_by_cmp kept_read_cmp) (own_at self.old) reads.now (own_at self.new) }
         ensures ordered { AreInOrder self.old → AreInOrder self.new }
     {
         for read in reads {
@@ -129,7 +129,7 @@ impl Readers {
         }
     }
 
-    fn remove(&mut self, reader: Reader)
+    fn remove(&mut self, reader: KeptRead)
         ensures value { SetsOwn reader None self.old self.new }
         ensures ordered { AreInOrder self.new }
     {
@@ -140,13 +140,13 @@ impl Readers {
     /// Adds the reads that returned the value, by readers that started after the stamp, if there is one.
     pub fn add_to(
         &self,
-        reads: &mut Vec<OwnRead>,
+        reads: &mut Vec<ReadWithOwn>,
         value: Option<Value>,
         after: Option<Stamp>,
     ) -> Result<(), OutOfMemory>
-        ensures { OnOk result (reads.new.items ≡ reads.old.items ++ readers_among self.now value after) }
+        ensures { OnOk result (reads.new.items ≡ reads.old.items ++ kept_reads_among self.now value after) }
     {
-        let (least, beyond) = (least_reader(value, after), beyond(value));
+        let (least, beyond) = (least_kept_read(value, after), beyond(value));
         let own = &self.own;
         let of_value = OfValue { value, after, own };
         self.all.add_between(least, beyond, &of_value, reads)?;
@@ -155,8 +155,8 @@ impl Readers {
 }
 
 /// The own value of the reader, if there is one. Mostly no reader has one, and then nothing is looked up.
-fn own_of(own: &OwnValues, reader: Reader) -> Option<Value>
-    ensures { result ≡ value_at reader_cmp own.now reader }
+fn own_of(own: &OwnValues, reader: KeptRead) -> Option<Value>
+    ensures { result ≡ value_at kept_read_cmp own.now reader }
 {
     if own.is_empty() {
         return None;
@@ -165,8 +165,8 @@ fn own_of(own: &OwnValues, reader: Reader) -> Option<Value>
 }
 
 /// Puts the own value under the reader, or takes the one out that stands there.
-fn set_own(own: &mut OwnValues, reader: Reader, value: Option<Value>) -> Result<(), OutOfMemory>
-    ensures ok { OnOk result (Sets reader_cmp reader value own.old own.new) }
+fn set_own(own: &mut OwnValues, reader: KeptRead, value: Option<Value>) -> Result<(), OutOfMemory>
+    ensures ok { OnOk result (Sets kept_read_cmp reader value own.old own.new) }
     ensures err { OnErr result (own.new ≡ own.old) }
 {
     match value {
@@ -176,22 +176,22 @@ fn set_own(own: &mut OwnValues, reader: Reader, value: Option<Value>) -> Result<
     Ok(())
 }
 
-fn forget_own(own: &mut OwnValues, reader: Reader)
-    ensures { Sets reader_cmp reader None own.old own.new }
+fn forget_own(own: &mut OwnValues, reader: KeptRead)
+    ensures { Sets kept_read_cmp reader None own.old own.new }
 {
     if !own.is_empty() {
         own.remove(reader);
     }
 }
 
-fn least_reader(value: Option<Value>, after: Option<Stamp>) -> Bound<Reader>
-    ensures { result ≡ least_reader value after }
+fn least_kept_read(value: Option<Value>, after: Option<Stamp>) -> Bound<KeptRead>
+    ensures { result ≡ least_kept_read value after }
 {
     let start = match after {
         Some(stamp) => stamp,
         None => Stamp(0),
     };
-    Bound::Included(Reader {
+    Bound::Included(KeptRead {
         value,
         start,
         txn: TxnId(0),
@@ -200,7 +200,7 @@ fn least_reader(value: Option<Value>, after: Option<Stamp>) -> Bound<Reader>
 }
 
 /// Where the readers begin that returned a greater value.
-fn beyond(value: Option<Value>) -> Bound<Reader>
+fn beyond(value: Option<Value>) -> Bound<KeptRead>
     ensures { result ≡ beyond value }
 {
     let next = match value {
@@ -208,7 +208,7 @@ fn beyond(value: Option<Value>) -> Bound<Reader>
         Some(Value(u64::MAX)) => return Bound::Unbounded,
         Some(Value(value)) => Value(value + 1),
     };
-    Bound::Excluded(Reader {
+    Bound::Excluded(KeptRead {
         value: Some(next),
         start: Stamp(0),
         txn: TxnId(0),
@@ -217,8 +217,8 @@ fn beyond(value: Option<Value>) -> Bound<Reader>
 }
 
 /// Whether it is a read of the value by a reader that started after the stamp, if there is one.
-fn is_reader_of(value: Option<Value>, after: Option<Stamp>, reader: Reader) -> bool
-    ensures { result ≡ is_reader_of value after reader }
+fn is_kept_read_of(value: Option<Value>, after: Option<Stamp>, reader: KeptRead) -> bool
+    ensures { result ≡ is_kept_read_of value after reader }
 {
     reader.value == value && is_later(after, reader.start)
 }
