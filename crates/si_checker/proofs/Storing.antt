@@ -11,7 +11,7 @@ use Rattle.si_words.specs.Entries.{edit_in, edits_of}
 use Rattle.si_words.specs.Seats.{Board, Seated}
 use Rattle.si_words.specs.Views.{with_done}
 use Rattle.si_shard.specs.Shards.{ShardState}
-use Rattle.si_checker.specs.LockedShards.{IsLockedShard}
+use Rattle.si_checker.specs.LockedShards.{IsLockedShard, StoresFirst}
 
 -- ---- lists
 
@@ -76,24 +76,24 @@ length_stored xs n le = (let l = edits_length xs in length-take-le n (edits_of x
 
 -- a shard that applied n more of what it is due, and published that
 pub locked_shard_applied : (board : Board) (old new : ShardState) (seat : Seated ShardView) (edits : List Edit) (m n p : ℕ) → IsLockedShard board old seat
-    → edits ≡ take m (drop seat.view.done (edits_of seat.view.due)) → length edits ≡ m → new.id ≡ old.id → n ≤ m → new.stored ≡ old.stored ++ take n edits → p ≡ length new.stored
-    → (new.spoiled ≡ true → (n < m) ⊎ ((n ≡ 0) × (old.spoiled ≡ true)))
+    → edits ≡ take m (drop seat.view.done (edits_of seat.view.due)) → length edits ≡ m → StoresFirst n edits old new → p ≡ length new.stored
     → IsLockedShard board new (record seat { view = with_done p seat.view })
-locked_shard_applied board old new seat edits m n p is next many id le stored far spoils =
+locked_shard_applied board old new seat edits m n p is next many stores far =
     let done = seat.view.done in
     let E = edits_of seat.view.due in
     let long = edits_length seat.view.due in
     let start = is.within in
+    let le : n ≤ m = (let w = stores.within in omega arith) in
     let left = so_many_left E edits done m next many (omega arith) in
-    let further : new.stored ≡ take (done + n) E = stored ∙ ap (λ l. l ++ take n edits) is.stored ∙ stored_further E edits done m next many n le in
+    let further : new.stored ≡ take (done + n) E = stores.stored ∙ ap (λ l. l ++ take n edits) is.stored ∙ stored_further E edits done m next many n le in
     let count : length (take (done + n) E) ≡ done + n = length_stored seat.view.due (done + n) (omega arith) in
     let here : p ≡ done + n = far ∙ ap (λ (l : List Edit). length l) further ∙ count in record {
       table = is.table;
       number = is.number;
-      id = id ∙ is.id;
+      id = stores.id ∙ is.id;
       accepted = is.accepted;
       room = is.room;
       within = omega arith;
       stored = further ∙ ap (λ j. take j E) (sym here);
-      left = λ s. ⊎_elim (λ (less : n < m). (omega arith)) (λ same. (let was = is.left same.1 in let none = same.0 in omega arith)) (spoils s);
+      left = λ s. ⊎_elim (λ (less : n < length edits). (omega arith)) (λ same. (let was = is.left same.1 in let none = same.0 in omega arith)) (stores.spoiled s);
     }

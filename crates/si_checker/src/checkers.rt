@@ -1,5 +1,5 @@
 //! The checker: what callers with a pass do.
-ghost use Rattle.std.specs.Prelude.{◌≡◌, ◌↔◌, ℕ, ◌<◌, ◌≤◌, true, All, [], ◌++◌, length, take, slice_index, IfOk, OnOk, IfErr, OnErr, IfSome};
+ghost use Rattle.std.specs.Prelude.{◌≡◌, ◌↔◌, ℕ, ◌<◌, ◌≤◌, true, [], ◌++◌, length, take, slice_index, IfOk, OnOk, IfErr, OnErr, IfSome};
 ghost use Rattle.std.specs.Sync.Mutex.{mutex_guard_value};
 ghost use Rattle.si_model.specs.Findings.{findings};
 ghost use Rattle.si_model.specs.Form.{IsWellFormed};
@@ -9,11 +9,11 @@ ghost use Rattle.si_accept.specs.Faults.{IsFaultOf};
 ghost use Rattle.si_accept.specs.Statuses.{committed_among, doubtful_among};
 ghost use Rattle.si_shard.specs.Laws.{shard_id};
 ghost use Rattle.si_shard.specs.Shards.{findings_in};
-ghost use Rattle.si_words.specs.Entries.{IsBeginning, edits_of, entry, made_by};
+ghost use Rattle.si_words.specs.Entries.{IsBeginning, edits_of};
 ghost use Rattle.si_words.specs.Seats.{new_shards};
 ghost use Rattle.si_shard.specs.declared.shards.TheConstants.{MOST_SHARDS};
-ghost use Rattle.si_words.specs.Views.{pass_closed, with_count, with_mark, with_marks, with_mine, with_seen};
-ghost use Rattle.si_checker.specs.Calls.{IsSubmitted, learning};
+ghost use Rattle.si_words.specs.Views.{pass_closed, with_count, with_mark, with_marks};
+ghost use Rattle.si_checker.specs.Calls.{IsSubmitted, SeesJournal, issuing, learning};
 ghost use Rattle.si_checker.specs.declared.reports.ReportFault.TheVariants as fault;
 
 use crate::locked_books::LockedBook;
@@ -120,14 +120,9 @@ impl<N: Name> Checker<N> {
         requires { pass.old.table ≡ N.board.table }
         ensures submitted { OnOk result (IsSubmitted N.limit edit pass.old.view pass.new.view) }
         ensures number { IfOk result (λ number. number.0 ≡ length pass.new.view.seen) }
-        ensures ok { OnOk result (pass.new ≡ record pass.old { view = with_seen pass.new.view.seen (with_mine (entry pass.old.view.number edit) pass.old.view) }) }
+        ensures ok { OnOk result (SeesJournal N.board pass.new.view.seen (issuing edit pass.old) pass.new) }
         ensures fault { IfErr result (IsFaultOf (refusal_after N.limit (edits_of pass.new.view.seen) edit)) }
-        ensures err { OnErr result (pass.new ≡ record pass.old { view = with_seen pass.new.view.seen pass.old.view }) }
-        ensures begins { IsBeginning pass.old.view.seen pass.new.view.seen }
-        ensures counted { pass.old.view.count ≤ length pass.new.view.seen }
-        ensures accepted { IsAccepted (edits_of pass.new.view.seen) }
-        ensures made { pass.new.view.mine ≡ made_by pass.new.view.number pass.new.view.seen }
-        ensures bearers { All (λ e. e.by < N.board.passes) pass.new.view.seen }
+        ensures err { OnErr result (SeesJournal N.board pass.new.view.seen pass.old pass.new) }
     {
         self.locked_book.lock(rt).submit(&self.words, pass, edit)
     }
@@ -150,13 +145,7 @@ impl<N: Name> Checker<N> {
         ensures initial { IfOk result (λ r. r.initial.items ≡ (present (edits_of pass.new.view.seen)).initial) }
         ensures found { IfOk result (λ r. r.findings.items ≡ findings (present (edits_of pass.new.view.seen))) }
         ensures empty { IfOk result (λ r. (r.findings.items ≡ []) ↔ (IsWellFormed (present (edits_of pass.new.view.seen)) × IsPlSi (present (edits_of pass.new.view.seen)))) }
-        ensures sees { pass.new ≡ record pass.old { view = with_seen pass.new.view.seen pass.old.view } }
-        ensures begins { IsBeginning pass.old.view.seen pass.new.view.seen }
-        ensures counted { pass.old.view.count ≤ length pass.new.view.seen }
-        ensures marks { (k : ℕ) → k < N.board.shards → slice_index pass.old.view.marks k ≤ length pass.new.view.seen }
-        ensures accepted { IsAccepted (edits_of pass.new.view.seen) }
-        ensures made { pass.new.view.mine ≡ made_by pass.new.view.number pass.new.view.seen }
-        ensures bearers { All (λ e. e.by < N.board.passes) pass.new.view.seen }
+        ensures sees { SeesJournal N.board pass.new.view.seen pass.old pass.new }
     {
         let mut guard = self.locked_book.lock(rt);
         let locked_book = &mut *guard;
@@ -209,13 +198,7 @@ impl<N: Name> Checker<N> {
         ensures count { IfOk result (λ r. r.transactions ≡ length (present (edits_of pass.new.view.seen)).txns) }
         ensures found { IfOk result (λ r. r.findings.items ≡ findings (present (edits_of pass.new.view.seen))) }
         ensures empty { IfOk result (λ r. (r.findings.items ≡ []) ↔ (IsWellFormed (present (edits_of pass.new.view.seen)) × IsPlSi (present (edits_of pass.new.view.seen)))) }
-        ensures sees { pass.new ≡ record pass.old { view = with_seen pass.new.view.seen pass.old.view } }
-        ensures begins { IsBeginning pass.old.view.seen pass.new.view.seen }
-        ensures counted { pass.old.view.count ≤ length pass.new.view.seen }
-        ensures marks { (k : ℕ) → k < N.board.shards → slice_index pass.old.view.marks k ≤ length pass.new.view.seen }
-        ensures accepted { IsAccepted (edits_of pass.new.view.seen) }
-        ensures made { pass.new.view.mine ≡ made_by pass.new.view.number pass.new.view.seen }
-        ensures bearers { All (λ e. e.by < N.board.passes) pass.new.view.seen }
+        ensures sees { SeesJournal N.board pass.new.view.seen pass.old pass.new }
     {
         let mut guard = self.locked_book.lock(rt);
         let locked_book = &mut *guard;
@@ -258,10 +241,7 @@ impl<N: Name> Checker<N> {
         requires { pass.old.table ≡ N.board.table }
         ensures committed { IfOk result (λ s. s.committed ≡ committed_among (present (edits_of pass.new.view.seen)).txns) }
         ensures in_doubt { IfOk result (λ s. s.in_doubt.items ≡ doubtful_among (present (edits_of pass.new.view.seen)).txns) }
-        ensures sees { pass.new ≡ record pass.old { view = with_seen pass.new.view.seen pass.old.view } }
-        ensures begins { IsBeginning pass.old.view.seen pass.new.view.seen }
-        ensures made { pass.new.view.mine ≡ made_by pass.new.view.number pass.new.view.seen }
-        ensures bearers { All (λ e. e.by < N.board.passes) pass.new.view.seen }
+        ensures sees { SeesJournal N.board pass.new.view.seen pass.old pass.new }
     {
         let mut guard = self.locked_book.lock(rt);
         let locked_book = &mut *guard;

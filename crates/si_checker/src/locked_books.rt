@@ -1,12 +1,13 @@
 //! What lies under the lock of the book, and what calls do there.
-ghost use Rattle.std.specs.Prelude.{◌≡◌, ℕ, ◌<◌, ◌≤◌, None, All, [], length, take, drop, slice_index, IfOk, OnOk, IfErr, OnErr};
+ghost use Rattle.std.specs.Prelude.{◌≡◌, ◌≤◌, None, [], length, take, drop, IfOk, OnOk, IfErr, OnErr};
 ghost use Rattle.std.specs.Vec.{vec_len};
 ghost use Rattle.si_model.specs.Journals.{IsAccepted, present, refusal_after};
 ghost use Rattle.si_accept.specs.Faults.{IsFaultOf};
 ghost use Rattle.si_accept.specs.Statuses.{committed_among, doubtful_among};
-ghost use Rattle.si_words.specs.Entries.{IsBeginning, edits_of, entry, made_by};
+ghost use Rattle.si_words.specs.Entries.{IsBeginning, edits_of, entry};
 ghost use Rattle.si_words.specs.Seats.{seated};
-ghost use Rattle.si_words.specs.Views.{book_closed, new_book, with_entry, with_mine, with_seen};
+ghost use Rattle.si_words.specs.Views.{book_closed, new_book, with_entry};
+ghost use Rattle.si_checker.specs.Calls.{SeesJournal, issuing};
 
 use crate::{Name, Statuses};
 use si_accept::{AcceptFault, Book};
@@ -81,15 +82,12 @@ impl<N: Name> LockedBook<N> {
         ensures locked_book { OnOk result (self.new ≡ with_entry (entry pass.old.view.number edit) self.old) }
         ensures number { IfOk result (λ number. number.0 ≡ length self.new.journal) }
         ensures free { OnOk result (refusal_after N.limit (edits_of self.old.journal) edit ≡ None) }
-        ensures mine { OnOk result (pass.new ≡ record pass.old { view = with_seen self.new.journal (with_mine (entry pass.old.view.number edit) pass.old.view) }) }
+        ensures ok { OnOk result (SeesJournal N.board self.new.journal (issuing edit pass.old) pass.new) }
         ensures fault { IfErr result (IsFaultOf (refusal_after N.limit (edits_of self.old.journal) edit)) }
         ensures err { OnErr result (self.new ≡ self.old) }
-        ensures sees { OnErr result (pass.new ≡ record pass.old { view = with_seen self.new.journal pass.old.view }) }
+        ensures sees { OnErr result (SeesJournal N.board self.old.journal pass.old pass.new) }
         ensures begins { IsBeginning pass.old.view.seen self.old.journal }
         ensures counted { pass.old.view.count ≤ length self.old.journal }
-        ensures accepted { IsAccepted (edits_of self.new.journal) }
-        ensures made { pass.new.view.mine ≡ made_by pass.new.view.number self.new.journal }
-        ensures bearers { All (λ e. e.by < N.board.passes) self.new.journal }
     {
         let said = Snapshot::of(&edit);
         match self.book.accept(edit) {
@@ -117,13 +115,7 @@ impl<N: Name> LockedBook<N> {
         requires words { words.now ≡ N.board }
         requires own { pass.old.table ≡ N.board.table }
         ensures locked_book { self.new ≡ self.old }
-        ensures sees { pass.new ≡ record pass.old { view = with_seen self.old.journal pass.old.view } }
-        ensures begins { IsBeginning pass.old.view.seen self.old.journal }
-        ensures counted { pass.old.view.count ≤ length self.old.journal }
-        ensures marks { (k : ℕ) → k < N.board.shards → slice_index pass.old.view.marks k ≤ length self.old.journal }
-        ensures accepted { IsAccepted (edits_of self.old.journal) }
-        ensures made { pass.old.view.mine ≡ made_by pass.old.view.number self.old.journal }
-        ensures bearers { All (λ e. e.by < N.board.passes) self.old.journal }
+        ensures sees { SeesJournal N.board self.old.journal pass.old pass.new }
     {
         let seat = &mut self.seat;
         words.see(pass, seat);

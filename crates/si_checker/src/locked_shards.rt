@@ -1,5 +1,5 @@
 //! What lies under the lock of one shard, and what calls do there.
-ghost use Rattle.std.specs.Prelude.{◌≡◌, ◌⊎◌, ℕ, ◌+◌, ◌<◌, ◌≤◌, Bool, true, false, IsTrue, ◌↔◌, ◌++◌, length, take, drop, slice_index, IfOk, OnOk, IfErr, OnErr};
+ghost use Rattle.std.specs.Prelude.{◌≡◌, ℕ, ◌+◌, ◌<◌, ◌≤◌, Bool, true, false, IsTrue, ◌↔◌, ◌++◌, length, take, drop, slice_index, IfOk, OnOk, IfErr, OnErr};
 ghost use Rattle.std.specs.Vec.{vec_len};
 ghost use Rattle.si_model.specs.Journals.{IsAccepted, present};
 ghost use Rattle.si_shard.specs.Laws.{shard_id};
@@ -7,7 +7,7 @@ ghost use Rattle.si_shard.specs.Shards.{findings_in};
 ghost use Rattle.si_words.specs.Entries.{IsBeginning, edits_of};
 ghost use Rattle.si_words.specs.Seats.{seated};
 ghost use Rattle.si_words.specs.Views.{new_shard, shard_closed, shard_counted, with_done, with_due, with_learned};
-ghost use Rattle.si_checker.specs.LockedShards.{stored_by};
+ghost use Rattle.si_checker.specs.LockedShards.{StoresFirst, stored_by};
 ghost use Rattle.si_checker.specs.declared.reports.ReportFault.TheVariants as fault;
 
 use crate::Name;
@@ -309,9 +309,7 @@ impl<N: Name> LockedShard<N> {
 fn store(shard: &mut Shard, edits: Vec<Edit>)
     requires accepted { IsAccepted (shard.old.stored ++ edits.items) }
     requires room { length shard.old.stored + vec_len edits ≤ MOST_EDITS }
-    ensures id { shard.new.id ≡ shard.old.id }
-    ensures stored { (n : ℕ) × (n ≤ vec_len edits) × (shard.new.stored ≡ shard.old.stored ++ take n edits.items) × (shard.new.spoiled ≡ false → (n ≡ vec_len edits) × (shard.old.spoiled ≡ false))
-        × (shard.new.spoiled ≡ true → (n < vec_len edits) ⊎ ((n ≡ 0) × (shard.old.spoiled ≡ true))) }
+    ensures { (n : ℕ) × StoresFirst n edits.items shard.old shard.new }
 {
     accepted_begins();
     shard.look_ahead(&edits);

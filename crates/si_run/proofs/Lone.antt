@@ -7,27 +7,31 @@ use Rattle.si_words.specs.declared.views.Entry.{Entry}
 use Rattle.si_words.specs.declared.views.PassView.{PassView}
 use Rattle.si_words.specs.Entries.{edits_of, entry, made_by}
 use Rattle.si_words.specs.Laws.{LonePassIssuesAll}
-use Rattle.si_words.specs.Views.{with_mine, with_seen}
-use Rattle.si_checker.specs.Calls.{IsSubmitted}
+use Rattle.si_words.specs.Seats.{Board, Seated}
+use Rattle.si_checker.specs.Calls.{IsSubmitted, SeesJournal, issuing}
 
--- the journal that the only pass has seen is its own
-all_mine : (passes : ℕ) (new : PassView) → LonePassIssuesAll → passes ≡ 1 → new.number ≡ 0
-    → All (λ (e : Entry). e.by < passes) new.seen → new.mine ≡ made_by new.number new.seen → new.mine ≡ new.seen
-all_mine passes new law alone first bearers made =
-    made ∙ ap (λ (n : ℕ). made_by n new.seen) first ∙ law new.seen (subst (λ (n : ℕ). All (λ (e : Entry). e.by < n) new.seen) alone bearers)
+module _ (board : Board) (old new : Seated PassView) (law : LonePassIssuesAll) (alone : board.passes ≡ 1) (first : old.view.number ≡ 0) where
+  -- the journal that the only pass has seen is its own
+  pub all_mine : SeesJournal board new.view.seen old new → new.view.mine ≡ new.view.seen
+  all_mine sight =
+      let number : new.view.number ≡ 0 = ap (λ (s : Seated PassView). s.view.number) sight.sees ∙ first in
+      sight.made ∙ ap (λ (n : ℕ). made_by n new.view.seen) number
+      ∙ law new.view.seen (subst (λ (n : ℕ). All (λ (e : Entry). e.by < n) new.view.seen) alone sight.bearers)
 
--- where it was accepted, nothing stood against the edit after what the pass had seen
-pub free : (limit passes : ℕ) (e : Edit) (old new : PassView) → LonePassIssuesAll → passes ≡ 1 → old.number ≡ 0 → old.mine ≡ old.seen
-    → All (λ (x : Entry). x.by < passes) new.seen → new.mine ≡ made_by new.number new.seen → new ≡ with_seen new.seen (with_mine (entry old.number e) old)
-    → IsSubmitted limit e old new → refusal_after limit (edits_of old.seen) e ≡ None
-free limit passes e old new law alone first own bearers made is s =
-    let mine = all_mine passes new law alone (ap (λ (p : PassView). p.number) is ∙ first) bearers made in
-    let grown : new.seen ≡ old.seen ++ entry old.number e ∷ [] =
-    sym mine ∙ ap (λ (p : PassView). p.mine) is ∙ ap (λ (l : List Entry). l ++ entry old.number e ∷ []) own in
-    subst (λ (l : List Entry). refusal_after limit (edits_of l) e ≡ None) (append_cancel_right s.before old.seen (entry old.number e ∷ []) (sym s.last ∙ grown)) s.free
+  -- where it issued nothing, nothing came to what it had seen
+  pub still : old.view.mine ≡ old.view.seen → SeesJournal board new.view.seen old new → new.view.seen ≡ old.view.seen
+  still own sight = sym (all_mine sight) ∙ ap (λ (s : Seated PassView). s.view.mine) sight.sees ∙ own
 
--- where it wasn't, nothing came to what the pass had seen
-pub still : (passes : ℕ) (old new : PassView) → LonePassIssuesAll → passes ≡ 1 → old.number ≡ 0 → old.mine ≡ old.seen
-    → All (λ (x : Entry). x.by < passes) new.seen → new.mine ≡ made_by new.number new.seen → new ≡ with_seen new.seen old → new.seen ≡ old.seen
-still passes old new law alone first own bearers made is =
-    sym (all_mine passes new law alone (ap (λ (p : PassView). p.number) is ∙ first) bearers made) ∙ ap (λ (p : PassView). p.mine) is ∙ own
+-- where its edit was accepted, this alone came
+pub grown : (board : Board) (e : Edit) (old new : Seated PassView) → LonePassIssuesAll → board.passes ≡ 1 → old.view.number ≡ 0 → old.view.mine ≡ old.view.seen
+    → SeesJournal board new.view.seen (issuing e old) new → new.view.seen ≡ old.view.seen ++ entry old.view.number e ∷ []
+grown board e old new law alone first own sight =
+    sym (all_mine board (issuing e old) new law alone first sight) ∙ ap (λ (s : Seated PassView). s.view.mine) sight.sees
+    ∙ ap (λ (l : List Entry). l ++ entry old.view.number e ∷ []) own
+
+-- and nothing stood against the edit after what the pass had seen
+pub free : (limit : ℕ) (board : Board) (e : Edit) (old new : Seated PassView) → LonePassIssuesAll → board.passes ≡ 1 → old.view.number ≡ 0 → old.view.mine ≡ old.view.seen
+    → SeesJournal board new.view.seen (issuing e old) new → IsSubmitted limit e old.view new.view → refusal_after limit (edits_of old.view.seen) e ≡ None
+free limit board e old new law alone first own sight s =
+    subst (λ (l : List Entry). refusal_after limit (edits_of l) e ≡ None)
+    (append_cancel_right s.before old.view.seen (entry old.view.number e ∷ []) (sym s.last ∙ grown board e old new law alone first own sight)) s.free

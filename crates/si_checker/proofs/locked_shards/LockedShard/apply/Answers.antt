@@ -22,7 +22,6 @@ invariant_of-self g c =
     let seat = c.self.inside.seat in
     let edits = c.args.edits in
     let next = subst (λ (b : LockedShardState). edits.items ≡ take (vec_len edits) (drop b.seat.done (edits_of b.seat.due))) (sym c.self.view_is) c.requires.next in
-    let stored = c.store.ensures.stored in
+    let stored = c.store.ensures in
     subst (λ (s : Seated ShardView). IsLockedShard g.N.Name.board c.store.new.shard s) (sym c.publish.ensures)
-    (locked_shard_applied g.N.Name.board c.self.inside.shard c.store.new.shard seat edits.items (vec_len edits) stored.0 c.position.result c.self.invariant next (sym edits.ok.0) c.store.ensures.id stored.1 stored.2
-    c.position.ensures stored.4)
+    (locked_shard_applied g.N.Name.board c.self.inside.shard c.store.new.shard seat edits.items (vec_len edits) stored.0 c.position.result c.self.invariant next (sym edits.ok.0) stored.1 c.position.ensures)

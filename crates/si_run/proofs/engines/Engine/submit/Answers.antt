@@ -4,9 +4,7 @@ use Rattle.si_model.specs.declared.refusals.Refusal.{Refusal}
 use Rattle.si_model.specs.Journals.{refusal_after}
 use Rattle.si_text.specs.declared.reasons.Reason.TheVariants as reason
 use Rattle.si_words.specs.declared.views.Entry.{Entry}
-use Rattle.si_words.specs.declared.views.PassView.{PassView}
 use Rattle.si_words.specs.Entries.{edits_of}
-use Rattle.si_words.specs.Seats.{Seated}
 use Rattle.si_run.specs.Engines.{EngineState}
 use Rattle.si_run.proofs.Lone.{free, still}
 use Rattle.si_run.proofs.engines.Engine.submit.Goals.{in-Ok, in-Err-Refused, in-Err-OutOfMemory}
@@ -14,23 +12,21 @@ use Rattle.si_run.proofs.engines.Engine.submit.Goals as goal
 
 pub returns-clause-reason : goal.returns-clause-reason
 returns-clause-reason g c =
-    let old = c.self.inside.pass.view in
-    let new = c.submit.new.pass.view in
+    let old = c.self.inside.pass in
+    let new = c.submit.new.pass in
+    let board = g.N.Name.board in
     let law = c.lone_pass_issues_all.ensures in
     let own = c.self.invariant in
-    let made = c.submit.ensures.made in
     let Reason_is : Option reason.the_data → Type 0 =
     λ r. r ≡ option_map (λ (x : Refusal). reason.Refused x) (refusal_after c.args.self.now.terms.limit c.args.self.now.progress.journal c.args.edit) in
-    let is : (r : Option Refusal) → refusal_after g.N.Name.limit (edits_of old.seen) c.args.edit ≡ r → Reason_is (option_map (λ (x : Refusal). reason.Refused x) r) =
+    let is : (r : Option Refusal) → refusal_after g.N.Name.limit (edits_of old.view.seen) c.args.edit ≡ r → Reason_is (option_map (λ (x : Refusal). reason.Refused x) r) =
     λ r e. sym (ap (option_map (λ (x : Refusal). reason.Refused x)) (subst (λ (s : EngineState). refusal_after s.terms.limit s.progress.journal c.args.edit ≡ r) c.self.view_is e)) in
     elim c.match-submit.branch [
-      | in-Ok w ↦ rw w.result-is (is None (free g.N.Name.limit g.N.Name.board.passes c.args.edit old new law own.alone own.number own.own c.submit.ensures.bearers made
-          (ap (λ (s : Seated PassView). s.view) w.in-Ok.ensures.ok) w.in-Ok.ensures.submitted))
+      | in-Ok w ↦ rw w.result-is (is None (free g.N.Name.limit board c.args.edit old new law own.alone own.number own.own w.in-Ok.ensures.ok w.in-Ok.ensures.submitted))
       | in-Err-Refused w ↦ (
-          let fault : refusal_after g.N.Name.limit (edits_of new.seen) c.args.edit ≡ Some w.in-Err-Refused.refusal = search rules in
+          let fault : refusal_after g.N.Name.limit (edits_of new.view.seen) c.args.edit ≡ Some w.in-Err-Refused.refusal = search rules in
           rw w.result-is (is (Some w.in-Err-Refused.refusal) (ap (λ (l : List Entry). refusal_after g.N.Name.limit (edits_of l) c.args.edit)
-          (sym (still g.N.Name.board.passes old new law own.alone own.number own.own c.submit.ensures.bearers made (ap (λ (s : Seated PassView). s.view) w.in-Err-Refused.ensures.err)))
-          ∙ fault))
+          (sym (still board old new law own.alone own.number own.own w.in-Err-Refused.ensures.err)) ∙ fault))
           )
       | in-Err-OutOfMemory w ↦ rw w.result-is tt
     ]
