@@ -23,10 +23,9 @@ use crate::reports::{Report, ReportFault, SettledFindings, ShardReport, Statuses
 use crate::{AcceptFault, Name};
 use si_accept::Book;
 use si_graph::laws::emptiness_is_exact;
-use si_model::laws::{order_is_strict, present_is_history};
-use si_model::sorting::put_in_order;
+use si_model::laws::present_is_history;
 use si_model::{Edit, Finding, MOST_EDITS, Number, OutOfMemory};
-use si_shard::laws::findings_are_of_shards;
+use si_shard::put_all_in_order;
 use si_words::{Pass, ShardSeat, Words};
 use std::alloc::{AllocError, Global};
 use std::hash::RandomState;
@@ -264,9 +263,7 @@ impl<N: Name> Checker<N> {
         for k in 0..self.locked_shards.len() {
             self.settle_shard(rt, locked_book, k, &mut found)?;
         }
-        order_is_strict();
-        put_in_order(&mut found);
-        findings_are_of_shards();
+        put_all_in_order(&mut found);
         present_is_history();
         emptiness_is_exact();
         let _accepted = locked_book.journal();

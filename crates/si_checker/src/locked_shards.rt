@@ -151,7 +151,7 @@ impl<N: Name> LockedShard<N> {
         edits_keep_length();
     }
 
-    /// The shard is due the whole journal, applies what is left of it and publishes that, unless nothing is left.
+    /// The shard is due the whole journal, applies what is left of it and publishes how far it came.
     ///
     /// Where it is spoiled, by this or before, it has applied no more than before.
     ///
@@ -173,16 +173,8 @@ impl<N: Name> LockedShard<N> {
         ensures spoiled { OnErr result (self.new ≡ record self.old { seat = with_due locked_book.old.journal self.old.seat; spoiled = true }) }
     {
         self.pull(words, locked_book);
-        let number = self.seat.number();
-        if self.shard.is_spoiled() {
-            return Err(ReportFault::Spoiled(number));
-        }
-        let left = &locked_book.journal()[self.shard.position() as usize..];
-        if left.is_empty() {
-            return Ok(());
-        }
-        if self.shard.apply_all(left).is_err() {
-            return Err(ReportFault::Spoiled(number));
+        if self.shard.catch_up(locked_book.journal()).is_err() {
+            return Err(ReportFault::Spoiled(self.seat.number()));
         }
         words.publish(&mut self.seat, self.shard.position());
         Ok(())
