@@ -1,6 +1,6 @@
 -- What is said of sources holds of the files that they were opened from, as far as these are known.
 use Rattle.std.proofs.Common.{◌≡◌, inl, inr, ℕ, zero, suc, ◌+◌, ◌<◌, ◌≤◌, Bool, List, [], ◌∷◌, ◌++◌, map, length, take, Option, Some, None, All, false, refl, sym, ap, subst, ◌∙◌, arith}
-use Rattle.std.specs.Prelude.{Result, Ok, Err, IfOk, OnOk, IfErr, OnErr, slice_index_or}
+use Rattle.std.specs.Prelude.{Result, Ok, Err, slice_index_or}
 use Rattle.std.specs.Option.{option_map}
 use Rattle.std.specs.Io.KnownBytes.{Keeps}
 use Rattle.std.specs.Borrow.{Bor}
@@ -12,8 +12,9 @@ use Rattle.si_run.specs.declared.options.Options.{Options}
 use Rattle.si_run.specs.declared.statuses.ExitStatus.{ExitStatus}
 use Rattle.si_run.specs.declared.faults.RunFault.{RunFault}
 use Rattle.si_run.specs.declared.faults.RunFault.TheVariants as fault
+use Rattle.si_run.specs.Endings.{Ends}
 use Rattle.si_run.specs.Outputs.{Terms}
-use Rattle.si_run.specs.Runs.{BeginsSome, BeginsText, IsRunnable, IsTrueDeviceFault, IsTrueFault, MayBeTooLong, WritesBeginning, WritesOutput, WritesSome, WritesText, all_known, terms_by}
+use Rattle.si_run.specs.Runs.{BeginsSome, BeginsText, IsRunnable, IsTrueDeviceFault, MayBeTooLong, WritesBeginning, WritesOutput, WritesSome, WritesText, all_known, terms_by}
 use Rattle.si_run.specs.Takings.{Device}
 use Rattle.si_run.proofs.InRange.{device_fault}
 use Rattle.si_cli.specs.Openings.{HoldFiles}
@@ -106,20 +107,11 @@ all_images f P [] each k d below = absurd (omega arith)
 all_images f P (x ∷ xs) each zero d below = each x
 all_images f P (x ∷ xs) each (suc k) d below = all_images f P xs each k d (omega arith)
 
-pub all_mapped : {X : Type 0} (f : X → Bool) (P : Bool → Type 0) (xs : List X) → All (λ x. P (f x)) xs → All P (map f xs)
-all_mapped f P [] each k d below = absurd (omega arith)
-all_mapped f P (x ∷ xs) each zero d below = each zero x (omega arith)
-all_mapped f P (x ∷ xs) each (suc k) d below = all_mapped f P xs (λ i e within. each (suc i) e (omega arith)) k d (omega arith)
-
 -- a run whose end is told is a check that ends so
-pub run_told : {S : Type 0} (has_failed : S → Bool) (inputs : List S) (options : Options) (lefts : List (Option (List ℕ))) (out err : Device) (result : ℕ) (ended : Result ExitStatus RunFault)
-    → IsRunnable options → IfOk ended (WritesText (terms_by options) lefts out.before out.after)
-    → OnOk ended (All (λ s. has_failed s ≡ false) inputs × (out.failed ≡ false)) → OnErr ended (BeginsText (terms_by options) lefts out.before out.after)
-    → IfErr ended (IsTrueFault options lefts (map has_failed inputs) out.failed) → IsToldOf ended err result → EndsCheck (terms_by options) lefts (map has_failed inputs) out err result
-run_told has_failed inputs options lefts out err result (Ok status) r text works part true_fault told =
-    inl (status, told.0, text, all_mapped has_failed (λ (f : Bool). f ≡ false) inputs works.0, works.1, told.1)
-run_told has_failed inputs options lefts out err result (Err f) r text works part true_fault told =
-    inr (f, device_fault options lefts (map has_failed inputs) out.failed f r true_fault, part, told)
+pub run_told : (options : Options) (lefts : List (Option (List ℕ))) (failed : List Bool) (out err : Device) (result : ℕ) (ended : Result ExitStatus RunFault)
+    → IsRunnable options → Ends options lefts failed out ended → IsToldOf ended err result → EndsCheck (terms_by options) lefts failed out err result
+run_told options lefts failed out err result (Ok status) r ends told = inl (status, told.0, ends.output, ends.works.0, ends.works.1, told.1)
+run_told options lefts failed out err result (Err f) r ends told = inr (f, device_fault options lefts failed out.failed f r ends.fault, ends.part, told)
 
 -- ---- while files are opened
 

@@ -7,7 +7,7 @@ use Rattle.si_intake.specs.declared.items.Item.{Item}
 
 -- a line may be followed by more, and anything else is the last that its source tells
 abbrev pub is_closing : What → Bool
-is_closing (Line number edit) = false
+is_closing (Line item) = false
 is_closing ReadFault = true
 is_closing NoMemory = true
 is_closing End = true

@@ -2,14 +2,13 @@
 ghost use Rattle.std.specs.Prelude.{◌≡◌};
 ghost use Rattle.si_intake.specs.Items.{is_last};
 
-use si_model::Edit;
-use si_text::LineFault;
+use si_text::LineItem;
 
 /// What a source has to tell.
 #[derive(Debug, PartialEq, Drop)]
 pub enum What {
-    /// The line of this number, read as an edit, or what is wrong with it.
-    Line(u64, Result<Edit, LineFault>),
+    /// A line: its number, and its edit or what is wrong with it.
+    Line(LineItem),
     /// The source could not be read on. It is the source's last item.
     ReadFault,
     /// Memory was refused at the source. It is the source's last item.

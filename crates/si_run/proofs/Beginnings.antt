@@ -10,8 +10,7 @@ use Rattle.si_intake.specs.declared.items.What.{What}
 use Rattle.si_intake.specs.declared.items.What.TheVariants.{Line, ReadFault, NoMemory, End}
 use Rattle.std.specs.Prelude.{Result, Ok, Err, IfOk, OnOk, IfErr}
 use Rattle.std.specs.List.{cons_option}
-use Rattle.si_model.specs.declared.edits.Edit.{Edit}
-use Rattle.si_text.specs.declared.faults.LineFault.{LineFault}
+use Rattle.si_text.specs.Inputs.{Item}
 use Rattle.si_run.specs.declared.statuses.ExitStatus.{ExitStatus}
 use Rattle.si_run.specs.declared.faults.RunFault.{RunFault}
 use Rattle.si_run.specs.declared.faults.RunFault.TheVariants as fault
@@ -85,17 +84,17 @@ no_more_faults : (taken : List Told) (t : Told) → has_fault taken ≡ false �
 no_more_faults taken t e f = list_any-append (λ (i : Told). is_fault i.what) taken (t ∷ []) ∙ or_both (has_fault taken) (is_fault t.what || false) e (or_both (is_fault t.what) false f refl)
 
 -- a line was taken, decided and its text written
-pub line_decided : (terms : Terms) (taken : List Told) (old mid new : Option (List ℕ)) (p q : Progress) (source number : ℕ) (answer : Result Edit LineFault) (text : List ℕ)
-    → IsDecided terms taken old mid p → Appends mid new text → text ≡ item_text terms p (sourced source (number, answer)) → q ≡ progress_after terms p (sourced source (number, answer))
-    → IsDecided terms (taken ++ told source (Line number answer) ∷ []) old new q
-line_decided terms taken old mid new p q source number answer text way adds text_is q_is =
-    let line : SourcedItem = sourced source (number, answer) in
-    let lines : lines_among (taken ++ told source (Line number answer) ∷ []) ≡ lines_among taken ++ line ∷ [] = filter_map-append line_of taken (told source (Line number answer) ∷ []) in
-    let texts : items_text terms start (lines_among (taken ++ told source (Line number answer) ∷ [])) ≡ items_text terms start (lines_among taken) ++ text =
+pub line_decided : (terms : Terms) (taken : List Told) (old mid new : Option (List ℕ)) (p q : Progress) (source : ℕ) (item : Item) (text : List ℕ)
+    → IsDecided terms taken old mid p → Appends mid new text → text ≡ item_text terms p (sourced source item) → q ≡ progress_after terms p (sourced source item)
+    → IsDecided terms (taken ++ told source (Line item) ∷ []) old new q
+line_decided terms taken old mid new p q source item text way adds text_is q_is =
+    let line : SourcedItem = sourced source item in
+    let lines : lines_among (taken ++ told source (Line item) ∷ []) ≡ lines_among taken ++ line ∷ [] = filter_map-append line_of taken (told source (Line item) ∷ []) in
+    let texts : items_text terms start (lines_among (taken ++ told source (Line item) ∷ [])) ≡ items_text terms start (lines_among taken) ++ text =
     ap (items_text terms start) lines ∙ items_text-push terms start (lines_among taken) line
     ∙ ap (λ t. items_text terms start (lines_among taken) ++ t) (ap (λ r. item_text terms r line) (sym way.progress) ∙ sym text_is) in
     record {
-      faultless = no_more_faults taken (told source (Line number answer)) way.faultless refl;
+      faultless = no_more_faults taken (told source (Line item)) way.faultless refl;
       wrote = subst (Appends old new) (sym texts) (Appends-trans old mid new (items_text terms start (lines_among taken)) text way.wrote adds);
       progress = q_is ∙ ap (λ r. progress_after terms r line) way.progress ∙ sym (progress_through-push terms start (lines_among taken) line) ∙ ap (progress_through terms start) (sym lines);
     }
@@ -133,17 +132,17 @@ more_begun terms lines all next old new is begun = λ more.
     subst (λ (l : List SourcedItem). AppendsBeginning old new (output_of terms l)) (sym (ap (λ (l : List SourcedItem). l ++ more) is ∙ append_assoc lines next more)) (begun (next ++ more))
 
 -- a part of the text of one more line was written
-pub stops_in_line : (terms : Terms) (taken : List Told) (old mid new : Option (List ℕ)) (p : Progress) (source number : ℕ) (answer : Result Edit LineFault) (text : List ℕ)
-    → IsDecided terms taken old mid p → AppendsBeginning mid new text → text ≡ item_text terms p (sourced source (number, answer))
-    → IsBegun terms (lines_among (taken ++ told source (Line number answer) ∷ [])) old new
-stops_in_line terms taken old mid new p source number answer text way part text_is = λ more.
-    let line : SourcedItem = sourced source (number, answer) in
+pub stops_in_line : (terms : Terms) (taken : List Told) (old mid new : Option (List ℕ)) (p : Progress) (source : ℕ) (item : Item) (text : List ℕ)
+    → IsDecided terms taken old mid p → AppendsBeginning mid new text → text ≡ item_text terms p (sourced source item)
+    → IsBegun terms (lines_among (taken ++ told source (Line item) ∷ [])) old new
+stops_in_line terms taken old mid new p source item text way part text_is = λ more.
+    let line : SourcedItem = sourced source item in
     let q = progress_after terms p line in
     let next : rest_of terms p (line ∷ more) ≡ text ++ rest_of terms q more =
     append_assoc (item_text terms p line) (items_text terms q more) (report_at terms (progress_through terms q more))
     ∙ ap (λ t. t ++ rest_of terms q more) (sym text_is) in
-    let lines : lines_among (taken ++ told source (Line number answer) ∷ []) ++ more ≡ lines_among taken ++ line ∷ more =
-    ap (λ (l : List SourcedItem). l ++ more) (filter_map-append line_of taken (told source (Line number answer) ∷ [])) ∙ append_assoc (lines_among taken) (line ∷ []) more in
+    let lines : lines_among (taken ++ told source (Line item) ∷ []) ++ more ≡ lines_among taken ++ line ∷ more =
+    ap (λ (l : List SourcedItem). l ++ more) (filter_map-append line_of taken (told source (Line item) ∷ [])) ∙ append_assoc (lines_among taken) (line ∷ []) more in
     subst (λ (l : List SourcedItem). AppendsBeginning old new (output_of terms l)) (sym lines)
     (begun terms old mid new (lines_among taken) (line ∷ more) p text (rest_of terms q more) way.wrote way.progress part next)
 
@@ -189,9 +188,9 @@ cut_begun terms taken old new w q f cut = subst (λ (l : List Told). IsBegun ter
         (subst (λ (x : Option (List ℕ)). IsBegun terms (lines_among cut.before) old x) (sym same) (stops terms cut.before old cut.mid cut.p cut.decided))
 
     by : (what : What) → IsMetAt terms cut.p source what cut.mid new w q f → IsBegun terms (lines_among (cut.before ++ told source what ∷ [])) old new
-    by (Line number answer) m =
-        let text = item_text terms cut.p (sourced source (number, answer)) in
-        stops_in_line terms cut.before old cut.mid new cut.p source number answer text cut.decided (unwritten_begins cut.mid new w text f m.0) refl
+    by (Line item) m =
+        let text = item_text terms cut.p (sourced source item) in
+        stops_in_line terms cut.before old cut.mid new cut.p source item text cut.decided (unwritten_begins cut.mid new w text f m.0) refl
     by ReadFault m = quiet ReadFault refl m.2
     by NoMemory m = quiet NoMemory refl m.2
     by End m = absurd m

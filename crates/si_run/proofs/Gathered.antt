@@ -1,8 +1,7 @@
 -- The ends of a run: those that were opened, and what is known once all is taken.
-use Rattle.std.proofs.Common.{◌≡◌, ⊎_elim, ℕ, zero, suc, ◌<◌, Bool, false, List, [], ◌∷◌, ◌++◌, map, length, take, drop, Option, Some, All, refl, sym, ap, subst, ◌∙◌, arith, append-nil}
-use Rattle.std.specs.Prelude.{Result, Ok, Err, IfOk, OnOk, IfErr, OnErr}
-use Rattle.std.proofs.Math.ListN.{get_or-map}
-use Rattle.std.proofs.lemmas.List.{drop_all, length-map, take_all}
+use Rattle.std.proofs.Common.{◌≡◌, ⊎_elim, ℕ, zero, suc, ◌<◌, Bool, false, List, [], ◌∷◌, ◌++◌, length, take, drop, Option, Some, All, refl, sym, ap, subst, ◌∙◌, arith, append-nil}
+use Rattle.std.specs.Prelude.{Result, Ok, Err}
+use Rattle.std.proofs.lemmas.List.{drop_all, take_all}
 use Rattle.std.proofs.lemmas.List.Elements.{All-append}
 use Rattle.std.specs.Prelude.{slice_get, slice_index_or}
 use Rattle.std.proofs.lemmas.Option.{same_Some, slice_get-get_or, slice_get_within}
@@ -13,8 +12,9 @@ use Rattle.si_run.specs.declared.faults.RunFault.{RunFault}
 use Rattle.si_run.specs.declared.faults.RunFault.TheVariants as fault
 use Rattle.si_run.specs.Outputs.{Progress, Terms}
 use Rattle.si_run.specs.Readings.{AreRead}
-use Rattle.si_run.specs.Runs.{BeginsText, IsTrueDeviceFault, WritesText}
-use Rattle.si_run.specs.Takings.{Device, IsNotBegun, IsRunThrough, IsStopped}
+use Rattle.si_run.specs.Endings.{EndsOpened}
+use Rattle.si_run.specs.Runs.{BeginsText, IsTrueDeviceFault}
+use Rattle.si_run.specs.Takings.{Device, IsNotBegun, IsRunThrough, IsStopped, device}
 use Rattle.si_run.proofs.Interleaved.{AreTaken, all_worked, finished, met, nothing_begun, stopped}
 
 -- the ends keep their places and numbers while their inputs are read, and so does the accepter
@@ -79,32 +79,29 @@ unbegun_true out q (fault.Open opening) lefts failed m = m
 unbegun_true out q fault.Output lefts failed m = absurd m
 unbegun_true out q fault.Memory lefts failed m = m.1
 
-module _ (terms : Terms) (old new : Accepting) (out : Device) (q : Progress) where
-  pub ran_ok : (result : Result ExitStatus RunFault) (lefts : List (Option (List ℕ))) (failed : List Bool) (olds news : List Putting)
-      → AreTaken lefts failed olds news new.taken → IsRunThrough terms old new out q result → IfOk result (WritesText terms lefts out.before out.after)
-  ran_ok (Ok status) lefts failed olds news t a = finished terms lefts failed olds news new.taken out.before out.after q status t a.ok
-  ran_ok (Err f) lefts failed olds news t a = tt
-
-  pub ran_works : {S : Type 0} (has_failed : S → Bool) (inputs : List S) (result : Result ExitStatus RunFault) (lefts : List (Option (List ℕ))) (olds news : List Putting)
-      → AreTaken lefts (map has_failed inputs) olds news new.taken → IsRunThrough terms old new out q result → length (map has_failed inputs) ≡ length lefts
-      → OnOk result (All (λ (s : S). has_failed s ≡ false) inputs × (out.failed ≡ false))
-  ran_works has_failed inputs (Ok status) lefts olds news t a many =
-      let each = all_worked lefts (map has_failed inputs) olds news new.taken t a.ok.faultless many in
-      (λ k d below. sym (get_or-map has_failed inputs k d) ∙ each k (has_failed d) (omega (arith, length-map inputs has_failed)), a.works)
-  ran_works has_failed inputs (Err f) lefts olds news t a many = tt
-
-  pub ran_err : (result : Result ExitStatus RunFault) (lefts : List (Option (List ℕ))) (failed : List Bool) (olds news : List Putting)
-      → AreTaken lefts failed olds news new.taken → IsRunThrough terms old new out q result → OnErr result (BeginsText terms lefts out.before out.after)
-  ran_err (Ok status) lefts failed olds news t a = tt
-  ran_err (Err f) lefts failed olds news t a = ⊎_elim
+-- what the threads did together is what a run does
+pub ran : (terms : Terms) (old new : Accepting) (out : Device) (q : Progress) (result : Result ExitStatus RunFault) (lefts : List (Option (List ℕ))) (failed : List Bool) (olds news : List Putting)
+    → AreTaken lefts failed olds news new.taken → IsRunThrough terms old new out q result → length failed ≡ length lefts → EndsOpened terms lefts failed out result
+ran terms old new out q (Ok status) lefts failed olds news t a many = record {
+  output = finished terms lefts failed olds news new.taken out.before out.after q status t a.ok;
+  works = (all_worked lefts failed olds news new.taken t a.ok.faultless many, a.works);
+  part = tt;
+  fault = tt;
+}
+ran terms old new out q (Err f) lefts failed olds news t a many = record {
+  output = tt;
+  works = tt;
+  part = ⊎_elim
       (λ (s : IsStopped terms new.taken out.before out.after out.failed q f). stopped terms lefts failed olds news new.taken out.before out.after out.failed q f t s)
       (λ (n : IsNotBegun out q f). unbegun terms out q f lefts n)
-      a.err
-
-  pub ran_fault : (result : Result ExitStatus RunFault) (lefts : List (Option (List ℕ))) (failed : List Bool) (olds news : List Putting)
-      → AreTaken lefts failed olds news new.taken → IsRunThrough terms old new out q result → IfErr result (IsTrueDeviceFault lefts failed out.failed)
-  ran_fault (Ok status) lefts failed olds news t a = tt
-  ran_fault (Err f) lefts failed olds news t a = ⊎_elim
+      a.err;
+  fault = ⊎_elim
       (λ (s : IsStopped terms new.taken out.before out.after out.failed q f). met terms lefts failed olds news new.taken out.before out.after out.failed q f t s)
       (λ (n : IsNotBegun out q f). unbegun_true out q f lefts failed n)
-      a.err
+      a.err;
+}
+
+-- a run that was refused memory before its threads began
+pub refused : (terms : Terms) (lefts : List (Option (List ℕ))) (failed : List Bool) (written : Option (List ℕ)) (writer_failed : Bool) → writer_failed ≡ false
+    → EndsOpened terms lefts failed (device written written writer_failed) (Err fault.Memory)
+refused terms lefts failed written writer_failed works = record { output = tt; works = tt; part = nothing_begun terms lefts written; fault = works }

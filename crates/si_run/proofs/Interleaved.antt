@@ -248,7 +248,7 @@ cut_true terms lefts failed olds news taken met dropped old new w q f t order cu
         (Contains-append_left (cut.before ++ cut.last ∷ []) dropped cut.last (Contains-append_right cut.before (cut.last ∷ []) cut.last (here cut.last [])))
 
     by : (what : What) → cut.last.what ≡ what → IsMetAt terms cut.p source what cut.mid new w q f → IsTrueDeviceFault lefts failed w f
-    by (Line number answer) is m = unwritten_true lefts failed cut.mid new w (item_text terms cut.p (sourced source (number, answer))) f m.0
+    by (Line item) is m = unwritten_true lefts failed cut.mid new w (item_text terms cut.p (sourced source item)) f m.0
     by ReadFault is m =
         let true_fault = told_true lefts failed olds news taken source t (subst (λ (x : What). Contains taken (told source x)) is here_last) in
         subst (IsTrueDeviceFault lefts failed w) (sym m.0) (true_fault.0, m.1, true_fault.1)

@@ -1,7 +1,6 @@
 -- The lines among what was taken, by their sources.
 use Rattle.std.proofs.Common.{◌≡◌, ◌≢◌, ⊎_elim, ℕ, zero, suc, ◌<◌, ◌≤◌, ◌==◌, Bool, true, false, ◌||◌, cond, List, [], ◌∷◌, ◌++◌, Option, Some, None, refl, sym, ap, ◌∙◌, subst, arith, append-nil, eq-eqb, ne_eqb}
 use Rattle.std.specs.List.{Contains, cons_option}
-use Rattle.std.specs.Prelude.{Result}
 use Rattle.std.proofs.lemmas.List.Elements.{filter-append, Contains-append_cases}
 use Rattle.std.proofs.lemmas.Option.{none-some, same_Some}
 use Rattle.si_lists.proofs.Members.{Contains-from_map, Contains-from_filter_map, Contains-nil, here, there}
@@ -10,8 +9,6 @@ use Rattle.si_intake.specs.declared.items.Item.{Item as Told}
 use Rattle.si_intake.specs.declared.items.What.{What}
 use Rattle.si_intake.specs.declared.items.What.TheVariants.{Line, ReadFault, NoMemory, End}
 use Rattle.si_intake.specs.Items.{of_source}
-use Rattle.si_model.specs.declared.edits.Edit.{Edit}
-use Rattle.si_text.specs.declared.faults.LineFault.{LineFault}
 use Rattle.si_text.specs.Inputs.{Item}
 use Rattle.si_run.specs.Outputs.{SourcedItem, from_source, sourced}
 use Rattle.si_run.specs.Interleavings.{comes_from, items_from}
@@ -35,16 +32,16 @@ one_more s source what taken before = by what
       | false ↦ before
     ]
 
-    one : (number : ℕ) (answer : Result Edit LineFault) → items_from s ((source, (number, answer)) ∷ rest) ≡ lines_among (cond (source == s) (told source (Line number answer) ∷ own) own)
-    one number answer =
-        let line : SourcedItem = (source, (number, answer)) in
-        elim (source == s) as (λ b. cond b (line ∷ items_from s rest) (items_from s rest) ≡ lines_among (cond b (told source (Line number answer) ∷ own) own)) [
+    one : (item : Item) → items_from s (sourced source item ∷ rest) ≡ lines_among (cond (source == s) (told source (Line item) ∷ own) own)
+    one item =
+        let line : SourcedItem = sourced source item in
+        elim (source == s) as (λ b. cond b (line ∷ items_from s rest) (items_from s rest) ≡ lines_among (cond b (told source (Line item) ∷ own) own)) [
           | true ↦ ap (λ (l : List SourcedItem). line ∷ l) before
           | false ↦ before
         ]
 
     by : (other : What) → items_from s (cons_option (line_told source other) rest) ≡ lines_among (cond (source == s) (told source other ∷ own) own)
-    by (Line number answer) = one number answer
+    by (Line item) = one item
     by ReadFault = none ReadFault refl
     by NoMemory = none NoMemory refl
     by End = none End refl
@@ -72,7 +69,7 @@ lines_within n taken within line c =
     subst (λ (k : ℕ). k < n) (by m.0.what m.0.source m.2) (within m.0 m.1)
   where
     by : (what : What) (source : ℕ) → line_told source what ≡ Some line → source ≡ line.0
-    by (Line number answer) source e = ap (λ (i : SourcedItem). i.0) (same_Some (source, (number, answer)) line e)
+    by (Line item) source e = ap (λ (i : SourcedItem). i.0) (same_Some (sourced source item) line e)
     by ReadFault source e = absurd (none-some line e)
     by NoMemory source e = absurd (none-some line e)
     by End source e = absurd (none-some line e)

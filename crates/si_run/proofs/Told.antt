@@ -54,7 +54,7 @@ split bytes failed old new r = by r.last (put_is (Some bytes) failed old new r) 
     s = old.source
 
     by : (last : What) → new.put ≡ told_then s r.items last → EndsSo (Some bytes) failed r.items last → IsSplit bytes s new.put
-    by (Line number answer) puts ends = absurd ends
+    by (Line item) puts ends = absurd ends
     by ReadFault puts ends = record {
       done = r.items;
       rest = ends.0.0;
@@ -82,7 +82,7 @@ pub has_worked : (left : Option (List ℕ)) (failed : Bool) (old new : Putting) 
 has_worked left failed old new r none = by r.last (sym (fault_is old.source r.items r.last new.put (put_is left failed old new r)) ∙ none) r.ends
   where
     by : (last : What) → is_fault last ≡ false → EndsSo left failed r.items last → failed ≡ false
-    by (Line number answer) fine ends = absurd ends
+    by (Line item) fine ends = absurd ends
     by ReadFault fine ends = absurd (true≢false fine)
     by NoMemory fine ends = absurd (true≢false fine)
     by End fine ends = ends.1
@@ -96,13 +96,13 @@ told_fault left failed old new s r c =
     (Contains-append_cases (map (told_item old.source) r.items) (told old.source r.last ∷ []) (told s ReadFault) (subst (λ (l : List Told). Contains l (told s ReadFault)) (put_is left failed old new r) c))
   where
     is_read_fault : What → Bool
-    is_read_fault (Line number answer) = false
+    is_read_fault (Line item) = false
     is_read_fault ReadFault = true
     is_read_fault NoMemory = false
     is_read_fault End = false
 
     by : (last : What) → last ≡ ReadFault → EndsSo left failed r.items last → (failed ≡ true) ⊎ MayBeTooLong left
-    by (Line number answer) is ends = absurd ends
+    by (Line item) is ends = absurd ends
     by ReadFault is ends = ends.1
     by NoMemory is ends = absurd (true≢false (sym (ap is_read_fault is)))
     by End is ends = absurd (true≢false (sym (ap is_read_fault is)))

@@ -3,6 +3,7 @@ pub mod Interleavings
 pub mod Runs
 pub mod Readings
 pub mod Takings
+pub mod Endings
 pub mod Faults
 pub mod Engines
 pub mod Laws

@@ -19,6 +19,8 @@ use Rattle.si_text.specs.declared.verdicts.Verdict.{Verdict}
 use Rattle.si_text.specs.declared.verdicts.Verdict.TheVariants as verdict
 use Rattle.si_text.specs.Inputs.{Item}
 use Rattle.si_text.specs.Texts.{changes_text, finding_lines, refused_text, report_text, short_text, summary_text, verdict_of, violations_of}
+use Rattle.si_run.specs.declared.engines.Decision.{Decision}
+use Rattle.si_run.specs.declared.engines.Decision.TheVariants as decision
 use Rattle.si_run.specs.declared.statuses.ExitStatus.{ExitStatus}
 use Rattle.si_run.specs.declared.statuses.ExitStatus.TheVariants as exit
 
@@ -73,6 +75,11 @@ journal_after limit journal (Err fault) = journal
 abbrev pub counted : ℕ → Option Reason → ℕ
 counted refused None = refused
 counted refused (Some reason) = refused + 1
+
+-- what becomes of an item that was decided, for this reason against it or for none
+abbrev pub decision_by : Option Reason → Decision
+decision_by None = decision.Accepted
+decision_by (Some reason) = decision.Refused
 
 -- whether a report comes after so many decided items
 abbrev pub is_due : Option ℕ → ℕ → Bool

@@ -13,7 +13,7 @@ told source what = record { source = source; what = what }
 
 -- what it tells of an item
 abbrev pub told_item : ℕ → Item → Told
-told_item source item = told source (Line item.0 item.1)
+told_item source item = told source (Line item)
 
 -- these are all items of the input, where its bytes are known
 abbrev pub AreAll : Option (List ℕ) → List Item → Type 0
@@ -27,7 +27,7 @@ AreFirst (Some bytes) items = (rest : List Item) × (items_of bytes ≡ items ++
 
 -- behind these items the input ends so: at its end or since memory was refused, where it hasn't failed; or with a fault, where it has or is too long
 abbrev pub EndsSo : Option (List ℕ) → Bool → List Item → What → Type 0
-EndsSo left failed items (Line number answer) = ⊥
+EndsSo left failed items (Line item) = ⊥
 EndsSo left failed items ReadFault = AreFirst left items × ((failed ≡ true) ⊎ MayBeTooLong left)
 EndsSo left failed items NoMemory = AreFirst left items × (failed ≡ false)
 EndsSo left failed items End = AreAll left items × (failed ≡ false)

@@ -14,7 +14,7 @@ use Rattle.si_run.specs.Runs.{AppendsBeginning, IsUnwritten}
 
 -- the item of a line, if it is one
 abbrev pub line_told : ℕ → What → Option SourcedItem
-line_told source (Line number answer) = Some (source, (number, answer))
+line_told source (Line item) = Some (sourced source item)
 line_told source ReadFault = None
 line_told source NoMemory = None
 line_told source End = None
@@ -28,7 +28,7 @@ lines_among items = filter_map line_of items
 
 -- a source that tells this couldn't be read to its end
 abbrev pub is_fault : What → Bool
-is_fault (Line number answer) = false
+is_fault (Line item) = false
 is_fault ReadFault = true
 is_fault NoMemory = true
 is_fault End = false
@@ -74,7 +74,7 @@ IsUndone terms p item old new writer_failed q f = IsUnwritten old new writer_fai
 -- the fault was met at what this source told, from these decisions on: at a line it is one of the checker's own memory or of the writer; else it is the
 -- one that the source told, and nothing more was decided or written
 abbrev pub IsMetAt : Terms → Progress → ℕ → What → Option (List ℕ) → Option (List ℕ) → Bool → Progress → RunFault → Type 0
-IsMetAt terms p source (Line number answer) old new writer_failed q f = IsUndone terms p (sourced source (number, answer)) old new writer_failed q f
+IsMetAt terms p source (Line item) old new writer_failed q f = IsUndone terms p (sourced source item) old new writer_failed q f
 IsMetAt terms p source ReadFault old new writer_failed q f = (f ≡ fault.Input source) × (writer_failed ≡ false) × (new ≡ old) × (q ≡ p)
 IsMetAt terms p source NoMemory old new writer_failed q f = (f ≡ fault.Memory) × (writer_failed ≡ false) × (new ≡ old) × (q ≡ p)
 IsMetAt terms p source End old new writer_failed q f = ⊥

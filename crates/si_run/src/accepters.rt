@@ -7,7 +7,7 @@ ghost use Rattle.si_run.specs.Outputs.{item_text, progress_after, report_at, sou
 ghost use Rattle.si_run.specs.Runs.{IsUnwritten};
 ghost use Rattle.si_run.specs.Takings.{IsAccepted, IsCutOff, IsDecided, IsUndone, device};
 
-use crate::engines::Engine;
+use crate::engines::{Decision, Engine};
 use crate::sessions::Session;
 use crate::writing::write_all;
 use crate::{ExitStatus, RunFault};
@@ -67,8 +67,8 @@ fn decide_all<N: Name, R: Wait, W: ByteSink, G: Gate>(
             return Ok(());
         };
         match what {
-            What::Line(line, answer) => {
-                decide_line(rt, session, text, engine, source, (line, answer), writer)?;
+            What::Line(item) => {
+                decide_line(rt, session, text, engine, source, item, writer)?;
             }
             What::ReadFault => return Err(RunFault::Input(source)),
             What::NoMemory => return Err(RunFault::Memory),
@@ -100,12 +100,10 @@ fn decide_line<N: Name, R: Wait, W: ByteSink, G: Gate>(
     ensures works { OnOk result (W.failed writer.new ≡ false) }
     ensures err { IfErr result (IsUndone engine.old.terms engine.old.progress (sourced source item) (W.written writer.old) (W.written writer.new) (W.failed writer.new) engine.new.progress) }
 {
-    let (line, answer) = item;
-    let operations = operations_of(&answer);
-    let refused = engine.refused();
+    let (line, operations) = (item.0, operations_of(&item.1));
     text.clear();
-    engine.decide(rt, session.checker, text, source, (line, answer))?;
-    if engine.refused() == refused {
+    let decision = engine.decide(rt, session.checker, text, source, item)?;
+    if decision == Decision::Accepted {
         session.add(source, operations);
     }
     write_all(writer, text)?;

@@ -12,7 +12,7 @@ ghost use Rattle.si_words.specs.Views.{new_pass};
 ghost use Rattle.si_run.specs.declared.faults.RunFault.TheVariants.{Memory};
 ghost use Rattle.si_run.specs.Runs.{terms_by};
 ghost use Rattle.si_run.specs.Takings.{IsLeftAt};
-ghost use Rattle.si_run.specs.Outputs.{behind_report, changes_at, counted, is_due, is_short_of, item_text, journal_after, progress_after, reason_after, refusal_line, report_at, report_due, short_line, sourced, start, status_at, violations_at, whole_report_at};
+ghost use Rattle.si_run.specs.Outputs.{behind_report, changes_at, counted, decision_by, is_due, is_short_of, item_text, journal_after, progress_after, reason_after, refusal_line, report_at, report_due, short_line, sourced, start, status_at, violations_at, whole_report_at};
 
 use crate::{ExitStatus, Options};
 use si_checker::{AcceptFault, Checker, Name, Pass, ReportFault, SettledFindings, Statuses};
@@ -26,6 +26,15 @@ use si_words::laws::{edits_append, lone_pass_issues_all};
 use std::alloc::{AllocError, Global};
 use std::marker::{Model, PhantomData};
 use std::sync::Wait;
+
+/// What became of an item that was decided.
+#[derive(Clone, Copy, Debug, PartialEq, Eq)]
+pub enum Decision {
+    /// Its edit is in the journal.
+    Accepted,
+    /// A reason stood against it.
+    Refused,
+}
 
 /// The only pass of a checker, with the counts of what was decided and of what was refused. Contracts see the terms that it decides
 /// by, and how far its decisions are: the accepted edits are those that the pass has seen.
@@ -77,7 +86,7 @@ impl<N: Name> Engine<N> {
         }
     }
 
-    /// Decides an item, and appends what is written for it.
+    /// Decides an item, appends what is written for it, and answers what became of it.
     #[tactic(auto, unfolding(crate::specs::Outputs::item_text, crate::specs::Outputs::progress_after, crate::specs::Outputs::decided_after))]
     pub fn decide<R: Wait>(
         &mut self,
@@ -86,8 +95,9 @@ impl<N: Name> Engine<N> {
         text: &mut Vec<u8>,
         source: usize,
         item: LineItem,
-    ) -> Result<(), OutOfMemory>
+    ) -> Result<Decision, OutOfMemory>
         requires { self.old.progress.decided < 2 ^ 64 - 1 }
+        ensures decision { IfOk result (λ decision. decision ≡ decision_by (reason_after self.old.terms.limit self.old.progress.journal item.1)) }
         ensures text { OnOk result (text.new.items
             ≡ text.old.items ++ item_text self.old.terms self.old.progress (sourced source item)) }
         ensures progress { OnOk result
@@ -97,20 +107,24 @@ impl<N: Name> Engine<N> {
     {
         let (line, answer) = item;
         let reason = self.accept(rt, checker, answer)?;
-        self.count(&reason);
+        let decision = self.count(&reason);
         self.tell(text, source, line, reason)?;
-        self.report_where_due(rt, checker, text)
+        self.report_where_due(rt, checker, text)?;
+        Ok(decision)
     }
 
-    /// Counts an item that was decided, for this reason against it or for none.
-    fn count(&mut self, reason: &Option<Reason>)
+    /// Counts an item that was decided, for this reason against it or for none, and answers what became of it.
+    fn count(&mut self, reason: &Option<Reason>) -> Decision
         requires { self.old.progress.decided < 2 ^ 64 - 1 }
-        ensures { self.new ≡ record self.old { progress = record self.old.progress { decided = self.old.progress.decided + 1; refused = counted self.old.progress.refused reason.now } } }
+        ensures counted { self.new ≡ record self.old { progress = record self.old.progress { decided = self.old.progress.decided + 1; refused = counted self.old.progress.refused reason.now } } }
+        ensures decision { result ≡ decision_by reason.now }
     {
         self.decided += 1;
-        if reason.is_some() {
-            self.refused += 1;
+        if reason.is_none() {
+            return Decision::Accepted;
         }
+        self.refused += 1;
+        Decision::Refused
     }
 
     /// Appends the line of an item, if it is refused.
@@ -329,13 +343,6 @@ impl<N: Name> Engine<N> {
         ensures { self.new ≡ self.old }
     {
         checker.close(rt, &mut self.pass);
-    }
-
-    /// How many items were refused.
-    pub fn refused(&self) -> u64
-        ensures { result ≡ self.now.progress.refused }
-    {
-        self.refused
     }
 }
 

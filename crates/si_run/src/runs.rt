@@ -1,18 +1,15 @@
 //! A run, from the inputs to the status: it opens the checker and the intake, starts a thread for each source and a worker for each shard,
 //! and accepts on the caller's thread. What a source does stands in `sources.rt`, what the accepter does in `accepters.rt`.
 
-ghost use Rattle.std.specs.Prelude.{◌≡◌, ◌≤◌, ◌++◌, All, Err, List, [], false, length, map, IfOk, IfErr, OnOk, OnErr};
+ghost use Rattle.std.specs.Prelude.{◌≡◌, ◌≤◌, All, [], false, length, map};
 ghost use Rattle.std.specs.Thread.{IsSend, IsSync};
 ghost use Rattle.si_intake.specs.declared.openings.TheConstants.{MOST_SOURCES};
-ghost use Rattle.si_intake.specs.declared.items.Item.{Item as Told};
-ghost use Rattle.si_intake.specs.Ends.{AllEnded};
 ghost use Rattle.si_words.specs.Seats.{seated};
 ghost use Rattle.si_words.specs.Views.{new_pass};
-ghost use Rattle.si_checker.specs.declared.openings.OpenFault.{OpenFault};
-ghost use Rattle.si_run.specs.declared.faults.RunFault.TheVariants.{Memory};
+ghost use Rattle.si_run.specs.Endings.{Ends, EndsOpened};
 ghost use Rattle.si_run.specs.Outputs.{start};
 ghost use Rattle.si_run.specs.Readings.{AreRead};
-ghost use Rattle.si_run.specs.Runs.{BeginsText, IsOutOfRange, IsToldFirst, IsTrueDeviceFault, IsTrueFault, WritesText, terms_by};
+ghost use Rattle.si_run.specs.Runs.{terms_by};
 ghost use Rattle.si_run.specs.Takings.{IsAccepted, IsRunThrough, IsTried, device};
 
 use crate::accepters::{accept_all, drop_all};
@@ -53,12 +50,7 @@ pub fn run<R: Threads + Wait + Sync, S: ByteSource + Send, W: ByteSink>(
     requires some { (1 ≤ length inputs.old) × (length inputs.old ≤ MOST_SOURCES) }
     requires inputs { All (λ s. S.failed s ≡ false) inputs.old }
     requires writer { W.failed writer.old ≡ false }
-    ensures output { IfOk result (WritesText (terms_by options) (map S.left inputs.old) (W.written writer.old) (W.written writer.new)) }
-    ensures works { OnOk result (All (λ s. S.failed s ≡ false) inputs.new × (W.failed writer.new ≡ false)) }
-    ensures part { OnErr result (BeginsText (terms_by options) (map S.left inputs.old) (W.written writer.old) (W.written writer.new)) }
-    ensures fault { IfErr result (IsTrueFault options (map S.left inputs.old) (map S.failed inputs.new) (W.failed writer.new)) }
-    ensures first { IfErr result (IsToldFirst (W.written writer.old) (W.written writer.new)) }
-    ensures range { (o : OpenFault) → IsOutOfRange options o → result ≡ Err (RunFault.Open o) }
+    ensures { Ends options (map S.left inputs.old) (map S.failed inputs.new) (device (W.written writer.old) (W.written writer.new) (W.failed writer.new)) result }
 {
     run_gated(rt, alloc, hash, inputs, writer, options, &Open)
 }
@@ -76,12 +68,7 @@ pub fn run_gated<R: Threads + Wait + Sync, S: ByteSource + Send, W: ByteSink, G:
     requires some { (1 ≤ length inputs.old) × (length inputs.old ≤ MOST_SOURCES) }
     requires inputs { All (λ s. S.failed s ≡ false) inputs.old }
     requires writer { W.failed writer.old ≡ false }
-    ensures output { IfOk result (WritesText (terms_by options) (map S.left inputs.old) (W.written writer.old) (W.written writer.new)) }
-    ensures works { OnOk result (All (λ s. S.failed s ≡ false) inputs.new × (W.failed writer.new ≡ false)) }
-    ensures part { OnErr result (BeginsText (terms_by options) (map S.left inputs.old) (W.written writer.old) (W.written writer.new)) }
-    ensures fault { IfErr result (IsTrueFault options (map S.left inputs.old) (map S.failed inputs.new) (W.failed writer.new)) }
-    ensures first { IfErr result (IsToldFirst (W.written writer.old) (W.written writer.new)) }
-    ensures range { (o : OpenFault) → IsOutOfRange options o → result ≡ Err (RunFault.Open o) }
+    ensures { Ends options (map S.left inputs.old) (map S.failed inputs.new) (device (W.written writer.old) (W.written writer.new) (W.failed writer.new)) result }
 {
     let (parts, mut passes) = open(alloc, hash, options.shards, 1, options.limit)?;
     let Some(pass) = passes.pop() else {
@@ -116,91 +103,34 @@ fn run_named<
     requires options { options.limit ≡ N.limit }
     requires alone { N.board.passes ≡ 1 }
     requires pass { pass ≡ seated N.board.table (new_pass N.board.shards 0) }
-    ensures output { IfOk result (WritesText (terms_by options) (map S.left inputs.old) (W.written writer.old) (W.written writer.new)) }
-    ensures works { OnOk result (All (λ s. S.failed s ≡ false) inputs.new × (W.failed writer.new ≡ false)) }
-    ensures part { OnErr result (BeginsText (terms_by options) (map S.left inputs.old) (W.written writer.old) (W.written writer.new)) }
-    ensures fault { IfErr result (IsTrueDeviceFault (map S.left inputs.old) (map S.failed inputs.new) (W.failed writer.new)) }
-{
-    let checker = Checker::<N>::new(alloc, parts)?;
-    let mut engine = Engine::new(alloc, pass, options);
-    let ended = run_checker(rt, alloc, hash, &checker, &mut engine, inputs, writer, gate);
-    // The program ends after a run: to give back each piece of the checker's memory before would take a tenth of its time.
-    forget(checker);
-    ended
-}
-
-/// Runs this checker, of which nothing has been asked yet.
-fn run_checker<
-    N: Name + Send + Sync,
-    R: Threads + Wait + Sync,
-    S: ByteSource + Send,
-    W: ByteSink,
-    G: Gate + Sync,
->(
-    rt: &R,
-    alloc: Global,
-    hash: RandomState,
-    checker: &Checker<N>,
-    engine: &mut Engine<N>,
-    inputs: &mut [S],
-    writer: &mut W,
-    gate: &G,
-) -> Result<ExitStatus, RunFault>
-    requires some { (1 ≤ length inputs.old) × (length inputs.old ≤ MOST_SOURCES) }
-    requires inputs { All (λ s. S.failed s ≡ false) inputs.old }
-    requires writer { W.failed writer.old ≡ false }
-    requires fresh { engine.old.progress ≡ start }
-    ensures output { IfOk result (WritesText engine.old.terms (map S.left inputs.old) (W.written writer.old) (W.written writer.new)) }
-    ensures works { OnOk result (All (λ s. S.failed s ≡ false) inputs.new × (W.failed writer.new ≡ false)) }
-    ensures part { OnErr result (BeginsText engine.old.terms (map S.left inputs.old) (W.written writer.old) (W.written writer.new)) }
-    ensures fault { IfErr result (IsTrueDeviceFault (map S.left inputs.old) (map S.failed inputs.new) (W.failed writer.new)) }
-{
-    let session = Session::new(alloc, hash, checker, gate, inputs.len())?;
-    run_session(rt, &session, engine, inputs, writer)
-}
-
-/// Runs the threads, and shows that what was taken is an interleaving of what was put.
-fn run_session<
-    N: Name + Send + Sync,
-    R: Threads + Wait + Sync,
-    S: ByteSource + Send,
-    W: ByteSink,
-    G: Gate + Sync,
->(
-    rt: &R,
-    session: &Session<'_, N, G>,
-    engine: &mut Engine<N>,
-    inputs: &mut [S],
-    writer: &mut W,
-) -> Result<ExitStatus, RunFault>
-    requires some { (1 ≤ length inputs.old) × (length inputs.old ≤ MOST_SOURCES) }
-    requires inputs { All (λ s. S.failed s ≡ false) inputs.old }
-    requires writer { W.failed writer.old ≡ false }
-    requires fresh { engine.old.progress ≡ start }
-    ensures output { IfOk result (WritesText engine.old.terms (map S.left inputs.old) (W.written writer.old) (W.written writer.new)) }
-    ensures works { OnOk result (All (λ s. S.failed s ≡ false) inputs.new × (W.failed writer.new ≡ false)) }
-    ensures part { OnErr result (BeginsText engine.old.terms (map S.left inputs.old) (W.written writer.old) (W.written writer.new)) }
-    ensures fault { IfErr result (IsTrueDeviceFault (map S.left inputs.old) (map S.failed inputs.new) (W.failed writer.new)) }
+    ensures { EndsOpened (terms_by options) (map S.left inputs.old) (map S.failed inputs.new) (device (W.written writer.old) (W.written writer.new) (W.failed writer.new)) result }
 {
     if !can_start(rt) {
         return Err(RunFault::Memory);
     }
-    let (mut ends, mut accepter) = si_intake::open(session.alloc, inputs.len(), ROOM)?;
-    let ended = run_threads(
+    let (mut ends, mut accepter) = si_intake::open(alloc, inputs.len(), ROOM)?;
+    let checker = Checker::<N>::new(alloc, parts)?;
+    let session = Session::new(alloc, hash, &checker, gate, inputs.len())?;
+    let mut engine = Engine::new(alloc, pass, options);
+    let ended = read_and_accept(
         rt,
-        session,
-        engine,
+        &session,
+        &mut engine,
         &mut accepter,
         writer,
         inputs,
         ends.as_mut_slice(),
     );
     let _taken = gather(ends, accepter);
+    drop(session);
+    // The program ends after a run: to give back each piece of the checker's memory before would take a tenth of its time.
+    forget(checker);
     ended
 }
 
-/// Reads the inputs beside the workers and the accepter.
-fn run_threads<
+/// Reads the inputs beside the workers and the accepter. Where the sources don't begin, what they put is taken afterwards, and memory was
+/// refused.
+fn read_and_accept<
     N: Name + Send + Sync,
     R: Threads + Wait + Sync,
     S: ByteSource + Send,
@@ -233,26 +163,19 @@ fn run_threads<
         requires { IsSync R.row × IsSync N.row × IsSend N.row × IsSync G.row
             × (engine.now.progress ≡ start) × (accepter.now.taken ≡ []) × (W.failed writer.now ≡ false) }
         ensures { IsTried engine.entry.now.terms accepter.entry.now accepter.exit.now (device (W.written writer.entry.now) (W.written writer.exit.now) (W.failed writer.exit.now)) engine.exit.now.progress result }
-    { try_to_accept(rt, session, engine, accepter, writer) };
+    { work_and_accept(rt, session, engine, accepter, writer) };
     let ((), tried) = join_mut(rt, &mut sources, &mut others);
     match tried {
         Some(ended) => ended,
-        None => give_up(rt, accepter),
+        None => {
+            drop_all(rt, accepter);
+            Err(RunFault::Memory)
+        }
     }
 }
 
-/// Takes what is left, where the sources didn't begin, and answers that memory was refused.
-fn give_up<R: Wait>(rt: &R, accepter: &mut Accepter) -> Result<ExitStatus, RunFault>
-    ensures taken { (more : List Told) × (accepter.new ≡ record accepter.old { taken = accepter.old.taken ++ more }) }
-    ensures ended { AllEnded accepter.new }
-    ensures fault { result ≡ Err Memory }
-{
-    drop_all(rt, accepter);
-    Err(RunFault::Memory)
-}
-
-/// Accepts in this thread, or answers none where the sources don't begin.
-fn try_to_accept<N: Name + Send + Sync, R: Threads + Wait + Sync, W: ByteSink, G: Gate + Sync>(
+/// Accepts in this thread, beside the workers, and then lets these end; or answers none where the sources don't begin.
+fn work_and_accept<N: Name + Send + Sync, R: Threads + Wait + Sync, W: ByteSink, G: Gate + Sync>(
     rt: &R,
     session: &Session<'_, N, G>,
     engine: &mut Engine<N>,
@@ -264,51 +187,20 @@ fn try_to_accept<N: Name + Send + Sync, R: Threads + Wait + Sync, W: ByteSink, G
     requires writer { W.failed writer.old ≡ false }
     ensures { IsTried engine.old.terms accepter.old accepter.new (device (W.written writer.old) (W.written writer.new) (W.failed writer.new)) engine.new.progress result }
 {
-    if session.have_sources_begun(rt) {
-        Some(work_and_accept(rt, session, engine, accepter, writer))
-    } else {
-        None
+    if !session.have_sources_begun(rt) {
+        return None;
     }
-}
-
-/// Accepts in this thread, beside the workers, and lets them end.
-fn work_and_accept<N: Name + Send + Sync, R: Threads + Wait + Sync, W: ByteSink, G: Gate + Sync>(
-    rt: &R,
-    session: &Session<'_, N, G>,
-    engine: &mut Engine<N>,
-    accepter: &mut Accepter,
-    writer: &mut W,
-) -> Result<ExitStatus, RunFault>
-    requires engine { engine.old.progress ≡ start }
-    requires accepter { accepter.old.taken ≡ [] }
-    requires writer { W.failed writer.old ≡ false }
-    ensures { IsAccepted engine.old.terms accepter.old accepter.new (device (W.written writer.old) (W.written writer.new) (W.failed writer.new)) engine.new.progress result }
-{
     let mut workers = ||
         requires { IsSync R.row × IsSync N.row × IsSend N.row × IsSync G.row }
     { work_all(rt, session) };
     let mut accept = || -> Result<ExitStatus, RunFault>
         requires { (engine.now.progress ≡ start) × (accepter.now.taken ≡ []) × (W.failed writer.now ≡ false) }
         ensures { IsAccepted engine.entry.now.terms accepter.entry.now accepter.exit.now (device (W.written writer.entry.now) (W.written writer.exit.now) (W.failed writer.exit.now)) engine.exit.now.progress result }
-    { accept_and_close(rt, session, engine, accepter, writer) };
+    {
+        let ended = accept_all(rt, session, engine, accepter, writer);
+        engine.close(rt, session.checker);
+        ended
+    };
     let ((), ended) = join_mut(rt, &mut workers, &mut accept);
-    ended
-}
-
-/// Accepts all, and then lets the workers end.
-fn accept_and_close<N: Name, R: Wait, W: ByteSink, G: Gate>(
-    rt: &R,
-    session: &Session<'_, N, G>,
-    engine: &mut Engine<N>,
-    accepter: &mut Accepter,
-    writer: &mut W,
-) -> Result<ExitStatus, RunFault>
-    requires engine { engine.old.progress ≡ start }
-    requires accepter { accepter.old.taken ≡ [] }
-    requires writer { W.failed writer.old ≡ false }
-    ensures { IsAccepted engine.old.terms accepter.old accepter.new (device (W.written writer.old) (W.written writer.new) (W.failed writer.new)) engine.new.progress result }
-{
-    let ended = accept_all(rt, session, engine, accepter, writer);
-    engine.close(rt, session.checker);
-    ended
+    Some(ended)
 }

@@ -162,9 +162,10 @@ fn put_read<N: Name, R: Wait, S: ByteSource, G: Gate>(
     let source = end.source();
     'items: for _turn in 0..u64::MAX {
         match lines.next_item(input, &mut kept.keys) {
-            Ok(Some((line, answer))) => {
+            Ok(Some(item)) => {
+                let line = item.0;
                 session.gate.at(Place::Put { source, line });
-                let what = What::Line(line, answer);
+                let what = What::Line(item);
                 end.put(rt, Item { source, what });
             }
             Ok(None) => return What::End,

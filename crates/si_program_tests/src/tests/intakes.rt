@@ -25,7 +25,7 @@ fn line(number: u64, read: Result<Edit, LineFault>) -> Item
 {
     Item {
         source: 0,
-        what: What::Line(number, read),
+        what: What::Line((number, read)),
     }
 }
 
@@ -37,7 +37,7 @@ fn is_told_last(what: What) -> bool {
 
 #[test]
 fn the_last_items_are_told(rt: HostRuntime) {
-    assert!(rt; !is_told_last(What::Line(3, Err(LineFault::NotJson))));
+    assert!(rt; !is_told_last(What::Line((3, Err(LineFault::NotJson)))));
     assert!(rt; is_told_last(What::ReadFault));
     assert!(rt; is_told_last(What::NoMemory));
     assert!(rt; is_told_last(What::End));
@@ -99,7 +99,7 @@ fn item_at(source: usize, place: u64, lines: u64) -> Item
     ensures line { place < lines → is_last result ≡ false }
 {
     let what = if place < lines {
-        What::Line(place + 1, Ok(Edit::Withdraw(TxnId(place))))
+        What::Line((place + 1, Ok(Edit::Withdraw(TxnId(place)))))
     } else {
         last_of(source)
     };

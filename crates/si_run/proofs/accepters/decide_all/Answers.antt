@@ -1,4 +1,4 @@
-use Rattle.std.proofs.Common.{rules, ◌≡◌, ◌∙◌, ◌++◌, ◌∷◌, [], ◌||◌, ◌+◌, Bool, true, false, List, refl, sym, ap, arith, subst}
+use Rattle.std.proofs.Common.{rules, ◌≡◌, ◌∙◌, ◌++◌, ◌∷◌, [], ◌+◌, List, refl, sym, ap, arith, subst}
 use Rattle.std.proofs.lemmas.Result.{err_from_is_err_and}
 use Rattle.si_intake.specs.Ends.{Accepting}
 use Rattle.si_intake.specs.declared.items.Item.{Item as Told}
@@ -25,16 +25,14 @@ returns-in_err-decide_line-in-Line-clause-err g c =
     let p = c.items.engine.progress in
     let q = c.decide_line.new.engine.progress in
     let source = c.in-Some.field-0.source in
-    let number = c.in-Line.line in
-    let answer = c.in-Line.answer in
-    let line = sourced source (number, answer) in
-    let item : c.in-Some.field-0 ≡ told source (Line number answer) = search rules in
+    let line = sourced source c.in-Line.item in
+    let item : c.in-Some.field-0 ≡ told source (Line c.in-Line.item) = search rules in
     let fault = c.in_err-decide_line-in-Line.field-0.0 in
     let undone = subst (λ (t : Terms). IsUndone t p line (written c.items.writer) (written c.decide_line.new.writer) failed q fault) at.terms c.in_err-decide_line-in-Line.ensures.err in
     let f = err_from_is_err_and c.from_residual.result c.from_residual.ensures.1 in
     rw f.1 (rw f.2 (record {
       before = c.items.accepter.taken;
-      last = told source (Line number answer);
+      last = told source (Line c.in-Line.item);
       order = taken_is c.items.accepter c.take.new.self c.in-Some.field-0 c.in-Some.ensures.taken ∙ ap (λ (t : Told). c.items.accepter.taken ++ t ∷ []) item;
       mid = written c.items.writer;
       p = p;
@@ -84,10 +82,8 @@ items-preserved g c =
     let same : c.take.new.self ≡ record c.args.accepter.now { taken = c.take.new.self.taken } = search rules in
     elim c.match-what.branch [
       | in-Line+in_ok-decide_line-in-Line w ↦ (
-          let number = w.in-Line.line in
-          let answer = w.in-Line.answer in
-          let line = sourced source (number, answer) in
-          let item : c.in-Some.field-0 ≡ told source (Line number answer) = search rules in
+          let line = sourced source w.in-Line.item in
+          let item : c.in-Some.field-0 ≡ told source (Line w.in-Line.item) = search rules in
           let text_is : item_text c.items.engine.terms p line ≡ item_text terms p line = ap (λ (t : Terms). item_text t p line) at.terms in
           let state : c.match-what.engine.progress ≡ progress_after terms p line =
           ap (λ (e : EngineState). e.progress) w.engine-is ∙ w.in_ok-decide_line-in-Line.ensures.progress ∙ ap (λ (t : Terms). progress_after t p line) at.terms in
@@ -99,7 +95,7 @@ items-preserved g c =
             terms = ap (λ (e : EngineState). e.terms) w.engine-is ∙ w.in_ok-decide_line-in-Line.ensures.terms ∙ at.terms;
             way = subst (λ (l : List Told). IsDecided terms l (written c.args.writer.now) (written c.match-what.writer) c.match-what.engine.progress)
                 (sym (taken ∙ ap (λ (t : Told). before ++ t ∷ []) item))
-                (line_decided terms before (written c.args.writer.now) (written c.items.writer) (written c.match-what.writer) p c.match-what.engine.progress source number answer
+                (line_decided terms before (written c.args.writer.now) (written c.items.writer) (written c.match-what.writer) p c.match-what.engine.progress source w.in-Line.item
                 (item_text c.items.engine.terms p line) at.way adds text_is state);
             turns = (let t = at.turns in omega arith);
             works = ap g.W.ByteSink.failed w.writer-is ∙ w.in_ok-decide_line-in-Line.ensures.works;

@@ -33,7 +33,7 @@ items-preserved g c =
     let left = g.S.ByteSource.left in
     let at = c.items.invariant in
     let one = rw c.in-Ok-Some.field-0-is at c.in-Ok-Some.ensures.items in
-    let item : Item = (c.in-Ok-Some.line, c.in-Ok-Some.answer) in
+    let item : Item = c.in-Ok-Some.item in
     record {
       way = goes_on (left c.args.input.now) c.items.lines.lines c.next_item.new.self.lines
           (bytes_to_come c.items.lines (left c.items.input)) (bytes_to_come c.next_item.new.self (left c.next_item.new.source))

@@ -1,5 +1,4 @@
-use Rattle.std.proofs.Common.{rules, ◌≡◌, ◌∙◌, Bool, true, List, [], ℕ, Option, Some, sym, ap, if◌then◌else◌}
-use Rattle.si_model.specs.declared.numbers.TxnId.{TxnId}
+use Rattle.std.proofs.Common.{rules, ◌≡◌, ◌∙◌, Bool, true, [], Some, sym, ap, if◌then◌else◌}
 use Rattle.si_model.specs.Journals.{present}
 use Rattle.si_model.specs.Order.{in_order}
 use Rattle.si_accept.specs.Statuses.{committed_among, doubtful_among}

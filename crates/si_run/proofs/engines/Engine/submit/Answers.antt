@@ -6,7 +6,7 @@ use Rattle.si_text.specs.declared.reasons.Reason.TheVariants as reason
 use Rattle.si_words.specs.declared.views.Entry.{Entry}
 use Rattle.si_words.specs.Entries.{edits_of}
 use Rattle.si_run.specs.Engines.{EngineState}
-use Rattle.si_run.proofs.Lone.{free, still}
+use Rattle.si_run.proofs.Lone.{free, journal_grown, journal_still, state_after, still}
 use Rattle.si_run.proofs.engines.Engine.submit.Goals.{in-Ok, in-Err-Refused, in-Err-OutOfMemory}
 use Rattle.si_run.proofs.engines.Engine.submit.Goals as goal
 
@@ -27,6 +27,24 @@ returns-clause-reason g c =
           let fault : refusal_after g.N.Name.limit (edits_of new.view.seen) c.args.edit ≡ Some w.in-Err-Refused.refusal = search rules in
           rw w.result-is (is (Some w.in-Err-Refused.refusal) (ap (λ (l : List Entry). refusal_after g.N.Name.limit (edits_of l) c.args.edit)
           (sym (still board old new law own.alone own.number own.own w.in-Err-Refused.ensures.err)) ∙ fault))
+          )
+      | in-Err-OutOfMemory w ↦ rw w.result-is tt
+    ]
+
+pub returns-clause-ok : goal.returns-clause-ok
+returns-clause-ok g c =
+    let old = c.self.inside.pass in
+    let new = c.submit.new.pass in
+    let board = g.N.Name.board in
+    let law = c.lone_pass_issues_all.ensures in
+    let own = c.self.invariant in
+    elim c.match-submit.branch [
+      | in-Ok w ↦ rw w.result-is (state_after _ old.view new.view _ _ _ c.args.self.now c.args.edit c.self.view_is
+          (journal_grown g.N.Name.limit board c.args.edit old new c.edits_append.ensures law own.alone own.number own.own w.in-Ok.ensures.ok w.in-Ok.ensures.submitted))
+      | in-Err-Refused w ↦ (
+          let fault : refusal_after g.N.Name.limit (edits_of new.view.seen) c.args.edit ≡ Some w.in-Err-Refused.refusal = search rules in
+          rw w.result-is (state_after _ old.view new.view _ _ _ c.args.self.now c.args.edit c.self.view_is
+          (journal_still g.N.Name.limit board c.args.edit w.in-Err-Refused.refusal old new law own.alone own.number own.own w.in-Err-Refused.ensures.err fault))
           )
       | in-Err-OutOfMemory w ↦ rw w.result-is tt
     ]

@@ -4,7 +4,7 @@ use denote.Param.Send.{arg_send, mut_slice_send, param_send, shr_send}
 use Rattle.si_intake.proofs.source_ends.SourceEnd.TheSendSync as end
 use Rattle.si_checker.proofs.Crossing.{four_send}
 use Rattle.si_run.proofs.Crossing.{session_sync}
-use Rattle.si_run.proofs.runs.run_threads.Goals as goal
+use Rattle.si_run.proofs.runs.read_and_accept.Goals as goal
 
 pub join_mut-tried-requires-send-F : goal.join_mut-tried-requires-send-F
 join_mut-tried-requires-send-F g c κs within =
