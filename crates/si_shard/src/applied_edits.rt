@@ -25,7 +25,7 @@ use std::mem;
 const MOST_WAITING: usize = 65_536;
 
 /// So many edits and fewer are applied one after the other, each straight to its keys: gathering them costs more than it saves.
-const MOST_AT_ONCE: usize = 1_024;
+const MOST_ONE_BY_ONE: usize = 1_024;
 
 /// What is kept of a shard's keys after some edits, and of the arrivals of the present transactions.
 #[derive(Drop)]
@@ -123,7 +123,7 @@ impl Applied {
         ensures applied { OnOk result (AreApplied id kept.new.items self.new) }
         ensures begins { BeginsWith kept.old.items kept.new.items }
     {
-        if edits.len() <= MOST_AT_ONCE {
+        if edits.len() <= MOST_ONE_BY_ONE {
             return self.apply_each(kept, stored, edits, id);
         }
         self.apply_together(kept, stored, edits, id)

@@ -9,7 +9,7 @@ use Rattle.si_words.specs.declared.views.View.{View}
 use Rattle.si_words.specs.Entries.{IsBeginning, longer}
 use Rattle.si_words.specs.Views.{pass_view, shard_and_pass}
 use Rattle.si_words.specs.Seats.{first_pass, pass_in}
-use Rattle.si_words.specs.Steps.{Place, Fitted, learned}
+use Rattle.si_words.specs.Steps.{SeatView, Fitted, learned}
 use Rattle.si_words.proofs.Lists.{begins_itself}
 
 pub shorter_begins : (xs ys whole : List Entry) → IsBeginning xs whole → IsBeginning ys whole → length xs ≤ length ys → IsBeginning xs ys
@@ -36,13 +36,13 @@ module _ (xs ys whole : List Entry) (b : IsBeginning xs whole) (c : IsBeginning 
   both_begin = (first_begins (nat_lt (length xs) (length ys)) refl, second_begins (nat_lt (length xs) (length ys)) refl)
 
 -- what a pass has seen, and what a shard is due, both begin what the pass has seen after it learned
-pub learned_begins : (s : ShardView) (p : PassView) (before after : Place) (views : List View) (i n : ℕ) → before ≡ (shard_and_pass s p, []) → Fitted before.0 i n
+pub learned_begins : (s : ShardView) (p : PassView) (before after : SeatView) (views : List View) (i n : ℕ) → before ≡ (shard_and_pass s p, []) → Fitted before.0 i n
     → after ≡ (learned n before.0, before.1) → views ≡ pass_view (pass_in after.0) ∷ []
     → IsBeginning p.seen (first_pass views).seen × IsBeginning s.due (first_pass views).seen
 learned_begins s p before after views i n is f step left =
-    let m : Fitted (shard_and_pass s p) i n = subst (λ (x : Place). Fitted x.0 i n) is f in
+    let m : Fitted (shard_and_pass s p) i n = subst (λ (x : SeatView). Fitted x.0 i n) is f in
     let seen : (first_pass views).seen ≡ longer p.seen s.due =
-    ap (λ (l : List View). (first_pass l).seen) left ∙ ap (λ (x : Place). (pass_in x.0).seen) step ∙ ap (λ (x : Place). (pass_in (learned n x.0)).seen) is
+    ap (λ (l : List View). (first_pass l).seen) left ∙ ap (λ (x : SeatView). (pass_in x.0).seen) step ∙ ap (λ (x : SeatView). (pass_in (learned n x.0)).seen) is
     in
     let both = both_begin p.seen s.due m.journal m.fits.pass.seen m.fits.shard.due in
     subst (λ (l : List Entry). IsBeginning p.seen l × IsBeginning s.due l) (sym seen) both

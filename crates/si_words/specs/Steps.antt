@@ -104,8 +104,8 @@ without_opener v = record v { opener = None }
 abbrev pub opener_alone : View → View
 opener_alone v = record spent { opener = v.opener }
 
-abbrev pub Place : Type 0
-Place = Me (Unit {0}) View
+abbrev pub SeatView : Type 0
+SeatView = Me (Unit {0}) View
 
 -- at the step there was some journal, which the words counted and the view fitted, and the word i was n
 pub record Fitted (v : View) (i n : ℕ) : Type 0 where
@@ -118,5 +118,5 @@ pub record Fitted (v : View) (i n : ℕ) : Type 0 where
   pub found : slice_index words i ≡ n
 
 -- the seat's view is the new one, and it fitted before
-abbrev pub Becomes : View → Step (Unit {0}) → Place → ℕ → Place → Type 0
+abbrev pub Becomes : View → Step (Unit {0}) → SeatView → ℕ → SeatView → Type 0
 Becomes after st me n me' = (me' ≡ (after, me.1)) × Fitted me.0 st.word n

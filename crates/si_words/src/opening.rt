@@ -3,7 +3,7 @@ ghost use Rattle.std.specs.Prelude.{◌≡◌, ◌+◌, ◌<◌, ◌≤◌, IfOk
 ghost use Rattle.si_words.specs.Seats.{seated, new_shards, new_passes};
 ghost use Rattle.si_words.specs.Views.{new_book, new_shard, new_pass, book_view, book_and_opener, opener_from};
 
-use crate::rule::{Place, WordTable};
+use crate::rule::{TableSeat, WordTable};
 use crate::seats::{BookSeat, Pass, ShardSeat};
 use crate::steps::{NextPass, NextShard, Opened};
 use crate::words::Words;
@@ -27,7 +27,7 @@ impl Words {
         ensures all_passes { IfOk result (λ o. o.3.items ≡ new_passes o.0.table shards passes) }
     {
         let zeros = Vec::from_elem(alloc, 0, 2 + shards)?;
-        let (table, mut place): (WordTable, Place) = Table::of_words(
+        let (table, mut place): (WordTable, TableSeat) = Table::of_words(
             alloc,
             zeros.as_slice(),
             &(shards, passes),
@@ -39,7 +39,11 @@ impl Words {
         Ok((words, book, seats, all_passes))
     }
 
-    fn shard_seats(&self, alloc: Global, place: &mut Place) -> Result<Vec<ShardSeat>, OutOfMemory>
+    fn shard_seats(
+        &self,
+        alloc: Global,
+        place: &mut TableSeat,
+    ) -> Result<Vec<ShardSeat>, OutOfMemory>
         requires own { place.old.table_id ≡ self.now.table }
         requires view { place.old.me ≡ (book_and_opener (new_book self.now.passes) (opener_from self.now.shards 0 0), []) }
         ensures own { place.new.table_id ≡ place.old.table_id }
@@ -57,7 +61,7 @@ impl Words {
         &self,
         alloc: Global,
         count: usize,
-        place: &mut Place,
+        place: &mut TableSeat,
     ) -> Result<Vec<Pass>, OutOfMemory>
         requires own { place.old.table_id ≡ self.now.table }
         requires view { place.old.me ≡ (book_and_opener (new_book self.now.passes) (opener_from self.now.shards self.now.shards 0), []) }
@@ -73,7 +77,7 @@ impl Words {
         Ok(passes)
     }
 
-    fn next_shard(&self, place: &mut Place, number: usize) -> ShardSeat
+    fn next_shard(&self, place: &mut TableSeat, number: usize) -> ShardSeat
         requires own { place.old.table_id ≡ self.now.table }
         requires view { place.old.me ≡ (book_and_opener (new_book self.now.passes) (opener_from self.now.shards number 0), []) }
         requires below { number < self.now.shards }
@@ -89,7 +93,7 @@ impl Words {
         ShardSeat { number, badge }
     }
 
-    fn next_pass(&self, place: &mut Place, number: usize) -> Pass
+    fn next_pass(&self, place: &mut TableSeat, number: usize) -> Pass
         requires own { place.old.table_id ≡ self.now.table }
         requires view { place.old.me ≡ (book_and_opener (new_book self.now.passes) (opener_from self.now.shards self.now.shards number), []) }
         requires below { number < self.now.passes }
@@ -102,7 +106,7 @@ impl Words {
     }
 
     /// The opener's part is dropped, and the book's stays.
-    fn book_seat(&self, mut place: Place) -> BookSeat
+    fn book_seat(&self, mut place: TableSeat) -> BookSeat
         requires own { place.table_id ≡ self.now.table }
         requires view { place.me ≡ (book_and_opener (new_book self.now.passes) (opener_from self.now.shards self.now.shards self.now.passes), []) }
         ensures { result ≡ seated self.now.table (new_book self.now.passes) }

@@ -27,4 +27,4 @@ impl TableRule<(), View, (usize, usize)> for OneJournal {
 
 pub(crate) type WordTable = Table<(), View, (usize, usize), OneJournal, Global>;
 
-pub(crate) type Place = Seat<(), View>;
+pub(crate) type TableSeat = Seat<(), View>;

@@ -3,7 +3,7 @@
 
 ghost use Rattle.std.specs.Prelude.{◌≡◌};
 
-use crate::rule::Place;
+use crate::rule::TableSeat;
 use crate::views::{BookView, PassView, ShardView, View};
 use atomic_table::Badge;
 use std::marker::Model;
@@ -11,7 +11,7 @@ use std::marker::Model;
 /// The seat of the book. It lies under the book's lock.
 #[derive(Drop)]
 pub struct BookSeat {
-    pub(crate) place: Place,
+    pub(crate) place: TableSeat,
 }
 
 impl Model for BookSeat {
