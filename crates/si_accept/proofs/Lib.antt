@@ -3,8 +3,6 @@ pub mod Holders
 pub mod KeyPlaces
 pub mod WriterChanges
 pub mod Exact
-pub mod FilledSlots
-pub mod SlotPlaces
 pub mod OwnWrites
 pub mod SetUpFinds
 pub mod StampChanges
@@ -13,3 +11,4 @@ pub mod IndexFinds
 pub mod IndexChanges
 pub mod Resolutions
 pub mod NewArrivals
+pub mod PresentInJournal

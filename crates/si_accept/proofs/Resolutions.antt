@@ -40,6 +40,13 @@ doubtful P u o T f e =
     let g = ap (resolution_refusal P o) (sym f) ∙ e in
     (r.0, same_id_is T.id u r.1, no_commit T.status _ g)
 
+-- what is found, copied
+pub found_copy : (P : List Txn) (u : TxnId) (T C : Txn) → with_id P u ≡ Some T → C ≡ T → (C.id ≡ u) × (with_id P u ≡ Some C) × (with_id P C.id ≡ Some C)
+found_copy P u T C f e =
+    let i = ap (λ A. A.id) e ∙ same_id_is T.id u (find-Some (λ A. same_id A.id u) P T f).1 in
+    let g = f ∙ ap Some (sym e) in
+    (i, g, ap (with_id P) i ∙ g)
+
 kept_id : (u : TxnId) (o : Outcome) (A : Txn) → (resolved u o A).id ≡ A.id
 kept_id u o A = elim (same_id A.id u) as (λ b. (cond b (record A { status = status_after o }) A).id ≡ A.id) [ true ↦ refl | false ↦ refl ]
 

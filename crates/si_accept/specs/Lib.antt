@@ -5,5 +5,6 @@ pub mod KeyNumbers
 pub mod Writers
 pub mod Indexes
 pub mod Arrivals
+pub mod Contents
 pub mod SetUps
 pub mod Statuses

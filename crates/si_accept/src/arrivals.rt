@@ -1,92 +1,97 @@
-//! Transactions in the order of arrival, found by their ids.
+//! The journal of accepted edits, and in it the transactions that are present, found by their ids.
 
-ghost use Rattle.std.specs.Prelude.{◌≡◌, ◌≤◌, [], ◌∷◌, ◌++◌, None, OnOk, OnErr, IfOk, map, length};
+ghost use Rattle.std.specs.Prelude.{◌≡◌, [], ◌∷◌, ◌++◌, None, Some, OnOk, IfOk, map, length, nat_eq};
 ghost use Rattle.std.specs.List.{filter};
 ghost use Rattle.std.specs.Option.{option_copied};
-ghost use Rattle.si_model.specs.Edits.{with_id, resolved, is_another, is_in_doubt};
-ghost use Rattle.si_accept.specs.Arrivals.{resolved_slot};
+ghost use Rattle.indexmap.specs.IndexMap.{get};
+ghost use Rattle.si_model.specs.declared.edits.Edit.TheVariants as edit;
+ghost use Rattle.si_model.specs.Edits.{with_id, withdrawal_refusal, resolved, is_another, is_in_doubt};
+ghost use Rattle.si_accept.specs.Arrivals.{HasRoom, present_at};
 ghost use Rattle.si_accept.specs.Statuses.{committed_among, doubtful_among};
 
 use indexmap::IndexMap;
 use si_hashing::NumberHash;
-use si_model::{OutOfMemory, Outcome, Status, Txn, TxnId};
+use si_model::{Edit, Key, OutOfMemory, Outcome, Status, Txn, TxnId, Value};
 use std::alloc::Global;
 use std::hash::RandomState;
 use std::marker::Model;
 
-/// Transactions in the order of arrival. Contracts see the list.
+/// The journal, and which of the transactions that arrived in it are present. Contracts see the edits, those transactions in the order
+/// of arrival, and the room for one more edit.
 ///
-/// A withdrawal leaves its slot empty, so that it moves no other transaction. Once fewer than half of the slots, rounded
-/// down, hold one, the empty ones are closed up, which costs no more than the withdrawals before it.
+/// A transaction stands in the journal, with the status that it arrived with. One that was resolved, as few are, has a copy beside it.
 #[derive(Drop)]
 pub struct Arrivals {
     alloc: Global,
-    hash: RandomState,
-    // The transactions in their order, with empty slots between them.
-    slots: Vec<Option<Txn>>,
-    // From an id to its slot.
+    journal: Vec<Edit>,
+    // From the id of each present transaction to the place of its arrival in the journal.
     places: IndexMap<u64, usize, NumberHash>,
-    // How many slots aren't empty.
-    count: usize,
+    // From the id of each present transaction that was resolved to a copy with its status now.
+    resolved: IndexMap<u64, Txn, NumberHash>,
 }
 
 impl Model for Arrivals {
-    ghost use Rattle.std.specs.Prelude.{List};
-    ghost use Rattle.si_model.specs.declared.transactions.Txn.{Txn};
-    ghost use Rattle.si_accept.specs.Arrivals.{in_slots, AreSlots};
+    ghost use Rattle.std.specs.Prelude.{nat_eq, ◌-◌};
+    ghost use Rattle.std.specs.Vec.{vec_len, vec_capacity};
+    ghost use Rattle.indexmap.specs.IndexMap.{get, spare, index_map_len};
+    ghost use Rattle.si_accept.specs.Arrivals.{Kept, present_in, AreInJournal};
 
-    ghost Value = { List Txn };
+    ghost Value = { Kept };
 
-    ghost view = { λ a. in_slots a.slots.items };
+    ghost view = { λ a. record {
+      edits = a.journal.items;
+      txns = present_in (get nat_eq a.places) (get nat_eq a.resolved) a.journal.items;
+      room = record { edits = vec_capacity a.journal - vec_len a.journal; places = spare a.places; copies = spare a.resolved };
+    } };
 
-    ghost invariant = { λ a. AreSlots a.slots.items a.places.entries a.count };
+    ghost invariant = { λ a. AreInJournal a.journal.items (get nat_eq a.places) (get nat_eq a.resolved) (index_map_len a.places) };
 }
 
 impl Arrivals {
-    /// No transaction.
+    /// No edit.
     pub fn new(alloc: Global, hash: RandomState) -> Self
-        ensures { result ≡ [] }
+        ensures edits { result.edits ≡ [] }
+        ensures txns { result.txns ≡ [] }
     {
         Arrivals {
             alloc,
-            hash,
-            slots: Vec::new(alloc),
+            journal: Vec::new(alloc),
             places: IndexMap::with_hasher(alloc, NumberHash::new(hash)),
-            count: 0,
+            resolved: IndexMap::with_hasher(alloc, NumberHash::new(hash)),
         }
     }
 
-    /// How many transactions there are.
+    /// The edits, in the order of their numbers.
+    pub fn journal(&self) -> &[Edit]
+        ensures { result.now ≡ self.now.edits }
+    {
+        &self.journal
+    }
+
+    /// How many transactions are present.
     pub fn len(&self) -> usize
-        ensures { result ≡ length self.now }
+        ensures { result ≡ length self.now.txns }
     {
-        self.count
+        self.places.len()
     }
 
-    /// How many slots there are, empty ones among them: the room that the transactions take.
-    pub fn slots(&self) -> usize
-        ensures { length self.now ≤ result }
-    {
-        self.slots.len()
-    }
-
-    /// The transaction with that id.
+    /// The present transaction with that id.
     pub fn get(&self, id: TxnId) -> Option<&Txn>
-        ensures { option_copied result ≡ with_id self.now id }
+        ensures { option_copied result ≡ with_id self.now.txns id }
     {
         match self.places.get(&id.0) {
-            Some(&place) => self.slots[place].as_ref(),
+            Some(&place) => present_at(&self.places, &self.resolved, place, &self.journal[place]),
             None => None,
         }
     }
 
-    /// How many of the transactions are committed.
+    /// How many of the present transactions are committed. It walks over the journal.
     pub fn committed(&self) -> usize
-        ensures { result ≡ committed_among self.now }
+        ensures { result ≡ committed_among self.now.txns }
     {
         let mut count = 0;
-        for slot in &self.slots {
-            if let Some(txn) = slot {
+        for (place, edit) in self.journal.iter().enumerate() {
+            if let Some(txn) = present_at(&self.places, &self.resolved, place, edit) {
                 if txn.status.commit().is_some() {
                     count += 1;
                 }
@@ -95,13 +100,13 @@ impl Arrivals {
         count
     }
 
-    /// The ids of the transactions in doubt, in the order of arrival.
+    /// The ids of the present transactions in doubt, in the order of arrival. It walks over the journal.
     pub fn doubtful(&self) -> Result<Vec<TxnId>, OutOfMemory>
-        ensures { IfOk result (λ ids. ids.items ≡ doubtful_among self.now) }
+        ensures { IfOk result (λ ids. ids.items ≡ doubtful_among self.now.txns) }
     {
         let mut ids = Vec::new(self.alloc);
-        for slot in &self.slots {
-            if let Some(txn) = slot {
+        for (place, edit) in self.journal.iter().enumerate() {
+            if let Some(txn) = present_at(&self.places, &self.resolved, place, edit) {
                 if is_in_doubt(txn.status) {
                     ids.push(txn.id)?;
                 }
@@ -110,86 +115,93 @@ impl Arrivals {
         Ok(ids)
     }
 
-    /// Copies of the transactions, in the order of arrival.
+    /// Copies of the present transactions, in the order of arrival. It walks over the journal.
     pub fn to_vec(&self) -> Result<Vec<Txn>, OutOfMemory>
-        ensures { IfOk result (λ txns. txns.items ≡ self.now) }
+        ensures { IfOk result (λ txns. txns.items ≡ self.now.txns) }
     {
-        let mut copies = Vec::with_capacity(self.alloc, self.count)?;
-        for slot in &self.slots {
-            if let Some(txn) = slot {
+        let mut copies = Vec::with_capacity(self.alloc, self.places.len())?;
+        for (place, edit) in self.journal.iter().enumerate() {
+            if let Some(txn) = present_at(&self.places, &self.resolved, place, edit) {
                 copies.push(txn.try_clone()?)?;
             }
         }
         Ok(copies)
     }
 
-    /// The transaction arrives. Its id must not be there yet. If memory is refused, nothing changes.
-    pub fn push(&mut self, txn: Txn) -> Result<(), OutOfMemory>
-        requires { with_id self.old txn.id ≡ None }
-        ensures ok { OnOk result (self.new ≡ self.old ++ txn ∷ []) }
-        ensures err { OnErr result (self.new ≡ self.old) }
+    /// Makes room for one more edit, whatever it is.
+    pub fn reserve(&mut self) -> Result<(), OutOfMemory>
+        ensures same { self.new ≡ record self.old { room = self.new.room } }
+        ensures room { OnOk result (HasRoom self.new.room) }
     {
-        self.slots.reserve(1)?;
-        self.places.insert(txn.id.0, self.slots.len())?;
-        self.slots.push(Some(txn)).unwrap();
-        self.count += 1;
-        Ok(())
+        self.journal.reserve(1)?;
+        self.places.reserve(1)?;
+        self.resolved.reserve(1)
     }
 
-    /// The transaction with that id is resolved, where it is.
-    pub fn resolve(&mut self, id: TxnId, outcome: Outcome)
-        ensures { self.new ≡ map (resolved id outcome) self.old }
+    /// The transaction arrives. Its id must not be there yet.
+    pub fn arrive(&mut self, txn: Txn)
+        requires room { HasRoom self.old.room }
+        requires new { with_id self.old.txns txn.id ≡ None }
+        ensures edits { self.new.edits ≡ self.old.edits ++ edit.Arrive txn ∷ [] }
+        ensures txns { self.new.txns ≡ self.old.txns ++ txn ∷ [] }
     {
-        match self.places.get(&id.0) {
-            Some(&place) => resolve_in(&mut self.slots[place], outcome),
-            None => {}
-        }
+        self.places.insert(txn.id.0, self.journal.len()).unwrap();
+        self.journal.push(Edit::Arrive(txn)).unwrap();
     }
 
-    /// The transaction with that id leaves, and the later ones close up.
+    /// The transaction, of which this is a copy, is resolved.
+    pub fn resolve(&mut self, mut copy: Txn, outcome: Outcome)
+        requires room { HasRoom self.old.room }
+        requires there { with_id self.old.txns copy.id ≡ Some copy }
+        ensures edits { self.new.edits ≡ self.old.edits ++ edit.Resolve copy.id outcome ∷ [] }
+        ensures txns { self.new.txns ≡ map (resolved copy.id outcome) self.old.txns }
+    {
+        let id = copy.id;
+        copy.status = outcome.status();
+        self.resolved.insert(id.0, copy).unwrap();
+        self.journal.push(Edit::Resolve(id, outcome)).unwrap();
+    }
+
+    /// The transaction with that id, which must be there, is withdrawn.
     pub fn withdraw(&mut self, id: TxnId)
-        ensures { self.new ≡ filter (is_another id) self.old }
+        requires room { HasRoom self.old.room }
+        requires there { withdrawal_refusal self.old.txns id ≡ None }
+        ensures edits { self.new.edits ≡ self.old.edits ++ edit.Withdraw id ∷ [] }
+        ensures txns { self.new.txns ≡ filter (is_another id) self.old.txns }
     {
-        self.take_out(id);
-        self.close_up();
+        self.places.swap_remove(&id.0);
+        self.resolved.swap_remove(&id.0);
+        self.journal.push(Edit::Withdraw(id)).unwrap();
     }
 
-    /// The transaction with that id leaves an empty slot.
-    fn take_out(&mut self, id: TxnId)
-        ensures { self.new ≡ filter (is_another id) self.old }
+    /// A key is set up, which is nothing to the transactions.
+    pub fn set_up(&mut self, key: Key, value: Value)
+        requires { HasRoom self.old.room }
+        ensures edits { self.new.edits ≡ self.old.edits ++ edit.SetUp key value ∷ [] }
+        ensures txns { self.new.txns ≡ self.old.txns }
     {
-        match self.places.swap_remove(&id.0) {
-            Some(place) => {
-                empty(&mut self.slots[place]);
-                self.count -= 1;
-            }
-            None => {}
-        }
+        self.journal.push(Edit::SetUp(key, value)).unwrap();
     }
+}
 
-    /// Closes up the empty slots where fewer than half of all, rounded down, hold a transaction. Where memory is refused they stay for
-    /// now.
-    fn close_up(&mut self)
-        ensures { self.new ≡ self.old }
-    {
-        if self.count < self.slots.len() / 2 {
-            if let Ok(packed) = self.packed() {
-                *self = packed;
-            }
-        }
-    }
-
-    /// The same transactions without empty slots.
-    fn packed(&self) -> Result<Arrivals, OutOfMemory>
-        ensures { IfOk result (λ packed. packed ≡ self.now) }
-    {
-        let mut packed = Arrivals::new(self.alloc, self.hash);
-        for slot in &self.slots {
-            if let Some(txn) = slot {
-                packed.push(txn.try_clone()?)?;
-            }
-        }
-        Ok(packed)
+/// The transaction that arrives by the edit at that place, with its status now, where it is present.
+fn present_at<'a>(
+    places: &IndexMap<u64, usize, NumberHash>,
+    resolved: &'a IndexMap<u64, Txn, NumberHash>,
+    place: usize,
+    edit: &'a Edit,
+) -> Option<&'a Txn>
+    ensures { option_copied result ≡ present_at (get nat_eq places.now) (get nat_eq resolved.now) (place, edit.now) }
+{
+    let Edit::Arrive(txn) = edit else {
+        return None;
+    };
+    match places.get(&txn.id.0) {
+        Some(&there) if there == place => match resolved.get(&txn.id.0) {
+            Some(copy) => Some(copy),
+            None => Some(txn),
+        },
+        _ => None,
     }
 }
 
@@ -201,20 +213,4 @@ fn is_in_doubt(status: Status) -> bool
         Status::InDoubt => true,
         Status::Committed(_) | Status::Aborted => false,
     }
-}
-
-/// What is in the slot is resolved.
-fn resolve_in(slot: &mut Option<Txn>, outcome: Outcome)
-    ensures { slot.new ≡ resolved_slot outcome slot.old }
-{
-    if let Some(txn) = slot {
-        txn.status = outcome.status();
-    }
-}
-
-/// Nothing is in the slot any more.
-fn empty(slot: &mut Option<Txn>)
-    ensures { slot.new ≡ None }
-{
-    *slot = None;
 }

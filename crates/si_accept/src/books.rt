@@ -24,9 +24,8 @@ use std::marker::Model;
 pub struct Book {
     // How many edits the journal may have.
     limit: usize,
-    journal: Vec<Edit>,
-    // What is present after the journal.
-    present: Contents,
+    // The journal, and what is present after it.
+    contents: Contents,
 }
 
 impl Model for Book {
@@ -34,9 +33,9 @@ impl Model for Book {
 
     ghost Value = { BookState };
 
-    ghost view = { λ b. record { limit = b.limit; journal = b.journal.items } };
+    ghost view = { λ b. record { limit = b.limit; journal = b.contents.journal } };
 
-    ghost invariant = { λ b. IsBook b.limit b.journal.items b.present };
+    ghost invariant = { λ b. IsBook b.limit b.contents.journal b.contents.present };
 }
 
 impl Book {
@@ -50,8 +49,7 @@ impl Book {
     {
         Book {
             limit,
-            journal: Vec::new(alloc),
-            present: Contents::new(alloc, hash),
+            contents: Contents::new(alloc, hash),
         }
     }
 
@@ -86,14 +84,10 @@ impl Book {
         ensures present { OnOk result (present self.new.journal ≡ after edit (present self.old.journal)) }
         ensures err { OnErr result (self.new ≡ self.old) }
     {
-        // All that can fail comes before the journal changes.
-        let recorded = edit.try_clone()?;
-        self.journal.reserve(1)?;
-        self.present.apply(edit)?;
-        self.journal.push(recorded).unwrap();
+        self.contents.apply(edit)?;
         present_grows();
         accepted_grows();
-        Ok(Number(self.journal.len() as u64))
+        Ok(Number(self.journal().len() as u64))
     }
 
     /// The first reason against the edit, if there is one.
@@ -103,33 +97,33 @@ impl Book {
         ensures room { IfNone result (length self.now.journal < self.now.limit) }
         ensures acceptable { IfNone result (IsAcceptable (present self.now.journal) edit.now) }
     {
-        if self.limit <= self.journal.len() {
+        if self.limit <= self.journal().len() {
             return Some(Refusal::Full);
         }
-        self.present.refusal(edit)
+        self.contents.refusal(edit)
     }
 
-    /// Copies of the present transactions, in the order of arrival, which share the operations.
+    /// Copies of the present transactions, in the order of arrival, which share the operations. It walks over the journal.
     pub fn present(&self) -> Result<Vec<Txn>, OutOfMemory>
         ensures txns { IfOk result (λ txns. txns.items ≡ (present self.now.journal).txns) }
         ensures history { IsHistory (present self.now.journal) }
     {
         present_is_history();
-        self.present.txns()
+        self.contents.txns()
     }
 
     /// Copies of the keys that were set up with their values, in the order of arrival.
     pub fn initial(&self) -> Result<Vec<(Key, Value)>, OutOfMemory>
         ensures { IfOk result (λ initial. initial.items ≡ (present self.now.journal).initial) }
     {
-        self.present.initial()
+        self.contents.initial()
     }
 
     /// The present transaction with that id.
     pub fn get(&self, id: TxnId) -> Option<&Txn>
         ensures { option_copied result ≡ with_id (present self.now.journal).txns id }
     {
-        self.present.get(id)
+        self.contents.get(id)
     }
 
     /// The accepted edits, in the order of their numbers.
@@ -138,14 +132,14 @@ impl Book {
         ensures accepted { IsAccepted self.now.journal }
         ensures within { length self.now.journal ≤ self.now.limit }
     {
-        &self.journal
+        self.contents.journal()
     }
 
     /// How many transactions are present.
     pub fn len(&self) -> usize
         ensures { result ≡ length (present self.now.journal).txns }
     {
-        self.present.len()
+        self.contents.len()
     }
 
     /// Whether no transaction is present.
@@ -155,18 +149,18 @@ impl Book {
         self.len() == 0
     }
 
-    /// How many committed transactions are present. It walks over all that are present.
+    /// How many committed transactions are present. It walks over the journal.
     pub fn committed(&self) -> usize
         ensures { result ≡ committed_among (present self.now.journal).txns }
     {
-        self.present.committed()
+        self.contents.committed()
     }
 
-    /// The ids of the present transactions that are in doubt, in the order of arrival. It walks over all that are present.
+    /// The ids of the present transactions that are in doubt, in the order of arrival. It walks over the journal.
     pub fn doubtful(&self) -> Result<Vec<TxnId>, OutOfMemory>
         ensures { IfOk result (λ ids. ids.items ≡ doubtful_among (present self.now.journal).txns) }
     {
-        self.present.doubtful()
+        self.contents.doubtful()
     }
 
     /// How many edits the journal may have.

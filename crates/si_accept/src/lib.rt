@@ -1,12 +1,11 @@
 //! The book: the journal of accepted edits, and what is present after them: transactions and set-up values.
 //!
 //! It carries the promise that an edit is refused exactly where the definition of a refusal gives that refusal, and
-//! that a refused edit changes nothing. No edit walks over all that is present, but for a withdrawal that closes up the
-//! slots which those before it left empty, as many as it has to move. It stands on `si_model`, `si_sorted`, `si_hashing`,
-//! `indexmap` and `thiserror`, and its proofs on `si_lists`.
+//! that a refused edit changes nothing. No edit walks over all that is present. It stands on `si_model`, `si_sorted`,
+//! `si_hashing`, `indexmap` and `thiserror`, and its proofs on `si_lists`.
 #![tactic(auto)]
 
-pub mod arrivals;
+mod arrivals;
 pub mod books;
 mod contents;
 pub mod faults;

@@ -1,7 +1,6 @@
 //! What was worked out by hand: histories with their findings and evidence, what is answered to edits, what lines say, and what is
 //! written.
 
-mod arrivals;
 mod book_scripts;
 mod books;
 mod commit_order;

@@ -221,7 +221,7 @@ fn a_resolution_is_accepted_in_the_end(rt: HostRuntime) {
 
 #[test]
 fn a_withdrawal_is_accepted_in_the_end(rt: HostRuntime) {
-    // After eight edits the journal has to grow. One of five is left, so the empty slots are closed up.
+    // After eight edits the journal has to grow.
     let case = Case {
         accepted: "
             arrive 7 1 indoubt

@@ -1,6 +1,9 @@
-use Rattle.std.proofs.Common.{◌≡◌, ◌++◌, drop}
-use Rattle.si_accept.specs.Arrivals.{in_slots}
+use Rattle.std.proofs.Common.{◌≡◌, ◌++◌, drop, nat_eq}
+use Rattle.std.specs.HashMap.{get}
+use Rattle.std.specs.List.{filter_map, enumerate_from}
+use Rattle.si_accept.specs.Arrivals.{present_at, present_in}
 use Rattle.si_accept.proofs.arrivals.Arrivals.to_vec.Given as goal
 
-abbrev pub invariant-loop-slot : goal.invariant-loop-slot
-invariant-loop-slot l = l.copies.items ++ in_slots (drop l.slot-index l.slot-items) ≡ in_slots l.slot-items
+-- what was copied, and what is left to copy
+abbrev pub invariant-loop-place : goal.invariant-loop-place
+invariant-loop-place l = l.copies.items ++ filter_map (present_at (get nat_eq l.self-inside.places) (get nat_eq l.self-inside.resolved)) (enumerate_from l.place (drop l.place l.edit-items)) ≡ present_in (get nat_eq l.self-inside.places) (get nat_eq l.self-inside.resolved) l.edit-items

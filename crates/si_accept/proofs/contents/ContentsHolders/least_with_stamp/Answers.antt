@@ -5,5 +5,5 @@ use Rattle.si_accept.proofs.contents.ContentsHolders.least_with_stamp.Goals as g
 
 pub returns : goal.returns
 returns c =
-    let txns = c.self.inside.txns in
+    let txns = c.self.inside.arrivals.txns in
     rw (← c.self.view_is) (least_is_one (has_stamp c.args.stamp) txns _ _ (least_from (has_any c.self.inside.index c.args.stamp) (has_stamp c.args.stamp) txns _ (stamps_exact txns c.self.inside.index c.self.invariant c.args.stamp) c.least_with_stamp.ensures) (c.least_is_least.ensures (has_stamp c.args.stamp) txns))
