@@ -3,7 +3,7 @@ use Rattle.std.proofs.Common.{◌≡◌, ◌∙◌, inl, inr, ℕ, zero, suc, �
 use Rattle.std.proofs.Math.Seq.{take-length}
 use Rattle.si_model.specs.declared.edits.Edit.{Edit}
 use Rattle.si_accept.specs.Books.{BookState}
-use Rattle.si_accept.proofs.FilledSlots.{set_same}
+use Rattle.si_core.proofs.Replaced.{set_same}
 use Rattle.si_shard.specs.Shards.{ShardState}
 use Rattle.si_core.specs.declared.steps.Reply.{Reply}
 use Rattle.si_core.specs.declared.steps.Reply.TheVariants as reply

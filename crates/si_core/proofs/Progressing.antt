@@ -10,7 +10,7 @@ use Rattle.si_model.specs.declared.numbers.Number.{Number}
 use Rattle.si_model.specs.declared.refusals.Refusal.{Refusal}
 use Rattle.si_model.specs.Journals.{refusal_after}
 use Rattle.si_accept.specs.Books.{BookState}
-use Rattle.si_accept.proofs.FilledSlots.{set_other, set_same}
+use Rattle.si_core.proofs.Replaced.{set_other, set_same}
 use Rattle.si_shard.specs.Shards.{ShardState}
 use Rattle.si_shard.specs.declared.shards.TheConstants.{MOST_SHARDS}
 use Rattle.si_core.specs.declared.steps.Reply.{Reply}

@@ -4,7 +4,7 @@ use Rattle.std.specs.List.{Contains}
 use Rattle.std.proofs.lemmas.Bool.Decides.{nat_tests}
 use Rattle.std.proofs.lemmas.List.{append-nil}
 use Rattle.si_lists.proofs.Members.{Contains-cons_cases, Contains-nil, here, there}
-use Rattle.si_accept.proofs.FilledSlots.{set_same}
+use Rattle.si_core.proofs.Replaced.{set_same}
 use Rattle.si_model.specs.declared.edits.Edit.{Edit}
 use Rattle.si_model.specs.declared.refusals.Refusal.TheVariants as refusal
 use Rattle.si_model.specs.Edits.{IsAcceptable, refusal_on}

@@ -4,7 +4,7 @@ use Rattle.std.specs.List.{Contains}
 use Rattle.std.proofs.lemmas.Bool.{cases_eq}
 use Rattle.std.proofs.lemmas.List.{length-append, length-replicate}
 use Rattle.si_lists.proofs.Members.{Contains-cons_cases, Contains-nil, contains_get, get_contains, same_some}
-use Rattle.si_accept.proofs.FilledSlots.{set_other, set_same}
+use Rattle.si_core.proofs.Replaced.{set_other, set_same}
 use Rattle.si_model.specs.declared.edits.Edit.{Edit}
 use Rattle.si_model.specs.declared.refusals.Refusal.TheVariants as refusal
 use Rattle.si_model.specs.Edits.{IsAcceptable, refusal_on}
