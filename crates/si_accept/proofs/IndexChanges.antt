@@ -1,5 +1,5 @@
--- The indexes stay exact when a transaction arrives, arrives and is taken back, or is withdrawn.
-use Rattle.std.proofs.Common.{◌≡◌, inl, inr, ◌↔◌, true, false, List, [], ◌∷◌, ◌++◌, Some, None, refl, sym, ap, subst, ◌∙◌}
+-- The indexes stay exact when a transaction arrives or is withdrawn.
+use Rattle.std.proofs.Common.{◌≡◌, inl, inr, true, false, List, [], ◌∷◌, ◌++◌, Some, None, refl, sym, ap, subst, ◌∙◌}
 use Rattle.std.specs.List.{Contains, filter}
 use Rattle.std.proofs.lemmas.Bool.{eqb-false}
 use Rattle.si_model.specs.declared.numbers.TxnId.{TxnId}
@@ -12,11 +12,10 @@ use Rattle.si_lists.proofs.Members.{Contains-from_filter}
 use Rattle.si_lists.proofs.Tests.{find-Some, find-None}
 use Rattle.si_accept.specs.Stamps.{has}
 use Rattle.si_accept.specs.Writers.{writer_of}
-use Rattle.si_accept.specs.Indexes.{Indexes, AreIndexes, IsExact, StartsAt, CommitsAt, WritesPairOf, SetsTxn, LacksTxn, install_of, other_of}
+use Rattle.si_accept.specs.Indexes.{Indexes, AreIndexes, StartsAt, CommitsAt, WritesPairOf, SetsTxn, LacksTxn, install_of, other_of}
 use Rattle.si_accept.proofs.Exact.{arrived, exact_arrived, exact_withdrawn}
-use Rattle.si_accept.proofs.StampChanges.{sets_true, sets_false, perhaps_true, perhaps_false, set_undone, perhaps_undone}
+use Rattle.si_accept.proofs.StampChanges.{sets_true, sets_false, perhaps_true, perhaps_false}
 use Rattle.si_accept.proofs.PairChanges.{writers_true, writers_false}
-use Rattle.si_accept.proofs.WriterChanges.{undone}
 
 -- ---- an arrival
 
@@ -50,22 +49,3 @@ pub withdrawn_of : (P : List Txn) (I J : Indexes) (u : TxnId) (T : Txn) → AreI
 withdrawn_of P I J u T h e s =
     let f = find-Some (λ A. same_id A.id u) P T e in
     subst (λ v. AreIndexes (filter (is_another v) P) J) (same_id_is T.id u f.1) (indexed_withdrawn P I J T h f.0 s)
-
--- ---- an arrival that is undone
-
-exact_same : {K : Type 0} (of_txn : Txn → K → Type 0) (was is : K → Type 0) (P : List Txn) → IsExact was of_txn P → ((k : K) → is k ↔ was k) → IsExact is of_txn P
-exact_same of_txn was is P h g k = (λ i. (h k).0 ((g k).0 i), λ r. (g k).1 ((h k).1 r))
-
-pub indexed_undone : (P : List Txn) (I J K : Indexes) (T : Txn) → AreIndexes P I → LacksTxn T I → SetsTxn T true (Some T.id) I J → SetsTxn T false None J K → AreIndexes P K
-indexed_undone P I J K T h lacks f g =
-    let starts = set_undone T.start T.id I.starts J.starts K.starts lacks.start f.starts g.starts in
-    let installs = perhaps_undone (install_of (writes_some T) (commit_of T.status)) T.id I.installs J.installs K.installs lacks.install f.commits.installs g.commits.installs in
-    let others = perhaps_undone (other_of (writes_some T) (commit_of T.status)) T.id I.others J.others K.others lacks.other f.commits.others g.commits.others in
-    let writers = undone T.ops (Some T.id) I.written J.written J.written K.written lacks.pairs f.writers (λ q. refl) g.writers in
-    record {
-      names = h.names;
-      starts = exact_same StartsAt (λ k. has I.starts k.0 k.1 ≡ true) (λ k. has K.starts k.0 k.1 ≡ true) P h.starts (λ k. (λ e. sym (starts k.0 k.1) ∙ e, λ e. starts k.0 k.1 ∙ e));
-      installs = exact_same (CommitsAt install_of) (λ k. has I.installs k.0 k.1 ≡ true) (λ k. has K.installs k.0 k.1 ≡ true) P h.installs (λ k. (λ e. sym (installs k.0 k.1) ∙ e, λ e. installs k.0 k.1 ∙ e));
-      others = exact_same (CommitsAt other_of) (λ k. has I.others k.0 k.1 ≡ true) (λ k. has K.others k.0 k.1 ≡ true) P h.others (λ k. (λ e. sym (others k.0 k.1) ∙ e, λ e. others k.0 k.1 ∙ e));
-      writers = exact_same WritesPairOf (λ k. writer_of I.written k.0 ≡ Some k.1) (λ k. writer_of K.written k.0 ≡ Some k.1) P h.writers (λ k. (λ e. sym (writers k.0) ∙ e, λ e. writers k.0 ∙ e));
-    }

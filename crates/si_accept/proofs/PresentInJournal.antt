@@ -161,7 +161,7 @@ one_more (Some T) = refl
 zero_and : (k : ℕ) → 0 + k ≡ k
 zero_and k = omega arith
 
-pub pushed_old : {X : Type 0} (xs : List X) (x : X) (k : ℕ) (y : X) → slice_get xs k ≡ Some y → slice_get (xs ++ x ∷ []) k ≡ Some y
+pushed_old : {X : Type 0} (xs : List X) (x : X) (k : ℕ) (y : X) → slice_get xs k ≡ Some y → slice_get (xs ++ x ∷ []) k ≡ Some y
 pushed_old [] x k y e = cc
 pushed_old (z ∷ xs) x zero y e = e
 pushed_old (z ∷ xs) x (suc k) y e = pushed_old xs x k y e

@@ -5,7 +5,7 @@ use Rattle.si_model.specs.declared.numbers.Stamp.{Stamp}
 use Rattle.si_model.specs.declared.numbers.TxnId.{TxnId}
 use Rattle.si_model.proofs.Equalities.{same_id_is, same_id_from, same_stamp_is, same_stamp_from}
 use Rattle.si_lists.proofs.Members.{same_some}
-use Rattle.si_accept.specs.Stamps.{same_pair, has, Sets, SetsPerhaps, SameHolders, LacksPerhaps}
+use Rattle.si_accept.specs.Stamps.{same_pair, has, Sets, SetsPerhaps}
 
 pair_is : (s t : Stamp) (u w : TxnId) → same_pair (s.0, u.0) (t.0, w.0) ≡ true → (s ≡ t) × (u ≡ w)
 pair_is s t u w e = let h = and_parts (nat_eq s.0 t.0) (nat_eq u.0 w.0) e in (same_stamp_is s t h.0, same_id_is u w h.1)
@@ -39,18 +39,3 @@ perhaps_false None u A B h k = (λ i. (sym (h k.0 k.1) ∙ i, λ a. let f = a.0 
 perhaps_false (Some c) u A B h k =
     let g = sets_false c u A B h k in
     (λ i. let w = g.0 i in (w.0, λ a. w.1 (same_some a.0, a.1)), λ r. g.1 (r.0, λ a. r.1 (ap Some a.0, a.1)))
-
--- ---- a change that is undone
-
-undo_set : (here was : Bool) → (here ≡ true → was ≡ false) → cond here false (cond here true was) ≡ was
-undo_set true was f = sym (f refl)
-undo_set false was f = refl
-
-pub set_undone : (s : Stamp) (u : TxnId) (A B C : List (ℕ × ℕ)) → has A s u ≡ false → Sets s u true A B → Sets s u false B C → SameHolders A C
-set_undone s u A B C lacks f g t w =
-    g t w ∙ ap (λ b. cond (same_pair (s.0, u.0) (t.0, w.0)) false b) (f t w)
-    ∙ undo_set (same_pair (s.0, u.0) (t.0, w.0)) (has A t w) (λ e. let p = pair_is s t u w e in ap (λ v. has A v w) (sym p.0) ∙ ap (λ v. has A s v) (sym p.1) ∙ lacks)
-
-pub perhaps_undone : (o : Option Stamp) (u : TxnId) (A B C : List (ℕ × ℕ)) → LacksPerhaps o u A → SetsPerhaps o u true A B → SetsPerhaps o u false B C → SameHolders A C
-perhaps_undone None u A B C lacks f g = λ t w. g t w ∙ f t w
-perhaps_undone (Some c) u A B C lacks f g = set_undone c u A B C lacks f g
