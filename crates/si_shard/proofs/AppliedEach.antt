@@ -18,7 +18,7 @@ use Rattle.si_shard.specs.KeyChanges.{changed_on}
 use Rattle.si_shard.specs.Keeping.{Concerns, IsTaken}
 use Rattle.si_shard.specs.KeyStates.{IsOn}
 use Rattle.si_shard.specs.SingleEdits.{CanBeMadeBy, IsMadeBy}
-use Rattle.si_shard.specs.GatheredChanges.{IsTold}
+use Rattle.si_shard.specs.SingleEdits.{IsTold}
 use Rattle.si_shard.proofs.ArrivalPlaces.{known_longer}
 use Rattle.si_shard.proofs.Concerning.{concerns_by, told_concerns}
 use Rattle.si_shard.proofs.KeyChanges.{can_change, change_or_not, follows_change, stays}
@@ -26,6 +26,10 @@ use Rattle.si_shard.proofs.KeyChanges.{can_change, change_or_not, follows_change
 -- the index may be caught up
 pub caught_up : (id : ShardId) (edits : List Edit) (a : Applied) → AreApplied id edits a → (arrivals : Arrivals) → AreKnown edits arrivals → AreApplied id edits (record a { arrivals = arrivals })
 caught_up id edits a sound arrivals known = record { ours = sound.ours; others = sound.others; arrivals = known }
+
+-- a look ahead changes nothing
+pub looked : (id : ShardId) (edits : List Edit) (a b : Applied) → AreApplied id edits a → b ≡ record a { ahead = b.ahead } → AreApplied id edits b
+looked id edits a b sound is = subst (AreApplied id edits) (sym is) (record { ours = sound.ours; others = sound.others; arrivals = sound.arrivals })
 
 module _ (id : ShardId) (edits : List Edit) (accepted : IsAccepted edits) (e : Edit) (old : Applied) (sound : AreApplied id edits old) (ready : IsReadyFor e edits (get nat_eq old.arrivals.by_id)) where
   abbrev at : ℕ → Option Arrival

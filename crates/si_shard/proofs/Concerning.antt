@@ -16,7 +16,7 @@ use Rattle.si_shard.specs.ShardIds.{is_ours}
 use Rattle.si_shard.specs.AppliedEdits.{TouchesShard, change_by, head_for, ops_at, ops_for, ops_in_some}
 use Rattle.si_shard.specs.Arrivals.{AreArrivals, IsReadyFor}
 use Rattle.si_shard.specs.Keeping.{Concerns}
-use Rattle.si_shard.specs.GatheredChanges.{IsSomething, IsTold}
+use Rattle.si_shard.specs.SingleEdits.{IsSomething, IsTold}
 use Rattle.si_shard.proofs.ArrivalPlaces.{same_ops}
 
 module _ (id : ShardId) (edits : List Edit) (at : ℕ → Option Arrival) where

@@ -25,7 +25,7 @@ shard_send =
       global.the_field_send,
       (
         secret.the_field_send,
-        (id.the_field_send, (stored_send, (search (edit.the_send, crosses, sendable) depth 20, (applied.the_field_send, (search sendable, (search (crosses, sendable) depth 20, (search sendable, tt))))))),
+        (id.the_field_send, (stored_send, (search (edit.the_send, crosses, sendable) depth 20, (applied.the_field_send, (search sendable, tt))))),
       ),
     )))
 
@@ -36,6 +36,6 @@ shard_sync =
       global.the_field_sync,
       (
         secret.the_field_sync,
-        (id.the_field_sync, (stored_sync, (search (edit.the_sync, crosses, sendable) depth 20, (applied.the_field_sync, (search sendable, (search (crosses, sendable) depth 20, (search sendable, tt))))))),
+        (id.the_field_sync, (stored_sync, (search (edit.the_sync, crosses, sendable) depth 20, (applied.the_field_sync, (search sendable, tt))))),
       ),
     )))

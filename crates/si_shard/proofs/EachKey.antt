@@ -1,236 +1,214 @@
--- What an edit is on the keys of a shard, made on each of them by itself, where the first access of the key stands.
-use Rattle.std.proofs.Common.{◌≡◌, ◌≢◌, ◌⊎◌, ◌∙◌, ◌<◌, ◌≤◌, inl, inr, ℕ, zero, suc, ◌+◌, drop, take, Bool, true, false, cond, List, [], ◌∷◌, ◌++◌, length, Some, None, refl, sym, ap, subst, arith, slice_index_or, IfOk, Ok, Err}
-use Rattle.std.proofs.lemmas.List.{get_or-take, length-take-le, take-append-drop, take_all, take_more}
-use Rattle.std.proofs.lemmas.List.Elements.{All-append}
-use Rattle.std.proofs.Math.Seq.{drop-cons}
+-- What an edit is on the keys of a shard, made on each of them by itself, key by key.
+use Rattle.std.proofs.Common.{◌≡◌, ◌≢◌, ◌⊎◌, ◌∙◌, ◌<◌, ◌≤◌, inl, inr, ℕ, ◌+◌, Bool, true, false, List, [], ◌∷◌, ◌++◌, length, slice_get, Some, refl, sym, ap, subst, arith, IfOk, Ok, Err}
 use Rattle.std.specs.declared.result.Result.{Result}
-use Rattle.std.specs.List.{Contains, cons_option}
-use Rattle.si_lists.proofs.Members.{Contains-nil, here}
+use Rattle.std.specs.List.{Contains}
+use Rattle.std.proofs.lemmas.Bool.{cases_lt}
+use Rattle.std.proofs.lemmas.Option.{slice_get_within}
+use Rattle.si_lists.proofs.Members.{contains_get, get_contains}
+use Rattle.si_lists.proofs.Pushes.{push_last}
 use Rattle.si_model.specs.declared.numbers.Value.{Value}
 use Rattle.si_model.specs.declared.operations.Op.{Op}
 use Rattle.si_model.specs.declared.parts.OnKey.{OnKey}
 use Rattle.si_model.specs.declared.parts.Placed.{Placed}
 use Rattle.si_model.specs.declared.edits.Edit.{Edit}
 use Rattle.si_model.specs.declared.edits.Edit.TheVariants as edit
-use Rattle.si_model.specs.Operations.{access_of, key_of, same_key}
-use Rattle.si_model.specs.Parts.{accesses}
+use Rattle.si_model.specs.Operations.{access_of, same_key}
 use Rattle.si_model.proofs.Equalities.{same_key_from, same_key_is}
+use Rattle.si_model.specs.Parts.{accesses}
+use Rattle.si_model.proofs.KeyParts.{accesses_are}
 use Rattle.si_shard.specs.declared.key_changes.Change.{Change}
 use Rattle.si_shard.specs.declared.key_changes.Change.TheVariants as change
 use Rattle.si_shard.specs.declared.shard_ids.ShardId.{ShardId}
 use Rattle.si_shard.specs.declared.key_states.KeyStates.{KeyStates}
-use Rattle.si_shard.specs.declared.gathered_changes.TxnHead.{TxnHead}
+use Rattle.si_shard.specs.declared.key_changes.TxnHead.{TxnHead}
 use Rattle.si_shard.specs.AppliedEdits.{IsAccessChange, change_by}
 use Rattle.si_shard.specs.KeyChanges.{LeadsTo}
 use Rattle.si_shard.specs.KeyStates.{IsChangedAt, IsMadeAt, IsOn, StaysAt}
 use Rattle.si_shard.specs.ShardIds.{is_ours}
-use Rattle.si_shard.specs.SingleEdits.{AreElsewhere, CanBeMadeBy, IsMadeBy, accesses_from}
-use Rattle.si_shard.specs.GatheredChanges.{IsTold}
-use Rattle.si_shard.proofs.Gathering.{IsAccessed}
-
--- ---- the accesses from a place on
-
--- the operation at the place i is on the key x, or not
-pub next_access : (x : List ℕ) (i : ℕ) (p : Op) (left : List Op) (b : Bool) → same_key (key_of p) x ≡ b
-    → accesses_from x i (p ∷ left) ≡ cons_option (cond b (Some (record { place = i; access = access_of p })) None) (accesses_from x (i + 1) left)
-next_access x i p left b s = ap (λ t. cons_option (cond t (Some (record { place = i; access = access_of p })) None) (accesses_from x (i + 1) left)) s
-
--- operations elsewhere don't count
-past : (x : List ℕ) (i : ℕ) (before left : List Op) → AreElsewhere x before → accesses_from x i (before ++ left) ≡ accesses_from x (i + length before) left
-past x i [] left none = ap (λ k. accesses_from x k left) (let e : i ≡ i + 0 = omega arith in e)
-past x i (p ∷ before) left none =
-    let rest : AreElsewhere x before = λ j d l. none (suc j) d (omega (arith, l)) in
-    let on : i + 1 + length before ≡ i + length (p ∷ before) = omega arith in
-    next_access x i p (before ++ left) false (none 0 p (omega arith)) ∙ past x (i + 1) before left rest ∙ ap (λ k. accesses_from x k left) on
-
-none_there : (x : List ℕ) (i : ℕ) (ops : List Op) → AreElsewhere x ops → accesses_from x i ops ≡ []
-none_there x i [] none = refl
-none_there x i (p ∷ ops) none = next_access x i p ops false (none 0 p (omega arith)) ∙ none_there x (i + 1) ops (λ j d l. none (suc j) d (omega (arith, l)))
-
--- ---- key by key
+use Rattle.si_shard.specs.SingleEdits.{AreByKey, CanBeMadeBy, IsKeyAt, IsMadeBy, IsPlaced, IsTold, KeyPlace}
+use Rattle.si_shard.proofs.ByKey.{AreHeld, all_held, before_or_at, held_more, none_held, one_key, still}
 
 -- what the edit is where a key of the shard is accessed can be made there
 abbrev pub CanBeAccessed : ShardId → List Op → TxnHead → Edit → KeyStates → Type 0
 CanBeAccessed id ops h e ks = (x : List ℕ) (c : Change) → is_ours id x ≡ true → IsAccessChange ops h e x c → (Q R : OnKey) × IsOn ks x Q × LeadsTo (c ∷ []) Q R
 
--- the key x is accessed, and its change was made
-pub record IsDoneAt (ops : List Op) (h : TxnHead) (e : Edit) (x : List ℕ) (old new : KeyStates) : Type 0 where
-  pub access : Placed
-  pub there : Contains (accesses x ops) access
-  pub made : IsMadeAt x (change_by h e (accesses x ops) ∷ []) old new
+module _ (id : ShardId) (ops : List Op) (h : TxnHead) (e : Edit) (list : List KeyPlace) (by : AreByKey id ops list) where
+  -- an operation on the key is among the first i of the list
+  abbrev pub HasCome : ℕ → List ℕ → Type 0
+  HasCome i x = (j : ℕ) × (j < i) × IsKeyAt list j x
 
--- what was made of the operations before the place i: each key's change, once an access of it came
-pub record AreMade (id : ShardId) (ops : List Op) (h : TxnHead) (e : Edit) (i : ℕ) (touches : Bool) (old new : KeyStates) : Type 0 where
-  pub ours : (x : List ℕ) → is_ours id x ≡ true → (AreElsewhere x (take i ops) × StaysAt x old new) ⊎ ((AreElsewhere x (take i ops) → ⊥) × IsDoneAt ops h e x old new)
-  pub others : (x : List ℕ) → is_ours id x ≡ false → StaysAt x old new
-  pub quiet : touches ≡ false → (x : List ℕ) → is_ours id x ≡ true → AreElsewhere x (take i ops)
-  pub loud : touches ≡ true → IsAccessed id ops
+  -- what was made of the first i: each key's change, but of the key of the next one, whose accesses so far are these
+  pub record AreMade (i : ℕ) (hand : List Placed) (old new : KeyStates) : Type 0 where
+    pub keys : (x : List ℕ) → (StaysAt x old new × (HasCome i x → IsKeyAt list i x))
+        ⊎ (IsMadeAt x (change_by h e (accesses x ops) ∷ []) old new × HasCome i x × (IsKeyAt list i x → ⊥))
+    pub held : (x : List ℕ) → IsKeyAt list i x → AreHeld id ops list by x i hand
 
--- at the beginning
-pub none_made : (id : ShardId) (ops : List Op) (h : TxnHead) (e : Edit) (keys : KeyStates) → AreMade id ops h e 0 false keys keys
-none_made id ops h e keys = record { ours = λ x o. inl (none x, (λ Q on. on)); others = λ x o Q on. on; quiet = λ q x o. none x; loud = λ q. cc }
-  where
-    none : (x : List ℕ) → AreElsewhere x (take 0 ops)
-    none x = λ j d l. absurd (omega (arith, l))
-
-module _ (id : ShardId) (ops : List Op) (h : TxnHead) (e : Edit) (i : ℕ) (p : Op) (within : i < length ops) (is : p ≡ slice_index_or ops i p) (old mid : KeyStates) where
-  abbrev a : Placed
-  a = record { place = i; access = access_of p }
-
-  -- ---- one more operation
-
-  more : take (i + 1) ops ≡ take i ops ++ p ∷ []
-  more = take_more ops i p within ∙ ap (λ q. take i ops ++ q ∷ []) (sym is)
-
-  one : (x : List ℕ) → same_key (key_of p) x ≡ false → AreElsewhere x (p ∷ [])
-  one x s zero d l = s
-  one x s (suc j) d l = absurd (omega (arith, l))
-
-  grow : (x : List ℕ) → AreElsewhere x (take i ops) → same_key (key_of p) x ≡ false → AreElsewhere x (take (i + 1) ops)
-  grow x none s = subst (AreElsewhere x) (sym more) (All-append (λ q. same_key (key_of q) x ≡ false) (take i ops) (p ∷ []) none (one x s))
-
-  short : length (take i ops) ≡ i
-  short = length-take-le i ops (omega arith)
-
-  long : length (take (i + 1) ops) ≡ i + 1
-  long = length-take-le (i + 1) ops (omega arith)
-
-  shrink : (x : List ℕ) → AreElsewhere x (take (i + 1) ops) → AreElsewhere x (take i ops)
-  shrink x none j d l =
-      let below : j < i = omega (arith, short, l) in
-      let same : slice_index_or (take i ops) j d ≡ slice_index_or (take (i + 1) ops) j d = get_or-take i ops j d below ∙ sym (get_or-take (i + 1) ops j d (omega arith)) in
-      ap (λ q. same_key (key_of q) x) same ∙ none j d (omega (arith, long))
-
-  last : (x : List ℕ) → AreElsewhere x (take (i + 1) ops) → same_key (key_of p) x ≡ false
-  last x none = (let at : p ≡ slice_index_or (take (i + 1) ops) i p = is ∙ sym (get_or-take (i + 1) ops i p (omega arith)) in
-      ap (λ q. same_key (key_of q) x) at ∙ none i p (omega (arith, long)))
-
-  -- an operation that is on no key that was left alone so far changes nothing
-  pub made_past : (touches : Bool) → ((x : List ℕ) → is_ours id x ≡ true → AreElsewhere x (take i ops) → same_key (key_of p) x ≡ false)
-      → AreMade id ops h e i touches old mid → AreMade id ops h e (i + 1) touches old mid
-  made_past touches off w = record {
-    ours = λ x o. elim (w.ours x o) [
-      | inl k ↦ inl (grow x k.0 (off x o k.0), k.1)
-      | inr k ↦ inr ((λ none. k.0 (shrink x none)), k.1)
-    ];
-    others = w.others;
-    quiet = λ q x o. (let none = w.quiet q x o in grow x none (off x o none));
-    loud = w.loud;
+  pub none_made : (ks : KeyStates) → AreMade 0 [] ks ks
+  none_made ks = record {
+    keys = λ x. inl ((λ Q on. on), (λ c. absurd (let l = c.1 in omega arith)));
+    held = λ x key. none_held id ops list by x 0 (λ j l. absurd (omega arith));
   }
 
-  -- so it is with one that isn't the first on a key of the shard
-  pub off : ((is_ours id (key_of p) ≡ true) × AreElsewhere (key_of p) (take i ops) → ⊥) → (x : List ℕ) → is_ours id x ≡ true → AreElsewhere x (take i ops) → same_key (key_of p) x ≡ false
-  off begins x o none = by (same_key (key_of p) x) refl
-    where
-      by : (b : Bool) → same_key (key_of p) x ≡ b → same_key (key_of p) x ≡ false
-      by true s =
-          let key = sym (same_key_is (key_of p) x s) in
-          absurd (begins (subst (λ y. is_ours id y ≡ true) key o, subst (λ y. AreElsewhere y (take i ops)) key none))
-      by false s = s
+  -- the operation of an entry
+  pub placed : (i : ℕ) (d : KeyPlace) → slice_get list i ≡ Some d → IsPlaced id ops d.0.now d.1
+  placed i d at = (by.exact d.0.now d.1).0 (d, get_contains list i d at, refl, refl)
 
-  -- ---- the first access of a key
+  module _ (i : ℕ) (d : KeyPlace) (at : slice_get list i ≡ Some d) (p : Op) (there : slice_get ops d.1 ≡ Some p) (hand : List Placed) (old mid : KeyStates) (w : AreMade i hand old mid) where
+    abbrev x : List ℕ
+    x = d.0.now
 
-  module _ (touches : Bool) (ours : is_ours id (key_of p) ≡ true) (first : AreElsewhere (key_of p) (take i ops)) (w : AreMade id ops h e i touches old mid) where
-    -- all its accesses come from here on
-    pub all_here : accesses (key_of p) ops ≡ accesses_from (key_of p) i (drop i ops)
-    all_here =
-        let at : 0 + length (take i ops) ≡ i = omega (arith, short) in
-        ap (accesses_from (key_of p) 0) (sym (take-append-drop i ops)) ∙ past (key_of p) 0 (take i ops) (drop i ops) first ∙ ap (λ k. accesses_from (key_of p) k (drop i ops)) at
+    abbrev more : List Placed
+    more = hand ++ record { place = d.1; access = access_of p } ∷ []
 
-    accessed : Contains (accesses (key_of p) ops) a
-    accessed =
-        let cons : drop i ops ≡ p ∷ drop (suc i) ops = drop-cons ops i p within ∙ ap (λ q. q ∷ drop (suc i) ops) (sym is) in
-        let starts = ap (accesses_from (key_of p) i) cons ∙ next_access (key_of p) i p (drop (suc i) ops) true (same_key_from (key_of p) (key_of p) refl) in
-        subst (λ l. Contains l a) (sym (all_here ∙ starts)) (here a (accesses_from (key_of p) (i + 1) (drop (suc i) ops)))
+    here : IsKeyAt list i x
+    here = (d, at, refl)
 
-    -- the key wasn't changed before
-    fresh : StaysAt (key_of p) old mid
-    fresh = elim (w.ours (key_of p) ours) [ inl k ↦ k.1 | inr k ↦ absurd (k.0 first) ]
+    ours : is_ours id x ≡ true
+    ours = (placed i d at).ours
 
-    abbrev all : List Placed
-    all = accesses_from (key_of p) i (drop i ops)
+    holds : AreHeld id ops list by x (i + 1) more
+    holds = held_more id ops list by x i d p hand at refl there (w.held x here)
 
-    -- so its change can be made
-    pub can_make_here : CanBeAccessed id ops h e old → (Q R : OnKey) × IsOn mid (key_of p) Q × LeadsTo (change_by h e all ∷ []) Q R
-    can_make_here can =
-        let k = can (key_of p) (change_by h e all) ours (a, accessed, ap (change_by h e) (sym all_here)) in
-        (k.0, k.1, fresh k.0 k.2, k.3)
+    fresh : StaysAt x old mid
+    fresh = elim (w.keys x) [ inl k ↦ k.0 | inr k ↦ absurd (k.2 here) ]
 
-    abbrev Here : KeyStates → List ℕ → Type 0
-    Here new x = (AreElsewhere x (take (i + 1) ops) × StaysAt x old new) ⊎ ((AreElsewhere x (take (i + 1) ops) → ⊥) × IsDoneAt ops h e x old new)
+    -- another key that came has no operation from here on
+    gone : (y : List ℕ) → (y ≡ x → ⊥) → HasCome (i + 1) y → IsKeyAt list (i + 1) y → ⊥
+    gone y differs (j, l, key) next = elim (before_or_at j i l) [
+      | inl k ↦ differs (sym (still id ops list by j i (i + 1) y x key here next k (omega arith)))
+      | inr k ↦ differs (one_key id ops list by i y x (subst (λ n. IsKeyAt list n y) k key) here)
+    ]
 
-    -- and where it was made
-    pub made_on : (new : KeyStates) → IsChangedAt (key_of p) (change_by h e all ∷ []) mid new → AreMade id ops h e (i + 1) true old new
-    made_on new changed = record {
-      ours = λ x o. here_or x o (same_key (key_of p) x) refl;
-      others = λ x o Q on. changed.others x (λ f. (let no : false ≡ true = sym o ∙ ap (is_ours id) f ∙ ours in cc)) Q (w.others x o Q on);
-      quiet = λ q. cc;
-      loud = λ q. (key_of p, a, ours, accessed);
+    earlier : (y : List ℕ) → (y ≡ x → ⊥) → HasCome (i + 1) y → HasCome i y
+    earlier y differs (j, l, key) = elim (before_or_at j i l) [
+      | inl k ↦ (j, k, key)
+      | inr k ↦ absurd (differs (one_key id ops list by i y x (subst (λ n. IsKeyAt list n y) k key) here))
+    ]
+
+    longer : (y : List ℕ) → HasCome i y → HasCome (i + 1) y
+    longer y (j, l, key) = (j, (omega (arith, l)), key)
+
+    abbrev Now : List ℕ → KeyStates → Type 0
+    Now y new = (StaysAt y old new × (HasCome (i + 1) y → IsKeyAt list (i + 1) y))
+        ⊎ (IsMadeAt y (change_by h e (accesses y ops) ∷ []) old new × HasCome (i + 1) y × (IsKeyAt list (i + 1) y → ⊥))
+
+    -- what is so of another key stays so
+    other : (y : List ℕ) → (y ≡ x → ⊥) → (new : KeyStates) → StaysAt y mid new → Now y new
+    other y differs new stays = elim (w.keys y) [
+      | inl k ↦ inl ((λ Q on. stays Q (k.0 Q on)), (λ c. absurd (differs (one_key id ops list by i y x (k.1 (earlier y differs c)) here))))
+      | inr k ↦ inr ((λ Q R on leads. stays R (k.0 Q R on leads)), longer y k.1, gone y differs (longer y k.1))
+    ]
+
+    -- ---- where the next one is on the key too
+
+    pub made_past : IsKeyAt list (i + 1) x → AreMade (i + 1) more old mid
+    made_past next = record {
+      keys = λ y. by_key y (same_key y x) refl;
+      held = λ y key. subst (λ z. AreHeld id ops list by z (i + 1) more) (one_key id ops list by (i + 1) x y next key) holds;
     }
       where
-        came : AreElsewhere (key_of p) (take (i + 1) ops) → ⊥
-        came none = (let no : true ≡ false = sym (same_key_from (key_of p) (key_of p) refl) ∙ last (key_of p) none in cc)
+        by_key : (y : List ℕ) (b : Bool) → same_key y x ≡ b → Now y mid
+        by_key y true s = inl (subst (λ z. StaysAt z old mid) (sym (same_key_is y x s)) fresh, (λ c. subst (IsKeyAt list (i + 1)) (sym (same_key_is y x s)) next))
+        by_key y false s = other y (λ f. (let no : true ≡ false = sym (same_key_from y x f) ∙ s in cc)) mid (λ Q on. on)
 
-        at_key : Here new (key_of p)
-        at_key = inr (
-          came,
-          record {
-            access = a;
-            there = accessed;
-            made = λ Q R on leads. changed.made Q R (fresh Q on) (subst (λ ys. LeadsTo (change_by h e ys ∷ []) Q R) all_here leads);
-          },
-        )
+    -- ---- where it is the last on its key
 
-        here_or : (x : List ℕ) → is_ours id x ≡ true → (b : Bool) → same_key (key_of p) x ≡ b → Here new x
-        here_or x o true s = subst (Here new) (same_key_is (key_of p) x s) at_key
-        here_or x o false s =
-            let differs : x ≢ key_of p = λ f. (let no : false ≡ true = sym s ∙ same_key_from (key_of p) x (sym f) in cc) in
-            elim (w.ours x o) [
-              | inl k ↦ inl (grow x k.0 s, (λ Q on. changed.others x differs Q (k.1 Q on)))
-              | inr k ↦ inr ((λ none. k.0 (shrink x none)), record { access = k.1.access; there = k.1.there; made = λ Q R on leads. changed.others x differs R (k.1.made Q R on leads) })
-            ]
+    module _ (last : IsKeyAt list (i + 1) x → ⊥) where
+      pub all_here : more ≡ accesses x ops
+      all_here = all_held id ops list by x i more ours here last holds
 
--- ---- at the end
+      accessed : Contains (accesses x ops) (record { place = d.1; access = access_of p })
+      accessed = subst (λ l. Contains l (record { place = d.1; access = access_of p })) all_here (push_last hand (record { place = d.1; access = access_of p }))
 
-module _ (id : ShardId) (ops : List Op) (h : TxnHead) (e : Edit) (i : ℕ) (touches : Bool) (old new : KeyStates) (end : length ops ≤ i) (w : AreMade id ops h e i touches old new) where
-  none_at : (x : List ℕ) → AreElsewhere x (take i ops) → accesses x ops ≡ []
-  none_at x none = none_there x 0 ops (subst (AreElsewhere x) (take_all i ops end) none)
+      -- its change can be made
+      pub can_make_here : CanBeAccessed id ops h e old → (Q R : OnKey) × IsOn mid x Q × LeadsTo (change_by h e more ∷ []) Q R
+      can_make_here can =
+          let k = can x (change_by h e more) ours (record { place = d.1; access = access_of p }, accessed, ap (change_by h e) all_here) in
+          (k.0, k.1, fresh k.0 k.2, k.3)
 
-  changed : (x : List ℕ) (c : Change) → is_ours id x ≡ true → IsAccessChange ops h e x c → IsMadeAt x (c ∷ []) old new
-  changed x c o (a, there, is) = elim (w.ours x o) [
-    | inl k ↦ absurd (Contains-nil a (subst (λ l. Contains l a) (none_at x k.0) there))
-    | inr k ↦ subst (λ d. IsMadeAt x (d ∷ []) old new) (sym is) k.1.made
-  ]
+      pub made_on : (new : KeyStates) → IsChangedAt x (change_by h e more ∷ []) mid new → AreMade (i + 1) [] old new
+      made_on new changed = record {
+        keys = λ y. by_key y (same_key y x) refl;
+        held = λ y key. none_held id ops list by y (i + 1) (λ j l has. by_next y key (j, l, has) (same_key y x) refl);
+      }
+        where
+          at_key : Now x new
+          at_key = inr ((λ Q R on leads. changed.made Q R (fresh Q on) (subst (λ ys. LeadsTo (change_by h e ys ∷ []) Q R) (sym all_here) leads)), (i, omega arith, here), last)
 
-  others : (x : List ℕ) → (is_ours id x ≡ true → (c : Change) → IsAccessChange ops h e x c → ⊥) → StaysAt x old new
-  others x none = by_ours (is_ours id x) refl
+          by_key : (y : List ℕ) (b : Bool) → same_key y x ≡ b → Now y new
+          by_key y true s = subst (λ z. Now z new) (sym (same_key_is y x s)) at_key
+          by_key y false s = (let differs : y ≡ x → ⊥ = λ f. (let no : true ≡ false = sym (same_key_from y x f) ∙ s in cc) in other y differs new (changed.others y differs))
+
+          by_next : (y : List ℕ) → IsKeyAt list (i + 1) y → HasCome (i + 1) y → (b : Bool) → same_key y x ≡ b → ⊥
+          by_next y key come true s = last (subst (IsKeyAt list (i + 1)) (same_key_is y x s) key)
+          by_next y key come false s = gone y (λ f. (let no : true ≡ false = sym (same_key_from y x f) ∙ s in cc)) come key
+
+  -- ---- at the end
+
+  module _ (i : ℕ) (end : length list ≤ i) (hand : List Placed) (old new : KeyStates) (w : AreMade i hand old new) where
+    none_next : (x : List ℕ) → IsKeyAt list i x → ⊥
+    none_next x (d, at, key) = absurd (omega (arith, end, slice_get_within list i d at))
+
+    -- a key of the shard that is accessed came
+    came : (x : List ℕ) (a : Placed) → is_ours id x ≡ true → Contains (accesses x ops) a → HasCome i x
+    came x a ours c =
+        let k = (accesses_are x ops a).0 c in
+        let m = (by.exact x a.place).1 (record { op = k.0; at = k.1; key = k.2; ours = ours }) in
+        let at = contains_get list m.0 m.1 in
+        (at.0, omega (arith, end, slice_get_within list at.0 m.0 at.1), (m.0, at.1, m.2))
+
+    is_accessed : (x : List ℕ) → HasCome i x → (is_ours id x ≡ true) × ((a : Placed) × Contains (accesses x ops) a)
+    is_accessed x (j, l, (d, at, key)) =
+        let k = placed j d at in
+        (subst (λ y. is_ours id y ≡ true) key k.ours, (record { place = d.1; access = access_of k.op }, (accesses_are x ops (record { place = d.1; access = access_of k.op })).1 (k.op, k.at, k.key ∙ key, refl)))
+
+    changed : (x : List ℕ) (c : Change) → is_ours id x ≡ true → IsAccessChange ops h e x c → IsMadeAt x (c ∷ []) old new
+    changed x c ours (a, there, is) = elim (w.keys x) [
+      | inl k ↦ absurd (none_next x (k.1 (came x a ours there)))
+      | inr k ↦ subst (λ d. IsMadeAt x (d ∷ []) old new) (sym is) k.0
+    ]
+
+    others : (x : List ℕ) → (is_ours id x ≡ true → (c : Change) → IsAccessChange ops h e x c → ⊥) → StaysAt x old new
+    others x none = elim (w.keys x) [
+      | inl k ↦ k.0
+      | inr k ↦ (let r = is_accessed x k.1 in absurd (none r.0 (change_by h e (accesses x ops)) (r.1.0, r.1.1, refl)))
+    ]
+
+  -- ---- whether it is anything
+
+  nothing : length list ≡ 0 → (x : List ℕ) (c : Change) → is_ours id x ≡ true → IsAccessChange ops h e x c → ⊥
+  nothing empty x c ours (a, there, is) =
+      let k = (accesses_are x ops a).0 there in
+      let m = (by.exact x a.place).1 (record { op = k.0; at = k.1; key = k.2; ours = ours }) in
+      let at = contains_get list m.0 m.1 in
+      absurd (omega (arith, empty, slice_get_within list at.0 m.0 at.1))
+
+  something : 0 < length list → (x : List ℕ) × (c : Change) × (is_ours id x ≡ true) × IsAccessChange ops h e x c
+  something some = (let f = first list some in of_entry f.0 f.1)
     where
-      by_ours : (b : Bool) → is_ours id x ≡ b → StaysAt x old new
-      by_ours false o = w.others x o
-      by_ours true o = elim (w.ours x o) [
-        | inl k ↦ k.1
-        | inr k ↦ absurd (none o (change_by h e (accesses x ops)) (k.1.access, k.1.there, refl))
-      ]
+      first : (l : List KeyPlace) → 0 < length l → (d : KeyPlace) × (slice_get l 0 ≡ Some d)
+      first [] some = absurd (omega (arith, some))
+      first (d ∷ l) some = (d, refl)
 
-  nothing : touches ≡ false → (x : List ℕ) (c : Change) → is_ours id x ≡ true → IsAccessChange ops h e x c → ⊥
-  nothing q x c o (a, there, is) = Contains-nil a (subst (λ l. Contains l a) (none_at x (w.quiet q x o)) there)
-
-  something : touches ≡ true → (x : List ℕ) × (c : Change) × (is_ours id x ≡ true) × IsAccessChange ops h e x c
-  something q = (let k = w.loud q in (k.0, change_by h e (accesses k.0 ops), k.2, (k.1, k.3, refl)))
+      of_entry : (d : KeyPlace) → slice_get list 0 ≡ Some d → (x : List ℕ) × (c : Change) × (is_ours id x ≡ true) × IsAccessChange ops h e x c
+      of_entry d at =
+          let k = placed 0 d at in
+          let a : Placed = record { place = d.1; access = access_of k.op } in
+          (d.0.now, change_by h e (accesses d.0.now ops), k.ours, (a, (accesses_are d.0.now ops a).1 (k.op, k.at, k.key, refl), refl))
 
 -- all was made of an edit that sets no key up
-module _ (id : ShardId) (ops : List Op) (h : TxnHead) (i : ℕ) (touches : Bool) (old new : KeyStates) (end : length ops ≤ i) where
-  pub made_all : (e : Edit) → ((x : List ℕ) (v : Value) → e ≡ edit.SetUp x v → ⊥) → AreMade id ops h e i touches old new → IsMadeBy id ops h e old new
-  made_all (edit.Arrive T) other w = record { changed = changed id ops h (edit.Arrive T) i touches old new end w; others = others id ops h (edit.Arrive T) i touches old new end w }
-  made_all (edit.Resolve u o) other w = record { changed = changed id ops h (edit.Resolve u o) i touches old new end w; others = others id ops h (edit.Resolve u o) i touches old new end w }
-  made_all (edit.Withdraw u) other w = record { changed = changed id ops h (edit.Withdraw u) i touches old new end w; others = others id ops h (edit.Withdraw u) i touches old new end w }
-  made_all (edit.SetUp x v) other w = absurd (other x v refl)
+module _ (id : ShardId) (ops : List Op) (h : TxnHead) (list : List KeyPlace) (by : AreByKey id ops list) where
+  pub made_all : (e : Edit) → ((x : List ℕ) (v : Value) → e ≡ edit.SetUp x v → ⊥) → (i : ℕ) → length list ≤ i → (hand : List Placed) (old new : KeyStates) → AreMade id ops h e list by i hand old new → IsMadeBy id ops h e old new
+  made_all (edit.Arrive T) other i end hand old new w = record { changed = changed id ops h (edit.Arrive T) list by i end hand old new w; others = others id ops h (edit.Arrive T) list by i end hand old new w }
+  made_all (edit.Resolve u o) other i end hand old new w = record { changed = changed id ops h (edit.Resolve u o) list by i end hand old new w; others = others id ops h (edit.Resolve u o) list by i end hand old new w }
+  made_all (edit.Withdraw u) other i end hand old new w = record { changed = changed id ops h (edit.Withdraw u) list by i end hand old new w; others = others id ops h (edit.Withdraw u) list by i end hand old new w }
+  made_all (edit.SetUp x v) other i end hand old new w = absurd (other x v refl)
 
-  pub told_made : (e : Edit) → ((x : List ℕ) (v : Value) → e ≡ edit.SetUp x v → ⊥) → AreMade id ops h e i touches old new → IsTold id ops h e touches
-  told_made (edit.Arrive T) other w = record { nothing = nothing id ops h (edit.Arrive T) i touches old new end w; something = something id ops h (edit.Arrive T) i touches old new end w }
-  told_made (edit.Resolve u o) other w = record { nothing = nothing id ops h (edit.Resolve u o) i touches old new end w; something = something id ops h (edit.Resolve u o) i touches old new end w }
-  told_made (edit.Withdraw u) other w = record { nothing = nothing id ops h (edit.Withdraw u) i touches old new end w; something = something id ops h (edit.Withdraw u) i touches old new end w }
-  told_made (edit.SetUp x v) other w = absurd (other x v refl)
+  pub told_made : (e : Edit) → ((x : List ℕ) (v : Value) → e ≡ edit.SetUp x v → ⊥) → (touches : Bool) → (touches ≡ false → length list ≡ 0) → (touches ≡ true → 0 < length list) → IsTold id ops h e touches
+  told_made (edit.Arrive T) other touches none some = record { nothing = λ q. nothing id ops h (edit.Arrive T) list by (none q); something = λ q. something id ops h (edit.Arrive T) list by (some q) }
+  told_made (edit.Resolve u o) other touches none some = record { nothing = λ q. nothing id ops h (edit.Resolve u o) list by (none q); something = λ q. something id ops h (edit.Resolve u o) list by (some q) }
+  told_made (edit.Withdraw u) other touches none some = record { nothing = λ q. nothing id ops h (edit.Withdraw u) list by (none q); something = λ q. something id ops h (edit.Withdraw u) list by (some q) }
+  told_made (edit.SetUp x v) other touches none some = absurd (other x v refl)
 
 -- what such an edit is where a key is accessed can be made there
 pub can_access : (id : ShardId) (ops : List Op) (h : TxnHead) (e : Edit) (keys : KeyStates) → ((x : List ℕ) (v : Value) → e ≡ edit.SetUp x v → ⊥) → CanBeMadeBy id ops h e keys → CanBeAccessed id ops h e keys

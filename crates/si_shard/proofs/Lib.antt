@@ -1,7 +1,4 @@
 pub mod OnKeys
-pub mod Together
-pub mod Gathering
-pub mod LastChange
 pub mod Beginnings
 pub mod ArrivalPlaces
 pub mod KeyChanges
@@ -9,11 +6,11 @@ pub mod Concerning
 pub mod Crossing
 pub mod PresentOn
 pub mod Keeps
-pub mod Leading
 pub mod EachKey
-pub mod Applying
 pub mod AppliedEach
 pub mod ShardFindings
 pub mod Coming
 pub mod ShardsTogether
 pub mod Changing
+pub mod ByKey
+pub mod Listing

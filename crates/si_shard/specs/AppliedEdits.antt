@@ -15,7 +15,7 @@ use Rattle.si_judge.specs.Following.{empty_key}
 use Rattle.si_shard.specs.declared.shard_ids.ShardId.{ShardId}
 use Rattle.si_shard.specs.declared.applied_edits.Applied.{Applied}
 use Rattle.si_shard.specs.declared.arrivals.Arrival.{Arrival}
-use Rattle.si_shard.specs.declared.gathered_changes.TxnHead.{TxnHead}
+use Rattle.si_shard.specs.declared.key_changes.TxnHead.{TxnHead}
 use Rattle.si_shard.specs.declared.key_changes.Change.{Change}
 use Rattle.si_shard.specs.declared.key_changes.Change.TheVariants as change
 use Rattle.si_shard.specs.Arrivals.{AreKnown}

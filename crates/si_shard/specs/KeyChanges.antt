@@ -10,13 +10,6 @@ use Rattle.si_judge.specs.Kept.{IsInDoubt, Kept, Shows}
 use Rattle.si_shard.specs.declared.key_changes.Change.{Change}
 use Rattle.si_shard.specs.declared.key_changes.Change.TheVariants as change
 
--- the change, whose transaction accesses the key once more; none makes a set-up
-abbrev pub with_access : Placed → Change → Change
-with_access p (change.Arrive T) = change.Arrive (record T { accesses = T.accesses ++ p ∷ [] })
-with_access p (change.Resolve T o) = change.Resolve (record T { accesses = T.accesses ++ p ∷ [] }) o
-with_access p (change.Withdraw T) = change.Withdraw (record T { accesses = T.accesses ++ p ∷ [] })
-with_access p (change.SetUp v) = change.SetUp v
-
 -- what is on the key after the change
 abbrev pub changed_on : Change → OnKey → OnKey
 changed_on (change.Arrive T) Q = arrived_on T Q

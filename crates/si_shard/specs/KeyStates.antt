@@ -13,7 +13,6 @@ use Rattle.si_model.specs.History.{IsOfHistory}
 use Rattle.si_judge.specs.Kept.{IsBare, Kept, Shows}
 use Rattle.si_shard.specs.declared.key_changes.Change.{Change}
 use Rattle.si_shard.specs.declared.key_states.KeyStates.{KeyStates}
-use Rattle.si_shard.specs.declared.gathered_changes.ChangesOfKey.{ChangesOfKey}
 use Rattle.si_shard.specs.KeyChanges.{LeadsTo}
 
 -- what is kept of the key x shows Q, or nothing is kept and Q is bare
@@ -73,14 +72,3 @@ StaysAt x old new = (Q : OnKey) → IsOn old x Q → IsOn new x Q
 pub record IsChangedAt (x : List ℕ) (cs : List Change) (old new : KeyStates) : Type 0 where
   pub made : IsMadeAt x cs old new
   pub others : (y : List ℕ) → y ≢ x → StaysAt y old new
-
--- ---- the changes of many keys
-
--- the changes of each key can be made
-abbrev pub CanChangeAll : {S : Type 0} → HashMap (List ℕ) ChangesOfKey S → KeyStates → Type 0
-CanChangeAll lists ks = (x : List ℕ) (list : ChangesOfKey) → get same_key lists x ≡ Some list → (Q R : OnKey) × IsOn ks x Q × LeadsTo list.changes.items Q R
-
--- each key with a list was changed so, and no other was
-pub record AreChangedAll {S : Type 0} (lists : HashMap (List ℕ) ChangesOfKey S) (old new : KeyStates) : Type 0 where
-  pub changed : (x : List ℕ) (list : ChangesOfKey) → get same_key lists x ≡ Some list → IsMadeAt x list.changes.items old new
-  pub others : (x : List ℕ) → get same_key lists x ≡ None → StaysAt x old new

@@ -7,5 +7,4 @@ pub mod Keeping
 pub mod KeyStates
 pub mod Shards
 pub mod SingleEdits
-pub mod GatheredChanges
 pub mod Laws

@@ -1,6 +1,11 @@
 -- What an edit is on the keys of a shard, made on each of them by itself. All of it is this project's choice.
-use Rattle.std.specs.Prelude.{◌≡◌, ℕ, true, false, List, [], ◌∷◌}
-use Rattle.std.specs.List.{All, enumerate_from, filter_map}
+use Rattle.std.specs.Prelude.{◌≡◌, ◌↔◌, ℕ, Bool, Some, slice_get, true, false, List, [], ◌∷◌}
+use Rattle.std.specs.List.{All, Contains, enumerate_from, filter_map}
+use Rattle.std.specs.List.Sorted.{IsStrictlySortedBy}
+use Rattle.std.specs.declared.cmp.Ordering.{Ordering}
+use Rattle.std.specs.Ordering.{nat_cmp, ordering_then}
+use Rattle.std.specs.Borrow.{Bor}
+use Rattle.std.specs.Cmp.Lexicographic.{slice_cmp}
 use Rattle.si_model.specs.declared.operations.Op.{Op}
 use Rattle.si_model.specs.declared.edits.Edit.{Edit}
 use Rattle.si_model.specs.declared.parts.OnKey.{OnKey}
@@ -10,19 +15,11 @@ use Rattle.si_model.specs.Parts.{placed_at}
 use Rattle.si_shard.specs.declared.shard_ids.ShardId.{ShardId}
 use Rattle.si_shard.specs.declared.key_changes.Change.{Change}
 use Rattle.si_shard.specs.declared.key_states.KeyStates.{KeyStates}
-use Rattle.si_shard.specs.declared.gathered_changes.TxnHead.{TxnHead}
+use Rattle.si_shard.specs.declared.key_changes.TxnHead.{TxnHead}
 use Rattle.si_shard.specs.ShardIds.{is_ours}
 use Rattle.si_shard.specs.AppliedEdits.{IsChangeOn}
 use Rattle.si_shard.specs.KeyChanges.{LeadsTo}
 use Rattle.si_shard.specs.KeyStates.{IsMadeAt, IsOn, StaysAt}
-
--- the accesses of the key x by these operations, of which the first has the place i
-abbrev pub accesses_from : List ℕ → ℕ → List Op → List Placed
-accesses_from x i ops = filter_map (placed_at x) (enumerate_from i ops)
-
--- none of the operations is on the key x
-abbrev pub AreElsewhere : List ℕ → List Op → Type 0
-AreElsewhere x ops = All (λ p. same_key (key_of p) x ≡ false) ops
 
 -- what the edit is on a key of the shard can be made there
 abbrev pub CanBeMadeBy : ShardId → List Op → TxnHead → Edit → KeyStates → Type 0
@@ -32,3 +29,44 @@ CanBeMadeBy id ops h e ks = (x : List ℕ) (c : Change) → is_ours id x ≡ tru
 pub record IsMadeBy (id : ShardId) (ops : List Op) (h : TxnHead) (e : Edit) (old new : KeyStates) : Type 0 where
   pub changed : (x : List ℕ) (c : Change) → is_ours id x ≡ true → IsChangeOn ops h e x c → IsMadeAt x (c ∷ []) old new
   pub others : (x : List ℕ) → (is_ours id x ≡ true → (c : Change) → IsChangeOn ops h e x c → ⊥) → StaysAt x old new
+
+-- ---- the operations in the order of their keys
+
+-- an operation by its key and its place
+abbrev pub KeyPlace : Type 0
+KeyPlace = Bor (List ℕ) × ℕ
+
+-- first by the keys, then by the places
+abbrev pub key_place_cmp : KeyPlace → KeyPlace → Ordering
+key_place_cmp a b = ordering_then (slice_cmp nat_cmp a.0.now b.0.now) (nat_cmp a.1 b.1)
+
+-- the operation at the place j of such a list is on the key x
+abbrev pub IsKeyAt : List KeyPlace → ℕ → List ℕ → Type 0
+IsKeyAt list j x = (e : KeyPlace) × (slice_get list j ≡ Some e) × (e.0.now ≡ x)
+
+-- an operation is on this key of the shard and has this place
+pub record IsPlaced (id : ShardId) (ops : List Op) (x : List ℕ) (i : ℕ) : Type 0 where
+  pub op : Op
+  pub at : slice_get ops i ≡ Some op
+  pub key : key_of op ≡ x
+  pub ours : is_ours id x ≡ true
+
+-- these are the operations on the keys of the shard, each by its key and its place: in the order of the keys, and then of the places
+pub record AreByKey (id : ShardId) (ops : List Op) (list : List KeyPlace) : Type 0 where
+  pub sorted : IsStrictlySortedBy key_place_cmp list
+  pub exact : (x : List ℕ) (i : ℕ) → ((e : KeyPlace) × Contains list e × (e.0.now ≡ x) × (e.1 ≡ i)) ↔ IsPlaced id ops x i
+
+-- ---- whether it is anything there
+
+-- the edit, whose transaction is h with these operations, is nothing on the keys of the shard
+abbrev pub IsNothing : ShardId → List Op → TxnHead → Edit → Type 0
+IsNothing id ops h e = (x : List ℕ) (c : Change) → is_ours id x ≡ true → IsChangeOn ops h e x c → ⊥
+
+-- the edit is something on one of the keys of the shard
+abbrev pub IsSomething : ShardId → List Op → TxnHead → Edit → Type 0
+IsSomething id ops h e = (x : List ℕ) × (c : Change) × (is_ours id x ≡ true) × IsChangeOn ops h e x c
+
+-- it's told whether the edit is anything on the keys of the shard
+pub record IsTold (id : ShardId) (ops : List Op) (h : TxnHead) (e : Edit) (touches : Bool) : Type 0 where
+  pub nothing : touches ≡ false → IsNothing id ops h e
+  pub something : touches ≡ true → IsSomething id ops h e

@@ -1,6 +1,6 @@
 //! What the kept edits of one shard made of its keys.
 
-ghost use Rattle.std.specs.Prelude.{◌≡◌, ◌<◌, ℕ, List, [], ◌∷◌, ◌++◌, OnOk, IfOk};
+ghost use Rattle.std.specs.Prelude.{◌≡◌, ◌<◌, ◌≤◌, ℕ, List, [], ◌∷◌, ◌++◌, OnOk, IfOk, length};
 ghost use Rattle.std.specs.HashMap.{get};
 ghost use Rattle.std.specs.Prelude.{nat_eq};
 ghost use Rattle.si_model.specs.Journals.{IsAccepted, present};
@@ -8,24 +8,20 @@ ghost use Rattle.si_shard.specs.AppliedEdits.{AreApplied, head_for, head_in, no_
 ghost use Rattle.si_shard.specs.Arrivals.{IsReadyFor};
 ghost use Rattle.si_shard.specs.Keeping.{AreKept, BeginsWith, Concerns, IsTaken, kept_after};
 ghost use Rattle.si_shard.specs.Shards.{findings_in};
-ghost use Rattle.si_shard.specs.GatheredChanges.{AreGatheredTo};
 
 use crate::arrivals::Arrivals;
-use crate::gathered_changes::{GatheredChanges, TxnHead};
+use crate::aheads::{Ahead, MOST_AHEAD};
+use crate::key_changes::TxnHead;
 use crate::key_states::KeyStates;
 use crate::shard_ids::ShardId;
-use crate::single_edits::{are_few, make_each};
+use crate::single_edits::make_each;
 use crate::stored_edits::Stored;
 use si_model::{Edit, Finding, Op, OutOfMemory, Stamp, Status, TxnId};
 use std::alloc::Global;
 use std::hash::RandomState;
-use std::mem;
 
-/// How many operations of kept edits may be walked for changes that wait, beside one for each kept edit.
-const MOST_WAITING: usize = 65_536;
-
-/// So many edits and fewer are applied one after the other, each straight to its keys: gathering them costs more than it saves.
-const MOST_ONE_BY_ONE: usize = 1_024;
+/// Of so many edits at a time what is kept of their keys is read ahead.
+const MOST_TOGETHER: usize = 64;
 
 /// What is kept of a shard's keys after some edits, and of the arrivals of the present transactions.
 #[derive(Drop)]
@@ -35,6 +31,7 @@ pub struct Applied {
     keys: KeyStates,
     // These tell a resolution and a withdrawal the keys, and what the transaction does on them.
     arrivals: Arrivals,
+    ahead: Ahead,
 }
 
 impl Applied {
@@ -47,6 +44,7 @@ impl Applied {
             hash,
             keys: KeyStates::new(alloc, hash),
             arrivals: Arrivals::new(alloc, hash),
+            ahead: Ahead::new(alloc),
         }
     }
 
@@ -59,18 +57,13 @@ impl Applied {
         ensures { IfOk result (λ touches. IsTaken id kept.now edit.now touches (λ edits. AreApplied id edits self.new)) }
     {
         self.arrivals.prepare(kept, edit)?;
-        let ops = self.ops_of(kept, edit);
-        if are_few(ops) {
-            return self.apply_straight(kept, ops, edit, id);
-        }
-        self.apply_gathered(kept, edit, id)
+        self.apply_prepared(kept, edit, id)
     }
 
-    /// Applies the edit, of whose transaction these are the operations, key by key.
-    fn apply_straight(
+    /// Applies the edit, whose arrival is known if it asks for one.
+    fn apply_prepared(
         &mut self,
         kept: &[Edit],
-        ops: &[Op],
         edit: &Edit,
         id: ShardId,
     ) -> Result<bool, OutOfMemory>
@@ -79,30 +72,19 @@ impl Applied {
         requires applied { AreApplied id kept.now self.old }
         requires next { Concerns id (present kept.now) edit.now → IsAccepted (kept.now ++ edit.now ∷ []) }
         requires ready { IsReadyFor edit.now kept.now (get nat_eq self.old.arrivals.by_id) }
-        requires ops { ops.now ≡ ops_for (get nat_eq self.old.arrivals.by_id) kept.now edit.now }
         ensures { IfOk result (λ touches. IsTaken id kept.now edit.now touches (λ edits. AreApplied id edits self.new)) }
     {
+        let ops = self.ops_of(kept, edit);
         let head = self.head_of(kept, edit);
-        let touches = make_each(self.alloc, &mut self.keys, ops, head, edit, id)?;
-        Ok(touches)
-    }
-
-    /// Applies the edit after all that it is on a key was gathered.
-    fn apply_gathered(
-        &mut self,
-        kept: &[Edit],
-        edit: &Edit,
-        id: ShardId,
-    ) -> Result<bool, OutOfMemory>
-        requires shards { 0 < id.shards }
-        requires accepted { IsAccepted kept.now }
-        requires applied { AreApplied id kept.now self.old }
-        requires next { Concerns id (present kept.now) edit.now → IsAccepted (kept.now ++ edit.now ∷ []) }
-        ensures { IfOk result (λ touches. IsTaken id kept.now edit.now touches (λ edits. AreApplied id edits self.new)) }
-    {
-        let mut waiting = GatheredChanges::new(self.alloc, self.hash);
-        let touches = self.gather(&mut waiting, kept, edit, id)?;
-        self.make(waiting)?;
+        let touches = make_each(
+            self.alloc,
+            &mut self.keys,
+            &mut self.ahead,
+            ops,
+            head,
+            edit,
+            id,
+        )?;
         Ok(touches)
     }
 
@@ -111,28 +93,6 @@ impl Applied {
     pub fn apply_all(
         &mut self,
         kept: &mut Vec<Edit>,
-        stored: &Stored,
-        edits: &[Edit],
-        id: ShardId,
-    ) -> Result<(), OutOfMemory>
-        requires shards { 0 < id.shards }
-        requires kept { AreKept id stored.now kept.old.items }
-        requires applied { AreApplied id kept.old.items self.old }
-        requires accepted { IsAccepted (stored.now ++ edits.now) }
-        ensures kept { OnOk result (AreKept id (stored.now ++ edits.now) kept.new.items) }
-        ensures applied { OnOk result (AreApplied id kept.new.items self.new) }
-        ensures begins { BeginsWith kept.old.items kept.new.items }
-    {
-        if edits.len() <= MOST_ONE_BY_ONE {
-            return self.apply_each(kept, stored, edits, id);
-        }
-        self.apply_together(kept, stored, edits, id)
-    }
-
-    /// Applies them one after the other.
-    fn apply_each(
-        &mut self,
-        kept: &mut Vec<Edit>,
         _stored: &Stored,
         edits: &[Edit],
         id: ShardId,
@@ -145,143 +105,57 @@ impl Applied {
         ensures applied { OnOk result (AreApplied id kept.new.items self.new) }
         ensures begins { BeginsWith kept.old.items kept.new.items }
     {
-        for edit in edits {
+        for (index, edit) in edits.iter().enumerate() {
+            self.look_from(kept.as_slice(), edits, index, id);
             let touches = self.apply(kept.as_slice(), edit, id)?;
             keep(kept, edit, touches)?;
         }
         Ok(())
     }
 
-    /// Applies them together: what they are on the keys is gathered first, so that what is known of a key is looked for once for many
-    /// of them. What is gathered grows with what is kept, but stays a part of it.
-    fn apply_together(
-        &mut self,
-        kept: &mut Vec<Edit>,
-        _stored: &Stored,
-        edits: &[Edit],
-        id: ShardId,
-    ) -> Result<(), OutOfMemory>
-        requires shards { 0 < id.shards }
-        requires kept { AreKept id _stored.now kept.old.items }
-        requires applied { AreApplied id kept.old.items self.old }
-        requires accepted { IsAccepted (_stored.now ++ edits.now) }
-        ensures kept { OnOk result (AreKept id (_stored.now ++ edits.now) kept.new.items) }
-        ensures applied { OnOk result (AreApplied id kept.new.items self.new) }
-        ensures begins { BeginsWith kept.old.items kept.new.items }
-    {
-        let mut waiting = GatheredChanges::new(self.alloc, self.hash);
-        self.gather_all(&mut waiting, kept, _stored, edits, id)?;
-        self.make(waiting)?;
-        Ok(())
-    }
-
-    /// Gathers what the edits, which come after the stored ones, are on the keys, and keeps copies of those that are anything there.
-    fn gather_all(
-        &mut self,
-        waiting: &mut GatheredChanges,
-        kept: &mut Vec<Edit>,
-        _stored: &Stored,
-        edits: &[Edit],
-        id: ShardId,
-    ) -> Result<(), OutOfMemory>
-        requires shards { 0 < id.shards }
-        requires kept { AreKept id _stored.now kept.old.items }
-        requires gathered { AreGatheredTo id kept.old.items self.old waiting.old.lists }
-        requires accepted { IsAccepted (_stored.now ++ edits.now) }
-        ensures kept { OnOk result (AreKept id (_stored.now ++ edits.now) kept.new.items) }
-        ensures gathered { OnOk result (AreGatheredTo id kept.new.items self.new waiting.new.lists) }
-        ensures begins { BeginsWith kept.old.items kept.new.items }
-    {
-        for edit in edits {
-            let touches = self.gather(waiting, kept.as_slice(), edit, id)?;
-            keep(kept, edit, touches)?;
-            self.make_many(waiting, kept.len())?;
-        }
-        Ok(())
-    }
-
-    /// Applies the kept edits, where nothing was applied before. What they are on the keys is gathered in the same way.
+    /// Applies the kept edits, where nothing was applied before.
     pub fn apply_kept(&mut self, kept: &[Edit], id: ShardId) -> Result<(), OutOfMemory>
         requires shards { 0 < id.shards }
         requires applied { AreApplied id [] self.old }
         requires accepted { IsAccepted kept.now }
         ensures { OnOk result (AreApplied id kept.now self.new) }
     {
-        let mut waiting = GatheredChanges::new(self.alloc, self.hash);
         for place in 0..kept.len() {
-            self.gather(&mut waiting, &kept[..place], &kept[place], id)?;
-            self.make_many(&mut waiting, place)?;
+            self.apply(&kept[..place], &kept[place], id)?;
         }
-        self.make(waiting)?;
         Ok(())
     }
 
-    /// Gathers what the edit, which comes after the kept ones, is on the keys, and answers whether it is anything there.
-    fn gather(
-        &mut self,
-        waiting: &mut GatheredChanges,
-        kept: &[Edit],
-        edit: &Edit,
-        id: ShardId,
-    ) -> Result<bool, OutOfMemory>
-        requires shards { 0 < id.shards }
-        requires accepted { IsAccepted kept.now }
-        requires gathered { AreGatheredTo id kept.now self.old waiting.old.lists }
-        ensures { IfOk result (λ touches. IsTaken id kept.now edit.now touches (λ edits. AreGatheredTo id edits self.new waiting.new.lists)) }
-    {
-        self.arrivals.prepare(kept, edit)?;
-        let ops = self.ops_of(kept, edit);
-        let head = self.head_of(kept, edit);
-        let touches = waiting.gather(ops, head, edit, kept.len(), id)?;
-        Ok(touches)
-    }
-
-    /// Makes the changes that were gathered where they are many beside so many kept edits.
-    fn make_many(&mut self, waiting: &mut GatheredChanges, kept: usize) -> Result<(), OutOfMemory>
-        requires { (id : ShardId) × (edits : List Edit) × AreGatheredTo id edits self.old waiting.old.lists }
-        ensures { OnOk result ((id : ShardId) (edits : List Edit) → AreGatheredTo id edits self.old waiting.old.lists → AreGatheredTo id edits self.new waiting.new.lists) }
-    {
-        if waiting.count / MOST_WAITING <= kept / MOST_WAITING {
-            return Ok(());
-        }
-        let gathered = mem::replace(waiting, GatheredChanges::new(self.alloc, self.hash));
-        self.make(gathered)?;
-        Ok(())
-    }
-
-    /// Makes the changes that were gathered.
-    fn make(&mut self, waiting: GatheredChanges) -> Result<(), OutOfMemory>
-        requires { (id : ShardId) × (edits : List Edit) × AreGatheredTo id edits self.old waiting.lists }
-        ensures { OnOk result ((id : ShardId) (edits : List Edit) → AreGatheredTo id edits self.old waiting.lists → AreApplied id edits self.new) }
-    {
-        self.keys.change_all(waiting.lists)?;
-        Ok(())
-    }
-
-    /// Reads what is kept of the keys of these edits, all at once, so that a processor has it near when they are applied. A resolution
-    /// whose arrival isn't known yet leads to no key. Nothing depends on the number, which comes of what was read; `places` is a room
-    /// for the reading.
-    pub fn look_ahead(
-        &self,
-        kept: &[Edit],
-        edits: &[Edit],
-        id: ShardId,
-        places: &mut Vec<usize>,
-    ) -> u64
+    /// Reads what is kept of the keys of these edits, all at once, so that a processor has it near when they are applied. A transaction
+    /// of many operations reads its own keys ahead, and a resolution whose arrival isn't known yet leads to no key.
+    pub fn look_ahead(&mut self, kept: &[Edit], edits: &[Edit], id: ShardId)
         requires { 0 < id.shards }
+        ensures { self.new ≡ record self.old { ahead = self.new.ahead } }
     {
-        places.clear();
         for edit in edits {
             let ops = self.ops_of(kept, edit);
-            if are_few(ops) {
+            if ops.len() <= MOST_AHEAD {
                 for op in ops {
                     if id.has(op.key()) {
-                        self.keys.add_place(op.key(), places);
+                        self.ahead.add(&self.keys, op.key());
                     }
                 }
             }
         }
-        self.keys.look_at(places)
+        self.ahead.look(&self.keys);
+    }
+
+    /// Looks ahead at the next edits from that place on, once for so many.
+    fn look_from(&mut self, kept: &[Edit], edits: &[Edit], from: usize, id: ShardId)
+        requires shards { 0 < id.shards }
+        requires within { from ≤ length edits.now }
+        ensures { self.new ≡ record self.old { ahead = self.new.ahead } }
+    {
+        if from % MOST_TOGETHER != 0 {
+            return;
+        }
+        let left = &edits[from..];
+        self.look_ahead(kept, &left[..left.len().min(MOST_TOGETHER)], id);
     }
 
     /// The findings on the shard's keys, in order.

@@ -1,13 +1,23 @@
 //! What an edit is on one key.
 
-ghost use Rattle.std.specs.Prelude.{◌≡◌, OnErr, OnOk};
+ghost use Rattle.std.specs.Prelude.{◌≡◌, OnOk};
 ghost use Rattle.si_model.specs.declared.parts.OnKey.{OnKey};
 ghost use Rattle.si_model.specs.Findings.{cases};
 ghost use Rattle.si_judge.specs.Kept.{Shows};
-ghost use Rattle.si_shard.specs.KeyChanges.{CanChange, IsChanged, with_access};
+ghost use Rattle.si_shard.specs.AppliedEdits.{change_by};
+ghost use Rattle.si_shard.specs.KeyChanges.{CanChange, IsChanged};
 
 use si_judge::{Cases, KeyFindings};
-use si_model::{OutOfMemory, Outcome, Part, Placed, Value};
+use si_model::parts::Accesses;
+use si_model::{Edit, OutOfMemory, Outcome, Part, Stamp, Status, TxnId, Value};
+
+/// A transaction but for its operations.
+#[derive(Clone, Copy)]
+pub struct TxnHead {
+    pub id: TxnId,
+    pub start: Stamp,
+    pub status: Status,
+}
 
 /// What an edit is on one key that it touches. A resolution and a withdrawal have the part as it is before them.
 #[derive(Debug, Drop)]
@@ -22,20 +32,21 @@ pub enum Change {
     SetUp(Value),
 }
 
-impl Change {
-    /// The transaction accesses the key once more. A set-up stays as it is, since no transaction makes it.
-    ///
-    /// If memory is refused, nothing changes.
-    pub fn add_access(&mut self, placed: Placed) -> Result<(), OutOfMemory>
-        ensures ok { OnOk result (self.new ≡ with_access placed self.old) }
-        ensures err { OnErr result (self.new ≡ self.old) }
-    {
-        match self {
-            Change::Arrive(part) => part.accesses.push(placed),
-            Change::Resolve(part, _) => part.accesses.push(placed),
-            Change::Withdraw(part) => part.accesses.push(placed),
-            Change::SetUp(_) => Ok(()),
-        }
+/// What the edit is on a key where its transaction has these accesses.
+pub fn change_by(head: TxnHead, edit: &Edit, accesses: Accesses) -> Change
+    ensures { result ≡ change_by head edit.now accesses }
+{
+    let part = Part {
+        id: head.id,
+        start: head.start,
+        status: head.status,
+        accesses,
+    };
+    match edit {
+        Edit::Arrive(_) => Change::Arrive(part),
+        Edit::Resolve(_, outcome) => Change::Resolve(part, *outcome),
+        Edit::Withdraw(_) => Change::Withdraw(part),
+        Edit::SetUp(_, value) => Change::SetUp(*value),
     }
 }
 

@@ -12,9 +12,8 @@ ghost use Rattle.si_model.specs.Findings.{cases, findings_on};
 ghost use Rattle.si_judge.specs.Following.{empty_key};
 ghost use Rattle.si_judge.specs.Kept.{Shows};
 ghost use Rattle.si_shard.specs.KeyChanges.{LeadsTo};
-ghost use Rattle.si_shard.specs.KeyStates.{AreChangedAll, AreOn, CanChangeAll, HasFinding, IsChangedAt, IsChangedIn, IsLeft, IsOn, IsToldAt, ShowsAt, findings_at};
+ghost use Rattle.si_shard.specs.KeyStates.{AreOn, HasFinding, IsChangedAt, IsChangedIn, IsLeft, IsOn, IsToldAt, ShowsAt, findings_at};
 
-use crate::gathered_changes::ChangesByKey;
 use crate::key_changes::{Change, make_change};
 use indexmap::IndexMap;
 use si_hashing::KeyHash;
@@ -55,28 +54,6 @@ impl KeyStates {
         }
     }
 
-    /// Makes the changes of each key, one key after the other, so that what is known of a key is looked for once.
-    pub fn change_all(&mut self, lists: ChangesByKey) -> Result<(), OutOfMemory>
-        requires { CanChangeAll lists self.old }
-        ensures { OnOk result (AreChangedAll lists self.old self.new) }
-    {
-        for (key, list) in lists {
-            self.change_by_list(&key, list.changes)?;
-        }
-        Ok(())
-    }
-
-    /// Makes the changes of the key, one after the other.
-    fn change_by_list(&mut self, key: &Key, changes: Vec<Change>) -> Result<(), OutOfMemory>
-        requires { (Q : OnKey) × (R : OnKey) × IsOn self.old key.now Q × LeadsTo changes.items Q R }
-        ensures { OnOk result (IsChangedAt key.now changes.items self.old self.new) }
-    {
-        for change in changes {
-            self.change(key, change)?;
-        }
-        Ok(())
-    }
-
     /// Makes one change of the key.
     pub fn change(&mut self, key: &Key, change: Change) -> Result<(), OutOfMemory>
         requires { (Q : OnKey) × (R : OnKey) × IsOn self.old key.now Q × LeadsTo (change ∷ []) Q R }
@@ -90,11 +67,9 @@ impl KeyStates {
         Ok(())
     }
 
-    /// Adds where the state of the key stands, if one does. Where memory is refused it isn't added.
-    pub fn add_place(&self, key: &Key, places: &mut Vec<usize>) {
-        if let Some(place) = self.states.get_index_of(key) {
-            let _added = places.push(place).is_ok();
-        }
+    /// Where the state of the key stands, if one does.
+    pub fn place_of(&self, key: &Key) -> Option<usize> {
+        self.states.get_index_of(key)
     }
 
     /// Reads the states at these places, first the heads of all and then the ends of what they hold, so that each is fetched while the

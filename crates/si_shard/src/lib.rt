@@ -4,9 +4,9 @@
 //! on `si_model`, `si_judge`, `si_hashing` and `indexmap`, and its proofs on `si_lists`.
 #![tactic(auto)]
 
+mod aheads;
 mod applied_edits;
 mod arrivals;
-mod gathered_changes;
 mod key_changes;
 mod key_states;
 pub mod laws;

@@ -28,9 +28,6 @@ use std::snapshot::Snapshot;
 /// The most shards that keys may be spread over.
 pub const MOST_SHARDS: usize = 16;
 
-/// Of so many edits at most what is kept of their keys is read ahead.
-const MOST_AHEAD: usize = 256;
-
 /// One shard: of the accepted edits, in the order of their numbers, those that are anything on the shard's keys, and the findings there.
 ///
 /// Contracts see which shard it is, all edits, which are its stored ones, and whether it is spoiled.
@@ -46,9 +43,6 @@ pub struct Shard {
     applied: Applied,
     // True from the beginning of an edit until it is whole, and so until a rebuild once memory was refused to an edit.
     spoiled: bool,
-    // A room for looks ahead, and what was seen by them. It means nothing, but is kept, so that no compiler leaves the looks out.
-    places: Vec<usize>,
-    seen: u64,
 }
 
 impl Model for Shard {
@@ -78,8 +72,6 @@ impl Shard {
             kept: Vec::new(alloc),
             applied: Applied::new(alloc, hash),
             spoiled: false,
-            places: Vec::new(alloc),
-            seen: 0,
         }
     }
 
@@ -87,10 +79,8 @@ impl Shard {
     pub fn look_ahead(&mut self, edits: &[Edit])
         ensures { self.new ≡ self.old }
     {
-        let seen = self
-            .applied
-            .look_ahead(self.kept.as_slice(), edits, self.id, &mut self.places);
-        self.seen = self.seen ^ seen;
+        self.applied
+            .look_ahead(self.kept.as_slice(), edits, self.id);
     }
 
     /// Stores the edit, which has the number after the last one stored, and mends the findings on the shard's keys.
@@ -139,7 +129,6 @@ impl Shard {
         if self.spoiled {
             return Err(KeyFault::Spoiled);
         }
-        self.look_ahead(&edits[..edits.len().min(MOST_AHEAD)]);
         self.spoiled = true;
         let before = self.kept.len();
         if take_in_all(

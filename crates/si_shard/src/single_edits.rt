@@ -1,34 +1,30 @@
 //! Edits that go straight to the keys of their transactions.
 
-ghost use Rattle.std.specs.Prelude.{◌≡◌, ◌↔◌, ◌<◌, ◌≤◌, ℕ, List, IsTrue, IfOk, OnOk, drop, length, true};
+ghost use Rattle.std.specs.Prelude.{◌≡◌, ◌↔◌, ◌<◌, ◌≤◌, ℕ, List, IsTrue, IfOk, OnOk, Some, length, slice_get};
 ghost use Rattle.si_model.specs.declared.edits.Edit.TheVariants as variant;
 ghost use Rattle.si_model.specs.declared.numbers.Value.{Value as Written};
-ghost use Rattle.si_model.specs.Operations.{key_of, same_key};
-ghost use Rattle.si_shard.specs.ShardIds.{is_ours};
-ghost use Rattle.si_shard.specs.SingleEdits.{AreElsewhere, CanBeMadeBy, IsMadeBy, accesses_from};
-ghost use Rattle.si_shard.specs.GatheredChanges.{IsTold};
+ghost use Rattle.si_model.specs.declared.operations.Op.{Op as Operation};
+ghost use Rattle.si_model.specs.Operations.{access_of};
+ghost use Rattle.si_shard.specs.SingleEdits.{AreByKey, CanBeMadeBy, IsKeyAt, IsMadeBy, IsTold};
 
-use crate::gathered_changes::{TxnHead, change_by};
-use crate::key_changes::Change;
+use crate::aheads::{Ahead, MOST_AHEAD};
+use crate::key_changes::{Change, TxnHead, change_by};
 use crate::key_states::KeyStates;
 use crate::shard_ids::ShardId;
 use si_model::parts::Accesses;
-use si_model::{Edit, Key, Op, OutOfMemory, Placed, Value};
+use si_model::{Access, Edit, Key, Op, OutOfMemory, Placed, Value};
 use std::alloc::Global;
+use std::mem;
 
-/// A transaction of more operations isn't looked through for keys that come again, which takes the square of their number.
-const MOST_STRAIGHT: usize = 32;
-
-/// Whether the operations are few enough to be looked through for keys that come again.
-pub fn are_few(ops: &[Op]) -> bool {
-    ops.len() <= MOST_STRAIGHT
-}
+/// A key with the place of an operation on it.
+pub type KeyPlace<'a> = (&'a Key, usize);
 
 /// Makes what the edit is on each key of the shard, where its transaction is this one with these operations. Answers whether it is
 /// anything there.
 pub fn make_each(
     alloc: Global,
     keys: &mut KeyStates,
+    ahead: &mut Ahead,
     ops: &[Op],
     head: TxnHead,
     edit: &Edit,
@@ -42,7 +38,7 @@ pub fn make_each(
     if let Edit::SetUp(key, value) = edit {
         return make_set_up(keys, key, *value, id);
     }
-    make_accessed(alloc, keys, ops, head, edit, id)
+    make_accessed(alloc, keys, ahead, ops, head, edit, id)
 }
 
 fn make_set_up(
@@ -66,6 +62,7 @@ fn make_set_up(
 fn make_accessed(
     alloc: Global,
     keys: &mut KeyStates,
+    ahead: &mut Ahead,
     ops: &[Op],
     head: TxnHead,
     edit: &Edit,
@@ -77,59 +74,72 @@ fn make_accessed(
     ensures made { OnOk result (IsMadeBy id ops.now head edit.now keys.old keys.new) }
     ensures touches { IfOk result (IsTold id ops.now head edit.now) }
 {
-    let mut touches = false;
-    for (index, op) in ops.iter().enumerate() {
-        let key = op.key();
-        if begins(&ops[..index], key, id) {
-            let accesses = accesses_from(alloc, key, ops, index)?;
-            keys.change(key, change_by(head, edit, accesses))?;
-            touches = true;
-        }
-    }
-    Ok(touches)
-}
-
-/// Whether the key is the shard's, and none of the operations before is on it.
-fn begins(before: &[Op], key: &Key, id: ShardId) -> bool
-    requires { 0 < id.shards }
-    ensures { (result ≡ true) ↔ ((is_ours id key.now ≡ true) × AreElsewhere key.now before.now) }
-{
-    id.has(key) && is_first(before, key)
-}
-
-/// Whether none of the operations before is on the key.
-fn is_first(before: &[Op], key: &Key) -> bool
-    ensures { IsTrue result ↔ AreElsewhere key.now before.now }
-{
-    before.iter().all(|op| !is_on(op, key))
-}
-
-/// Whether the operation is on the key. The hashes of two keys mostly differ where the keys do.
-fn is_on(op: &Op, key: &Key) -> bool
-    ensures { result ≡ same_key (key_of op.now) key.now }
-{
-    op.key().shard_hash() == key.shard_hash() && op.key() == key
-}
-
-/// The accesses of the key from that place on.
-fn accesses_from(
-    alloc: Global,
-    key: &Key,
-    ops: &[Op],
-    first: usize,
-) -> Result<Accesses, OutOfMemory>
-    requires { first ≤ length ops.now }
-    ensures { IfOk result (λ all. all ≡ accesses_from key.now first (drop first ops.now)) }
-{
+    let list = by_key(alloc, ops, id)?;
     let mut accesses = Accesses::new(alloc);
-    for place in first..ops.len() {
-        let op = &ops[place];
-        if is_on(op, key) {
-            accesses.push(Placed {
-                place,
-                access: op.access(),
-            })?;
+    for index in 0..list.len() {
+        look_from(ahead, keys, ops.len(), &list, index);
+        let (key, place) = list[index];
+        accesses.push(Placed {
+            place,
+            access: access_at(ops, place),
+        })?;
+        if !is_at(&list, index + 1, key) {
+            let all = mem::replace(&mut accesses, Accesses::new(alloc));
+            keys.change(key, change_by(head, edit, all))?;
         }
     }
-    Ok(accesses)
+    Ok(!list.is_empty())
+}
+
+/// The operations on the shard's keys, in the order of the keys, and those on one key in the order of the transaction.
+fn by_key<'a>(alloc: Global, ops: &'a [Op], id: ShardId) -> Result<Vec<KeyPlace<'a>>, OutOfMemory>
+    requires { 0 < id.shards }
+    ensures { IfOk result (λ list. AreByKey id ops.now list.items) }
+{
+    let mut list = Vec::new(alloc);
+    for (place, op) in ops.iter().enumerate() {
+        if id.has(op.key()) {
+            list.push((op.key(), place))?;
+        }
+    }
+    list.sort_unstable();
+    list.dedup();
+    Ok(list)
+}
+
+/// What the operation at that place does to its key.
+fn access_at(ops: &[Op], place: usize) -> Access
+    requires { place < length ops.now }
+    ensures { (p : Operation) × (slice_get ops.now place ≡ Some p) × (result ≡ access_of p) }
+{
+    ops[place].access()
+}
+
+/// Whether an operation stands there, and is on the key.
+fn is_at(list: &[KeyPlace<'_>], index: usize, key: &Key) -> bool
+    ensures { IsTrue result ↔ IsKeyAt list.now index key.now }
+{
+    match list.get(index) {
+        Some(entry) => entry.0 == key,
+        None => false,
+    }
+}
+
+/// Looks at the next keys from that place on, once for so many, where the transaction has so many operations that no look came before.
+fn look_from(
+    ahead: &mut Ahead,
+    keys: &KeyStates,
+    operations: usize,
+    list: &[KeyPlace<'_>],
+    from: usize,
+)
+    requires { from ≤ length list.now }
+{
+    if operations <= MOST_AHEAD || from % MOST_AHEAD != 0 {
+        return;
+    }
+    for entry in list[from..].iter().take(MOST_AHEAD) {
+        ahead.add(keys, entry.0);
+    }
+    ahead.look(keys);
 }

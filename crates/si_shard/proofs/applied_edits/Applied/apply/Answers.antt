@@ -4,8 +4,5 @@ use Rattle.si_shard.proofs.applied_edits.Applied.apply.Goals as goal
 pub prepare-requires : goal.prepare-requires
 prepare-requires c = c.requires.applied.arrivals
 
-pub apply_straight-requires-clause-applied : goal.apply_straight-requires-clause-applied
-apply_straight-requires-clause-applied c = caught_up c.args.id c.args.kept.now c.args.self.now c.requires.applied c.prepare.new.self c.in_ok-prepare.ensures.known
-
-pub apply_gathered-requires-clause-applied : goal.apply_gathered-requires-clause-applied
-apply_gathered-requires-clause-applied c = caught_up c.args.id c.args.kept.now c.args.self.now c.requires.applied c.prepare.new.self c.in_ok-prepare.ensures.known
+pub apply_prepared-requires-clause-applied : goal.apply_prepared-requires-clause-applied
+apply_prepared-requires-clause-applied c = caught_up c.args.id c.args.kept.now c.args.self.now c.requires.applied c.prepare.new.self c.in_ok-prepare.ensures.known

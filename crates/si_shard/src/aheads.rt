@@ -1,0 +1,41 @@
+//! Looks ahead at what is kept of keys, so that a processor fetches it for many of them side by side. Nothing depends on what is seen.
+
+use crate::key_states::KeyStates;
+use si_model::Key;
+use std::alloc::Global;
+
+/// The keys of so many operations of a transaction at most are looked at together with those of other edits. One of more operations
+/// looks at its own keys, so many at a time.
+pub const MOST_AHEAD: usize = 128;
+
+/// Keys to be looked at, and what was seen so far.
+#[derive(Drop)]
+pub struct Ahead {
+    // Where the keys' states stand.
+    places: Vec<usize>,
+    // It means nothing, but is kept, so that no compiler leaves the looks out.
+    seen: u64,
+}
+
+impl Ahead {
+    pub fn new(alloc: Global) -> Self {
+        Ahead {
+            places: Vec::new(alloc),
+            seen: 0,
+        }
+    }
+
+    /// The key will be looked at, if anything is kept of it and memory is there.
+    pub fn add(&mut self, keys: &KeyStates, key: &Key) {
+        if let Some(place) = keys.place_of(key) {
+            let _added = self.places.push(place).is_ok();
+        }
+    }
+
+    /// Reads the states of the keys, first the heads of all and then the ends of what they hold, so that each is fetched while the
+    /// others are.
+    pub fn look(&mut self, keys: &KeyStates) {
+        self.seen = self.seen ^ keys.look_at(&self.places);
+        self.places.clear();
+    }
+}
