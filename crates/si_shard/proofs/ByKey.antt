@@ -1,14 +1,14 @@
 -- The operations on the keys of a shard in the order of the keys: those on one key stand together, and are its accesses in their order.
-use Rattle.std.proofs.Common.{◌≡◌, ◌↔◌, ◌⊎◌, ◌∙◌, ◌<◌, ◌≤◌, inl, inr, ℕ, ◌+◌, Bool, true, false, List, [], ◌∷◌, ◌++◌, length, slice_get, slice_index_or, Some, None, refl, sym, ap, subst, arith}
-use Rattle.std.specs.List.{AllPairs, Contains}
+use Rattle.std.proofs.Common.{◌≡◌, ◌↔◌, ◌⊎◌, ◌∙◌, ◌<◌, inl, inr, ℕ, ◌+◌, true, List, [], ◌∷◌, ◌++◌, slice_get, slice_index_or, Some, refl, sym, ap, subst, arith}
+use Rattle.std.specs.List.{Contains}
 use Rattle.std.specs.List.Sorted.{IsStrictlySortedBy}
 use Rattle.std.specs.declared.cmp.Ordering.{Ordering}
 use Rattle.std.specs.declared.cmp.Ordering.TheVariants.{Less, Equal, Greater}
-use Rattle.std.specs.Ordering.{nat_cmp, on, ordering_then}
+use Rattle.std.specs.Ordering.{nat_cmp, ordering_then}
 use Rattle.std.specs.Cmp.{IsTotalOrder, nat_cmp_is, ranked}
 use Rattle.std.specs.Cmp.Lexicographic.{nat_list_cmp_total, slice_cmp}
 use Rattle.std.proofs.lemmas.Bool.{cases_lt}
-use Rattle.std.proofs.lemmas.Cmp.{nat_cmp_total, on_total, tied_itself}
+use Rattle.std.proofs.lemmas.Cmp.{nat_cmp_total, on_total, then_total, tied_itself}
 use Rattle.std.proofs.lemmas.Map.Keys.{Less-from_sorted}
 use Rattle.std.proofs.lemmas.Option.{get_or_from_slice_get, slice_get-get_or, slice_get_within}
 use Rattle.si_lists.proofs.Members.{Contains-nil, contains_get, from_each, get_contains, same_some}
@@ -16,6 +16,7 @@ use Rattle.si_lists.proofs.Names.{pairs_head, pairs_nil, pairs_push, pairs_tail}
 use Rattle.si_lists.proofs.Pushes.{push_cases, push_keeps, push_last}
 use Rattle.si_model.specs.declared.operations.Op.{Op}
 use Rattle.si_model.specs.declared.parts.Placed.{Placed}
+use Rattle.si_model.specs.KeyTexts.{shard_hash}
 use Rattle.si_model.specs.Operations.{access_of, key_of}
 use Rattle.si_model.specs.Parts.{accesses}
 use Rattle.si_model.proofs.FindingOrder.{exact_bytes}
@@ -23,7 +24,7 @@ use Rattle.si_model.proofs.InOrder.{same_sorted, sorted-cons, sorted-nil}
 use Rattle.si_model.proofs.KeyParts.{Rise, accesses_are, accesses_rise}
 use Rattle.si_shard.specs.declared.shard_ids.ShardId.{ShardId}
 use Rattle.si_shard.specs.ShardIds.{is_ours}
-use Rattle.si_shard.specs.SingleEdits.{AreByKey, IsKeyAt, IsPlaced, KeyPlace, key_place_cmp}
+use Rattle.si_shard.specs.SingleEdits.{AreByKey, IsKeyAt, KeyPlace, key_place_cmp}
 
 -- ---- places that rise
 
@@ -50,6 +51,21 @@ less_or_equal Less s e = inl refl
 less_or_equal Equal s e = inr (refl, e)
 less_or_equal Greater s e = cc
 
+-- by the hash, and then by the text
+abbrev key_cmp : ℕ × List ℕ → ℕ × List ℕ → Ordering
+key_cmp x y = ordering_then (nat_cmp x.0 y.0) (slice_cmp nat_cmp x.1 y.1)
+
+key_total : IsTotalOrder key_cmp
+key_total = then_total (on_total (λ x. x.0) nat_cmp_total) (on_total (λ x. x.1) nat_list_cmp_total)
+
+both_tied : (r s : Ordering) → ordering_then r s ≡ Equal → s ≡ Equal
+both_tied Less s e = cc
+both_tied Equal s e = e
+both_tied Greater s e = cc
+
+tied : (x y : ℕ × List ℕ) → key_cmp x y ≡ Equal → x.1 ≡ y.1
+tied x y e = exact_bytes x.1 y.1 (both_tied (nat_cmp x.0 y.0) (slice_cmp nat_cmp x.1 y.1) e)
+
 below : (m n : ℕ) → nat_cmp m n ≡ Less → m < n
 below m n e = ranked m n Less (sym e)
 
@@ -63,31 +79,40 @@ module _ (id : ShardId) (ops : List Op) (list : List KeyPlace) (by : AreByKey id
       let second = get_or_from_slice_get list k e d at_k in
       subst (λ a. key_place_cmp a e ≡ Less) first (subst (λ b. key_place_cmp (slice_index_or list j d) b ≡ Less) second (Less-from_sorted key_place_cmp list j k d by.sorted l (slice_get_within list k e at_k)))
 
-  not_itself : (x y : List ℕ) → x ≡ y → slice_cmp nat_cmp x y ≡ Less → ⊥
-  not_itself x y same e = cc (tied_itself nat_list_cmp_total x, subst (λ z. slice_cmp nat_cmp x z ≡ Less) (sym same) e)
+  -- the operation's key with its hash
+  abbrev key : KeyPlace → ℕ × List ℕ
+  key e = (e.0, e.1.now)
+
+  same_keys : (j k : ℕ) (d e : KeyPlace) → slice_get list j ≡ Some d → slice_get list k ≡ Some e → d.1.now ≡ e.1.now → key d ≡ key e
+  same_keys j k d e at_j at_k same =
+      let hash : d.0 ≡ e.0 = by.hashed d (get_contains list j d at_j) ∙ ap shard_hash same ∙ sym (by.hashed e (get_contains list k e at_k)) in
+      λ i. (hash i, same i)
+
+  not_itself : (x y : ℕ × List ℕ) → x ≡ y → key_cmp x y ≡ Less → ⊥
+  not_itself x y same e = cc (tied_itself key_total x, subst (λ z. key_cmp x z ≡ Less) (sym same) e)
 
   -- of two operations on one key the second has the greater place
-  later : (j k : ℕ) (d e : KeyPlace) → slice_get list j ≡ Some d → slice_get list k ≡ Some e → j < k → d.0.now ≡ e.0.now → d.1 < e.1
-  later j k d e at_j at_k l same = elim (less_or_equal (slice_cmp nat_cmp d.0.now e.0.now) (nat_cmp d.1 e.1) (ordered j k d e at_j at_k l)) [
-    | inl less ↦ absurd (not_itself d.0.now e.0.now same less)
-    | inr both ↦ below d.1 e.1 both.1
+  later : (j k : ℕ) (d e : KeyPlace) → slice_get list j ≡ Some d → slice_get list k ≡ Some e → j < k → d.1.now ≡ e.1.now → d.2 < e.2
+  later j k d e at_j at_k l same = elim (less_or_equal (key_cmp (key d) (key e)) (nat_cmp d.2 e.2) (ordered j k d e at_j at_k l)) [
+    | inl less ↦ absurd (not_itself (key d) (key e) (same_keys j k d e at_j at_k same) less)
+    | inr both ↦ below d.2 e.2 both.1
   ]
 
   -- what stands between two operations on one key is on it too
-  between : (j k l : ℕ) (c d e : KeyPlace) → slice_get list j ≡ Some c → slice_get list k ≡ Some d → slice_get list l ≡ Some e → j < k → k < l → c.0.now ≡ e.0.now → d.0.now ≡ c.0.now
-  between j k l c d e at_j at_k at_l m n same = elim (less_or_equal (slice_cmp nat_cmp c.0.now d.0.now) (nat_cmp c.1 d.1) (ordered j k c d at_j at_k m)) [
-    | inl less ↦ elim (less_or_equal (slice_cmp nat_cmp d.0.now e.0.now) (nat_cmp d.1 e.1) (ordered k l d e at_k at_l n)) [
-        | inl more ↦ absurd (not_itself c.0.now e.0.now same (nat_list_cmp_total.trans c.0.now d.0.now e.0.now less more))
-        | inr both ↦ exact_bytes d.0.now e.0.now both.0 ∙ sym same
-      ]
-    | inr both ↦ sym (exact_bytes c.0.now d.0.now both.0)
+  between : (j k l : ℕ) (c d e : KeyPlace) → slice_get list j ≡ Some c → slice_get list k ≡ Some d → slice_get list l ≡ Some e → j < k → k < l → c.1.now ≡ e.1.now → d.1.now ≡ c.1.now
+  between j k l c d e at_j at_k at_l m n same = elim (less_or_equal (key_cmp (key c) (key d)) (nat_cmp c.2 d.2) (ordered j k c d at_j at_k m)) [
+    | inl less ↦ elim (less_or_equal (key_cmp (key d) (key e)) (nat_cmp d.2 e.2) (ordered k l d e at_k at_l n)) [
+      | inl more ↦ absurd (not_itself (key c) (key e) (same_keys j l c e at_j at_l same) (key_total.trans (key c) (key d) (key e) less more))
+      | inr both ↦ tied (key d) (key e) both.0 ∙ sym same
+    ]
+    | inr both ↦ sym (tied (key c) (key d) both.0)
   ]
 
   pub still : (j k l : ℕ) (x y : List ℕ) → IsKeyAt list j x → IsKeyAt list k y → IsKeyAt list l x → j < k → k < l → y ≡ x
   still j k l x y (c, at_j, key_j) (d, at_k, key_k) (e, at_l, key_l) m n = sym key_k ∙ between j k l c d e at_j at_k at_l m n (key_j ∙ sym key_l) ∙ key_j
 
   pub one_key : (j : ℕ) (x y : List ℕ) → IsKeyAt list j x → IsKeyAt list j y → x ≡ y
-  one_key j x y (d, at, key) (e, again, other) = sym key ∙ ap (λ a. a.0.now) (same_some (sym at ∙ again)) ∙ other
+  one_key j x y (d, at, key) (e, again, other) = sym key ∙ ap (λ a. a.1.now) (same_some (sym at ∙ again)) ∙ other
 
   -- ---- what was held of a key
 
@@ -97,8 +122,8 @@ module _ (id : ShardId) (ops : List Op) (list : List KeyPlace) (by : AreByKey id
     pub first : at < i
     pub entry : KeyPlace
     pub stands : slice_get list at ≡ Some entry
-    pub key : entry.0.now ≡ x
-    pub place : entry.1 ≡ a.place
+    pub key : entry.1.now ≡ x
+    pub place : entry.2 ≡ a.place
     pub op : Op
     pub there : slice_get ops a.place ≡ Some op
     pub access : access_of op ≡ a.access
@@ -115,14 +140,14 @@ module _ (id : ShardId) (ops : List Op) (list : List KeyPlace) (by : AreByKey id
   }
 
   -- one more
-  pub held_more : (x : List ℕ) (i : ℕ) (e : KeyPlace) (p : Op) (ys : List Placed) → slice_get list i ≡ Some e → e.0.now ≡ x → slice_get ops e.1 ≡ Some p → AreHeld x i ys → AreHeld x (i + 1) (ys ++ record { place = e.1; access = access_of p } ∷ [])
+  pub held_more : (x : List ℕ) (i : ℕ) (e : KeyPlace) (p : Op) (ys : List Placed) → slice_get list i ≡ Some e → e.1.now ≡ x → slice_get ops e.2 ≡ Some p → AreHeld x i ys → AreHeld x (i + 1) (ys ++ record { place = e.2; access = access_of p } ∷ [])
   held_more x i e p ys stands key there held = record {
-    rise = pairs_push (λ a b. a.place < b.place) ys new held.rise (λ a c. let w = (held.exact a).0 c in subst (λ n. n < e.1) w.place (later w.at i w.entry e w.stands stands w.first (w.key ∙ sym key)));
+    rise = pairs_push (λ a b. a.place < b.place) ys new held.rise (λ a c. let w = (held.exact a).0 c in subst (λ n. n < e.2) w.place (later w.at i w.entry e w.stands stands w.first (w.key ∙ sym key)));
     exact = λ a. (to a, from a);
   }
     where
       new : Placed
-      new = record { place = e.1; access = access_of p }
+      new = record { place = e.2; access = access_of p }
 
       here_now : IsHeld x (i + 1) new
       here_now = record { at = i; first = omega arith; entry = e; stands = stands; key = key; place = refl; op = p; there = there; access = refl }
@@ -142,7 +167,7 @@ module _ (id : ShardId) (ops : List Op) (list : List KeyPlace) (by : AreByKey id
           same : (a : Placed) (w : IsHeld x (i + 1) a) → w.at ≡ i → new ≡ a
           same a w is =
               let entry : e ≡ w.entry = same_some (sym stands ∙ ap (slice_get list) (sym is) ∙ w.stands) in
-              let place : e.1 ≡ a.place = ap (λ q. q.1) entry ∙ w.place in
+              let place : e.2 ≡ a.place = ap (λ q. q.2) entry ∙ w.place in
               let op : p ≡ w.op = same_some (sym there ∙ ap (slice_get ops) place ∙ w.there) in
               let access : access_of p ≡ a.access = ap access_of op ∙ w.access in
               λ k. record { place = place k; access = access k }
@@ -169,15 +194,15 @@ module _ (id : ShardId) (ops : List Op) (list : List KeyPlace) (by : AreByKey id
           among j key = elim (cases_lt j (i + 1)) [
             | inl l ↦ l
             | inr past ↦ elim (cases_lt (i + 1) j) [
-                | inl l ↦ absurd (none (next j key l))
-                | inr k ↦ absurd (none (subst (λ n. IsKeyAt list n x) (let is : j ≡ i + 1 = omega arith in is) key))
-              ]
+              | inl l ↦ absurd (none (next j key l))
+              | inr k ↦ absurd (none (subst (λ n. IsKeyAt list n x) (let is : j ≡ i + 1 = omega arith in is) key))
+            ]
           ]
             where
               next : (j : ℕ) → IsKeyAt list j x → i + 1 < j → IsKeyAt list (i + 1) x
               next j key l =
                   let (d, stands) = there_below j key l in
-                  (d, stands, still i (i + 1) j x d.0.now at_i (d, stands, refl) key (omega arith) l)
+                  (d, stands, still i (i + 1) j x d.1.now at_i (d, stands, refl) key (omega arith) l)
                 where
                   there_below : (j : ℕ) → IsKeyAt list j x → i + 1 < j → (d : KeyPlace) × (slice_get list (i + 1) ≡ Some d)
                   there_below j (e, stands, key) l = (slice_index_or list (i + 1) e, slice_get-get_or list (i + 1) e (let n = slice_get_within list j e stands in omega arith))

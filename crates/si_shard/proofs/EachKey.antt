@@ -1,8 +1,7 @@
 -- What an edit is on the keys of a shard, made on each of them by itself, key by key.
-use Rattle.std.proofs.Common.{◌≡◌, ◌≢◌, ◌⊎◌, ◌∙◌, ◌<◌, ◌≤◌, inl, inr, ℕ, ◌+◌, Bool, true, false, List, [], ◌∷◌, ◌++◌, length, slice_get, Some, refl, sym, ap, subst, arith, IfOk, Ok, Err}
+use Rattle.std.proofs.Common.{◌≡◌, ◌⊎◌, ◌∙◌, ◌<◌, ◌≤◌, inl, inr, ℕ, ◌+◌, Bool, true, false, List, [], ◌∷◌, ◌++◌, length, slice_get, Some, refl, sym, ap, subst, arith, IfOk, Ok, Err}
 use Rattle.std.specs.declared.result.Result.{Result}
 use Rattle.std.specs.List.{Contains}
-use Rattle.std.proofs.lemmas.Bool.{cases_lt}
 use Rattle.std.proofs.lemmas.Option.{slice_get_within}
 use Rattle.si_lists.proofs.Members.{contains_get, get_contains}
 use Rattle.si_lists.proofs.Pushes.{push_last}
@@ -50,15 +49,15 @@ module _ (id : ShardId) (ops : List Op) (h : TxnHead) (e : Edit) (list : List Ke
   }
 
   -- the operation of an entry
-  pub placed : (i : ℕ) (d : KeyPlace) → slice_get list i ≡ Some d → IsPlaced id ops d.0.now d.1
-  placed i d at = (by.exact d.0.now d.1).0 (d, get_contains list i d at, refl, refl)
+  pub placed : (i : ℕ) (d : KeyPlace) → slice_get list i ≡ Some d → IsPlaced id ops d.1.now d.2
+  placed i d at = (by.exact d.1.now d.2).0 (d, get_contains list i d at, refl, refl)
 
-  module _ (i : ℕ) (d : KeyPlace) (at : slice_get list i ≡ Some d) (p : Op) (there : slice_get ops d.1 ≡ Some p) (hand : List Placed) (old mid : KeyStates) (w : AreMade i hand old mid) where
+  module _ (i : ℕ) (d : KeyPlace) (at : slice_get list i ≡ Some d) (p : Op) (there : slice_get ops d.2 ≡ Some p) (hand : List Placed) (old mid : KeyStates) (w : AreMade i hand old mid) where
     abbrev x : List ℕ
-    x = d.0.now
+    x = d.1.now
 
     abbrev more : List Placed
-    more = hand ++ record { place = d.1; access = access_of p } ∷ []
+    more = hand ++ record { place = d.2; access = access_of p } ∷ []
 
     here : IsKeyAt list i x
     here = (d, at, refl)
@@ -117,13 +116,13 @@ module _ (id : ShardId) (ops : List Op) (h : TxnHead) (e : Edit) (list : List Ke
       pub all_here : more ≡ accesses x ops
       all_here = all_held id ops list by x i more ours here last holds
 
-      accessed : Contains (accesses x ops) (record { place = d.1; access = access_of p })
-      accessed = subst (λ l. Contains l (record { place = d.1; access = access_of p })) all_here (push_last hand (record { place = d.1; access = access_of p }))
+      accessed : Contains (accesses x ops) (record { place = d.2; access = access_of p })
+      accessed = subst (λ l. Contains l (record { place = d.2; access = access_of p })) all_here (push_last hand (record { place = d.2; access = access_of p }))
 
       -- its change can be made
       pub can_make_here : CanBeAccessed id ops h e old → (Q R : OnKey) × IsOn mid x Q × LeadsTo (change_by h e more ∷ []) Q R
       can_make_here can =
-          let k = can x (change_by h e more) ours (record { place = d.1; access = access_of p }, accessed, ap (change_by h e) all_here) in
+          let k = can x (change_by h e more) ours (record { place = d.2; access = access_of p }, accessed, ap (change_by h e) all_here) in
           (k.0, k.1, fresh k.0 k.2, k.3)
 
       pub made_on : (new : KeyStates) → IsChangedAt x (change_by h e more ∷ []) mid new → AreMade (i + 1) [] old new
@@ -160,7 +159,7 @@ module _ (id : ShardId) (ops : List Op) (h : TxnHead) (e : Edit) (list : List Ke
     is_accessed : (x : List ℕ) → HasCome i x → (is_ours id x ≡ true) × ((a : Placed) × Contains (accesses x ops) a)
     is_accessed x (j, l, (d, at, key)) =
         let k = placed j d at in
-        (subst (λ y. is_ours id y ≡ true) key k.ours, (record { place = d.1; access = access_of k.op }, (accesses_are x ops (record { place = d.1; access = access_of k.op })).1 (k.op, k.at, k.key ∙ key, refl)))
+        (subst (λ y. is_ours id y ≡ true) key k.ours, (record { place = d.2; access = access_of k.op }, (accesses_are x ops (record { place = d.2; access = access_of k.op })).1 (k.op, k.at, k.key ∙ key, refl)))
 
     changed : (x : List ℕ) (c : Change) → is_ours id x ≡ true → IsAccessChange ops h e x c → IsMadeAt x (c ∷ []) old new
     changed x c ours (a, there, is) = elim (w.keys x) [
@@ -193,8 +192,8 @@ module _ (id : ShardId) (ops : List Op) (h : TxnHead) (e : Edit) (list : List Ke
       of_entry : (d : KeyPlace) → slice_get list 0 ≡ Some d → (x : List ℕ) × (c : Change) × (is_ours id x ≡ true) × IsAccessChange ops h e x c
       of_entry d at =
           let k = placed 0 d at in
-          let a : Placed = record { place = d.1; access = access_of k.op } in
-          (d.0.now, change_by h e (accesses d.0.now ops), k.ours, (a, (accesses_are d.0.now ops a).1 (k.op, k.at, k.key, refl), refl))
+          let a : Placed = record { place = d.2; access = access_of k.op } in
+          (d.1.now, change_by h e (accesses d.1.now ops), k.ours, (a, (accesses_are d.1.now ops a).1 (k.op, k.at, k.key, refl), refl))
 
 -- all was made of an edit that sets no key up
 module _ (id : ShardId) (ops : List Op) (h : TxnHead) (list : List KeyPlace) (by : AreByKey id ops list) where

@@ -1,8 +1,7 @@
 -- What an edit is on one key. All of it is this project's choice.
-use Rattle.std.specs.Prelude.{◌≡◌, List, [], ◌∷◌, ◌++◌, None, ⊤}
+use Rattle.std.specs.Prelude.{◌≡◌, List, [], ◌∷◌, None, ⊤}
 use Rattle.std.specs.List.{Contains}
 use Rattle.si_model.specs.declared.parts.OnKey.{OnKey}
-use Rattle.si_model.specs.declared.parts.Placed.{Placed}
 use Rattle.si_model.specs.Findings.{cases}
 use Rattle.si_model.specs.KeyEdits.{arrived_on, resolved_on, set_up_on, withdrawn_on}
 use Rattle.si_model.specs.History.{IsOfHistory}

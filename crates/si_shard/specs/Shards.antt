@@ -1,5 +1,5 @@
 -- What is known of a shard, and its findings. All of it is this project's choice.
-use Rattle.std.specs.Prelude.{◌≡◌, ◌<◌, Bool, false, List}
+use Rattle.std.specs.Prelude.{◌≡◌, ◌⊎◌, ℕ, ◌<◌, ◌≤◌, Bool, true, false, List, ◌++◌, length, take}
 use Rattle.std.specs.List.{filter}
 use Rattle.si_model.specs.declared.findings.Finding.{Finding}
 use Rattle.si_model.specs.declared.edits.Edit.{Edit}
@@ -31,3 +31,13 @@ pub record IsShard (id : ShardId) (stored kept : List Edit) (applied : Applied) 
   pub accepted : IsAccepted stored
   pub keeps : AreKept id stored kept
   pub whole : spoiled ≡ false → AreApplied id kept applied
+
+-- the shard has stored the first n of these edits behind what it had
+pub record StoresFirst (n : ℕ) (edits : List Edit) (old new : ShardState) : Type 0 where
+  pub id : new.id ≡ old.id
+  pub within : n ≤ length edits
+  pub stored : new.stored ≡ old.stored ++ take n edits
+  -- where it isn't spoiled, these are all, and it wasn't before
+  pub whole : new.spoiled ≡ false → (n ≡ length edits) × (old.spoiled ≡ false)
+  -- where it is spoiled, one was left, or it was spoiled before and stored none
+  pub spoiled : new.spoiled ≡ true → (n < length edits) ⊎ ((n ≡ 0) × (old.spoiled ≡ true))

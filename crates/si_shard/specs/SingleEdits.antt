@@ -1,6 +1,6 @@
 -- What an edit is on the keys of a shard, made on each of them by itself. All of it is this project's choice.
 use Rattle.std.specs.Prelude.{◌≡◌, ◌↔◌, ℕ, Bool, Some, slice_get, true, false, List, [], ◌∷◌}
-use Rattle.std.specs.List.{All, Contains, enumerate_from, filter_map}
+use Rattle.std.specs.List.{Contains}
 use Rattle.std.specs.List.Sorted.{IsStrictlySortedBy}
 use Rattle.std.specs.declared.cmp.Ordering.{Ordering}
 use Rattle.std.specs.Ordering.{nat_cmp, ordering_then}
@@ -9,9 +9,8 @@ use Rattle.std.specs.Cmp.Lexicographic.{slice_cmp}
 use Rattle.si_model.specs.declared.operations.Op.{Op}
 use Rattle.si_model.specs.declared.edits.Edit.{Edit}
 use Rattle.si_model.specs.declared.parts.OnKey.{OnKey}
-use Rattle.si_model.specs.declared.parts.Placed.{Placed}
-use Rattle.si_model.specs.Operations.{key_of, same_key}
-use Rattle.si_model.specs.Parts.{placed_at}
+use Rattle.si_model.specs.KeyTexts.{shard_hash}
+use Rattle.si_model.specs.Operations.{key_of}
 use Rattle.si_shard.specs.declared.shard_ids.ShardId.{ShardId}
 use Rattle.si_shard.specs.declared.key_changes.Change.{Change}
 use Rattle.si_shard.specs.declared.key_states.KeyStates.{KeyStates}
@@ -32,17 +31,21 @@ pub record IsMadeBy (id : ShardId) (ops : List Op) (h : TxnHead) (e : Edit) (old
 
 -- ---- the operations in the order of their keys
 
--- an operation by its key and its place
+-- an operation by the hash of its key, its key and its place
 abbrev pub KeyPlace : Type 0
-KeyPlace = Bor (List ℕ) × ℕ
+KeyPlace = ℕ × Bor (List ℕ) × ℕ
 
--- first by the keys, then by the places
+-- first by the hashes, then by the keys, then by the places
 abbrev pub key_place_cmp : KeyPlace → KeyPlace → Ordering
-key_place_cmp a b = ordering_then (slice_cmp nat_cmp a.0.now b.0.now) (nat_cmp a.1 b.1)
+key_place_cmp a b = ordering_then (ordering_then (nat_cmp a.0 b.0) (slice_cmp nat_cmp a.1.now b.1.now)) (nat_cmp a.2 b.2)
+
+-- the hash of each is that of its key
+abbrev pub AreHashed : List KeyPlace → Type 0
+AreHashed list = (e : KeyPlace) → Contains list e → e.0 ≡ shard_hash e.1.now
 
 -- the operation at the place j of such a list is on the key x
 abbrev pub IsKeyAt : List KeyPlace → ℕ → List ℕ → Type 0
-IsKeyAt list j x = (e : KeyPlace) × (slice_get list j ≡ Some e) × (e.0.now ≡ x)
+IsKeyAt list j x = (e : KeyPlace) × (slice_get list j ≡ Some e) × (e.1.now ≡ x)
 
 -- an operation is on this key of the shard and has this place
 pub record IsPlaced (id : ShardId) (ops : List Op) (x : List ℕ) (i : ℕ) : Type 0 where
@@ -54,7 +57,8 @@ pub record IsPlaced (id : ShardId) (ops : List Op) (x : List ℕ) (i : ℕ) : Ty
 -- these are the operations on the keys of the shard, each by its key and its place: in the order of the keys, and then of the places
 pub record AreByKey (id : ShardId) (ops : List Op) (list : List KeyPlace) : Type 0 where
   pub sorted : IsStrictlySortedBy key_place_cmp list
-  pub exact : (x : List ℕ) (i : ℕ) → ((e : KeyPlace) × Contains list e × (e.0.now ≡ x) × (e.1 ≡ i)) ↔ IsPlaced id ops x i
+  pub exact : (x : List ℕ) (i : ℕ) → ((e : KeyPlace) × Contains list e × (e.1.now ≡ x) × (e.2 ≡ i)) ↔ IsPlaced id ops x i
+  pub hashed : AreHashed list
 
 -- ---- whether it is anything there
 

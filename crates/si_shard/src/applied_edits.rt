@@ -9,8 +9,8 @@ ghost use Rattle.si_shard.specs.Arrivals.{IsReadyFor};
 ghost use Rattle.si_shard.specs.Keeping.{AreKept, BeginsWith, Concerns, IsTaken, kept_after};
 ghost use Rattle.si_shard.specs.Shards.{findings_in};
 
-use crate::arrivals::Arrivals;
 use crate::aheads::{Ahead, MOST_AHEAD};
+use crate::arrivals::Arrivals;
 use crate::key_changes::TxnHead;
 use crate::key_states::KeyStates;
 use crate::shard_ids::ShardId;
@@ -238,7 +238,7 @@ fn ops_in(edit: &Edit) -> &[Op]
 }
 
 /// Keeps a copy of the edit, which shares the operations, where it touches the shard's keys.
-fn keep(kept: &mut Vec<Edit>, edit: &Edit, touches: bool) -> Result<(), OutOfMemory>
+pub fn keep(kept: &mut Vec<Edit>, edit: &Edit, touches: bool) -> Result<(), OutOfMemory>
     ensures kept { OnOk result (kept.new.items ≡ kept_after touches kept.old.items edit.now) }
     ensures begins { BeginsWith kept.old.items kept.new.items }
 {

@@ -10,14 +10,14 @@ ghost use Rattle.si_judge.specs.declared.states.KeyFault.TheVariants as fault;
 ghost use Rattle.si_shard.specs.AppliedEdits.{AreApplied};
 ghost use Rattle.si_shard.specs.Keeping.{AreKept, BeginsWith};
 ghost use Rattle.si_shard.specs.Laws.{findings_below};
-ghost use Rattle.si_shard.specs.Shards.{findings_in};
+ghost use Rattle.si_shard.specs.Shards.{StoresFirst, findings_in};
 
-use crate::applied_edits::Applied;
+use crate::applied_edits::{Applied, keep};
 use crate::laws::findings_are_of_shards;
 use crate::shard_ids::ShardId;
 use crate::stored_edits::Stored;
 use si_judge::KeyFault;
-use si_model::laws::order_is_strict;
+use si_model::laws::{accepted_begins, order_is_strict};
 use si_model::sorting::put_in_order;
 use si_model::{Edit, Finding, Number, OutOfMemory};
 use std::alloc::Global;
@@ -94,6 +94,31 @@ impl Shard {
         ensures spoiled { (result ≡ Err fault.Spoiled) ↔ (self.old.spoiled ≡ true) }
         ensures wanting { OnErr result (self.new ≡ record self.old { spoiled = true }) }
     {
+        self.apply_shared(&edit)
+    }
+
+    /// Stores the edits, which have the numbers after the last one stored, one after the other until memory is refused to one of them:
+    /// then those before it stay stored, and the shard is spoiled. One that was spoiled before stores none.
+    pub fn apply_first(&mut self, edits: &[Edit])
+        requires accepted { IsAccepted (self.old.stored ++ edits.now) }
+        ensures { (n : ℕ) × StoresFirst n edits.now self.old self.new }
+    {
+        accepted_begins();
+        self.look_ahead(edits);
+        for edit in edits {
+            if self.apply_shared(edit).is_err() {
+                return;
+            }
+        }
+    }
+
+    /// As [`Shard::apply`], of an edit that others have too.
+    fn apply_shared(&mut self, edit: &Edit) -> Result<(), KeyFault>
+        requires accepted { IsAccepted (self.old.stored ++ edit.now ∷ []) }
+        ensures ok { OnOk result (self.new ≡ record self.old { stored = self.old.stored ++ edit.now ∷ [] }) }
+        ensures spoiled { (result ≡ Err fault.Spoiled) ↔ (self.old.spoiled ≡ true) }
+        ensures wanting { OnErr result (self.new ≡ record self.old { spoiled = true }) }
+    {
         if self.spoiled {
             return Err(KeyFault::Spoiled);
         }
@@ -117,8 +142,7 @@ impl Shard {
 
     /// Stores the edits, which have the numbers after the last one stored, and mends the findings on the shard's keys.
     ///
-    /// It makes of the shard what [`Shard::apply`] makes of it edit by edit, and costs less: what they are on one key is done
-    /// together. [`KeyFault::Spoiled`] is answered as there; [`KeyFault::OutOfMemory`] leaves the edits that were stored before,
+    /// It makes of the shard what [`Shard::apply`] makes of it edit by edit. [`KeyFault::Spoiled`] is answered as there; [`KeyFault::OutOfMemory`] leaves the edits that were stored before,
     /// and the shard is spoiled from then on.
     pub fn apply_all(&mut self, edits: &[Edit]) -> Result<(), KeyFault>
         requires accepted { IsAccepted (self.old.stored ++ edits.now) }
@@ -234,22 +258,21 @@ fn take_in(
     applied: &mut Applied,
     kept: &mut Vec<Edit>,
     stored: &mut Stored,
-    edit: Edit,
+    edit: &Edit,
     id: ShardId,
 ) -> Result<(), OutOfMemory>
     requires shards { 0 < id.shards }
     requires kept { AreKept id stored.old kept.old.items }
     requires applied { AreApplied id kept.old.items applied.old }
-    requires accepted { IsAccepted (stored.old ++ edit ∷ []) }
-    ensures stored { OnOk result (stored.new ≡ stored.old ++ edit ∷ []) }
+    requires accepted { IsAccepted (stored.old ++ edit.now ∷ []) }
+    ensures stored { OnOk result (stored.new ≡ stored.old ++ edit.now ∷ []) }
     ensures kept { OnOk result (AreKept id stored.new kept.new.items) }
     ensures applied { OnOk result (AreApplied id kept.new.items applied.new) }
     ensures refused { OnErr result (stored.new ≡ stored.old) }
     ensures begins { BeginsWith kept.old.items kept.new.items }
 {
-    let last = Snapshot::of(&edit);
     apply_and_keep(applied, kept, stored, edit, id)?;
-    stored.push(last)?;
+    stored.push(Snapshot::of(edit))?;
     Ok(())
 }
 
@@ -258,21 +281,19 @@ fn apply_and_keep(
     applied: &mut Applied,
     kept: &mut Vec<Edit>,
     _stored: &Stored,
-    edit: Edit,
+    edit: &Edit,
     id: ShardId,
 ) -> Result<(), OutOfMemory>
     requires shards { 0 < id.shards }
     requires kept { AreKept id _stored.now kept.old.items }
     requires applied { AreApplied id kept.old.items applied.old }
-    requires accepted { IsAccepted (_stored.now ++ edit ∷ []) }
-    ensures kept { OnOk result (AreKept id (_stored.now ++ edit ∷ []) kept.new.items) }
+    requires accepted { IsAccepted (_stored.now ++ edit.now ∷ []) }
+    ensures kept { OnOk result (AreKept id (_stored.now ++ edit.now ∷ []) kept.new.items) }
     ensures applied { OnOk result (AreApplied id kept.new.items applied.new) }
     ensures begins { BeginsWith kept.old.items kept.new.items }
 {
-    if applied.apply(kept.as_slice(), &edit, id)? {
-        kept.push(edit)?;
-        return Ok(());
-    }
+    let touches = applied.apply(kept.as_slice(), edit, id)?;
+    keep(kept, edit, touches)?;
     Ok(())
 }
 

@@ -1,11 +1,12 @@
 //! Edits that go straight to the keys of their transactions.
 
-ghost use Rattle.std.specs.Prelude.{◌≡◌, ◌↔◌, ◌<◌, ◌≤◌, ℕ, List, IsTrue, IfOk, OnOk, Some, length, slice_get};
+ghost use Rattle.std.specs.Prelude.{◌≡◌, ◌↔◌, ◌<◌, ◌≤◌, ◌==◌, ◌&&◌, ℕ, List, IsTrue, IfOk, OnOk, Some, length, slice_get};
 ghost use Rattle.si_model.specs.declared.edits.Edit.TheVariants as variant;
 ghost use Rattle.si_model.specs.declared.numbers.Value.{Value as Written};
 ghost use Rattle.si_model.specs.declared.operations.Op.{Op as Operation};
-ghost use Rattle.si_model.specs.Operations.{access_of};
-ghost use Rattle.si_shard.specs.SingleEdits.{AreByKey, CanBeMadeBy, IsKeyAt, IsMadeBy, IsTold};
+ghost use Rattle.si_model.specs.KeyTexts.{shard_hash};
+ghost use Rattle.si_model.specs.Operations.{access_of, same_key};
+ghost use Rattle.si_shard.specs.SingleEdits.{AreByKey, AreHashed, CanBeMadeBy, IsKeyAt, IsMadeBy, IsTold};
 
 use crate::aheads::{Ahead, MOST_AHEAD};
 use crate::key_changes::{Change, TxnHead, change_by};
@@ -16,8 +17,8 @@ use si_model::{Access, Edit, Key, Op, OutOfMemory, Placed, Value};
 use std::alloc::Global;
 use std::mem;
 
-/// A key with the place of an operation on it.
-pub type KeyPlace<'a> = (&'a Key, usize);
+/// The hash that picks a key's shard, which tells most keys apart, the key, and the place of an operation on it.
+pub type KeyPlace<'a> = (u32, &'a Key, usize);
 
 /// Makes what the edit is on each key of the shard, where its transaction is this one with these operations. Answers whether it is
 /// anything there.
@@ -78,7 +79,7 @@ fn make_accessed(
     let mut accesses = Accesses::new(alloc);
     for index in 0..list.len() {
         look_from(ahead, keys, ops.len(), &list, index);
-        let (key, place) = list[index];
+        let (_, key, place) = list[index];
         accesses.push(Placed {
             place,
             access: access_at(ops, place),
@@ -91,7 +92,8 @@ fn make_accessed(
     Ok(!list.is_empty())
 }
 
-/// The operations on the shard's keys, in the order of the keys, and those on one key in the order of the transaction.
+/// The operations on the shard's keys, in the order of the keys by their hashes and texts, and those on one key in the order of the
+/// transaction.
 fn by_key<'a>(alloc: Global, ops: &'a [Op], id: ShardId) -> Result<Vec<KeyPlace<'a>>, OutOfMemory>
     requires { 0 < id.shards }
     ensures { IfOk result (λ list. AreByKey id ops.now list.items) }
@@ -99,7 +101,7 @@ fn by_key<'a>(alloc: Global, ops: &'a [Op], id: ShardId) -> Result<Vec<KeyPlace<
     let mut list = Vec::new(alloc);
     for (place, op) in ops.iter().enumerate() {
         if id.has(op.key()) {
-            list.push((op.key(), place))?;
+            list.push((op.key().shard_hash(), op.key(), place))?;
         }
     }
     list.sort_unstable();
@@ -117,12 +119,20 @@ fn access_at(ops: &[Op], place: usize) -> Access
 
 /// Whether an operation stands there, and is on the key.
 fn is_at(list: &[KeyPlace<'_>], index: usize, key: &Key) -> bool
+    requires { AreHashed list.now }
     ensures { IsTrue result ↔ IsKeyAt list.now index key.now }
 {
     match list.get(index) {
-        Some(entry) => entry.0 == key,
+        Some(entry) => is_on(entry, key),
         None => false,
     }
+}
+
+/// Whether the entry is of the key. The hashes of two keys mostly differ where the keys do.
+fn is_on(entry: &KeyPlace<'_>, key: &Key) -> bool
+    ensures { result ≡ ((entry.now.0 == shard_hash key.now) && same_key entry.now.1.now key.now) }
+{
+    entry.0 == key.shard_hash() && entry.1 == key
 }
 
 /// Looks at the next keys from that place on, once for so many, where the transaction has so many operations that no look came before.
@@ -139,7 +149,7 @@ fn look_from(
         return;
     }
     for entry in list[from..].iter().take(MOST_AHEAD) {
-        ahead.add(keys, entry.0);
+        ahead.add(keys, entry.1);
     }
     ahead.look(keys);
 }

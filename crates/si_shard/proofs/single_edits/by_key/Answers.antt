@@ -1,6 +1,7 @@
-use Rattle.std.proofs.Common.{◌≡◌, ◌∙◌, ◌+◌, true, false, [], length, refl, ap, sym, subst}
+use Rattle.std.proofs.Common.{◌∙◌, ◌+◌, length, refl, ap, sym, subst}
 use Rattle.std.proofs.lemmas.Option.{slice_get_read}
 use Rattle.std.proofs.lemmas.List.Filters.{dedup_is}
+use Rattle.si_model.specs.KeyTexts.{shard_hash}
 use Rattle.si_shard.specs.ShardIds.{is_ours}
 use Rattle.si_shard.proofs.Listing.{AreListed, in_order_by_key, key_place_eq, listed_more, listed_past, none_listed}
 use Rattle.si_shard.proofs.single_edits.by_key.Goals as goal
@@ -19,7 +20,7 @@ loop-place-preserved c =
     elim c.if-has.branch [
       | then-has+in_ok-push w ↦
           let ours = sym (ap (is_ours id) c.key.ensures) ∙ sym c.has.ensures ∙ w.if-has.true in
-          subst (AreListed id ops (i + 1)) (sym (ap (λ v. v.items) w.list-is ∙ w.in_ok-push.ensures.items)) (listed_more id ops i p at c.loop-place.list.items c.loop-place.invariant ours (w.key-then-has.result, i) w.key-then-has.ensures refl)
+          subst (AreListed id ops (i + 1)) (sym (ap (λ v. v.items) w.list-is ∙ w.in_ok-push.ensures.items)) (listed_more id ops i p at c.loop-place.list.items c.loop-place.invariant ours (w.shard_hash.result, w.key-then-has-2.result, i) (w.shard_hash.ensures ∙ ap shard_hash w.key-then-has.ensures) w.key-then-has-2.ensures refl)
       | else-has w ↦
           let other = sym (ap (is_ours id) c.key.ensures) ∙ sym c.has.ensures ∙ w.if-has.false in
           subst (AreListed id ops (i + 1)) (sym (ap (λ v. v.items) w.list-is)) (listed_past id ops i p at c.loop-place.list.items c.loop-place.invariant other)

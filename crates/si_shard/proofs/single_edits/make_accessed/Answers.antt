@@ -1,4 +1,4 @@
-use Rattle.std.proofs.Common.{◌≡◌, ◌∙◌, ◌<◌, ◌≤◌, ◌+◌, ℕ, Bool, true, false, List, [], ◌∷◌, ◌++◌, length, slice_get, slice_index_or, Some, not, rules, ap, sym, subst, arith}
+use Rattle.std.proofs.Common.{◌≡◌, ◌∙◌, ◌<◌, ◌≤◌, ◌+◌, ℕ, true, List, [], ◌∷◌, ◌++◌, length, slice_get, slice_index_or, Some, not, rules, ap, sym, subst}
 use Rattle.std.proofs.lemmas.Option.{slice_get_read, slice_get_within}
 use Rattle.si_model.specs.declared.operations.Op.{Op}
 use Rattle.si_model.specs.declared.parts.OnKey.{OnKey}
@@ -8,7 +8,7 @@ use Rattle.si_model.specs.Operations.{access_of}
 use Rattle.si_shard.specs.AppliedEdits.{change_by}
 use Rattle.si_shard.specs.KeyChanges.{LeadsTo}
 use Rattle.si_shard.specs.KeyStates.{IsChangedAt, IsOn}
-use Rattle.si_shard.specs.SingleEdits.{AreByKey, IsKeyAt, KeyPlace}
+use Rattle.si_shard.specs.SingleEdits.{AreHashed, IsKeyAt, KeyPlace}
 use Rattle.si_shard.proofs.EachKey.{AreMade, can_access, can_make_here, made_all, made_on, made_past, none_made, placed, told_made}
 use Rattle.si_shard.proofs.single_edits.make_accessed.Goals as goal
 use Rattle.si_shard.proofs.single_edits.make_accessed.Goals.{then-not-is_at+in_ok-change, else-not-is_at}
@@ -22,8 +22,11 @@ pushed : (mid new hand : List Placed) (place : ℕ) (a : Access) (p : Op) → ne
 pushed mid new hand place a p same is access = same ∙ is ∙ ap (λ b. hand ++ record { place = place; access = b } ∷ []) access
 
 pub loop-index-init : goal.loop-index-init
-loop-index-init c = (c.in_ok-list.ensures, subst (λ ys. AreMade c.args.id c.args.ops.now c.args.head c.args.edit.now c.in_ok-list.list.items c.in_ok-list.ensures 0 ys c.args.keys.now c.args.keys.now) (sym c.new-accesses.ensures)
-    (none_made c.args.id c.args.ops.now c.args.head c.args.edit.now c.in_ok-list.list.items c.in_ok-list.ensures c.args.keys.now))
+loop-index-init c = (
+  c.in_ok-list.ensures,
+  subst (λ ys. AreMade c.args.id c.args.ops.now c.args.head c.args.edit.now c.in_ok-list.list.items c.in_ok-list.ensures 0 ys c.args.keys.now c.args.keys.now) (sym c.new-accesses.ensures)
+      (none_made c.args.id c.args.ops.now c.args.head c.args.edit.now c.in_ok-list.list.items c.in_ok-list.ensures c.args.keys.now),
+)
 
 pub access_at-requires : goal.access_at-requires
 access_at-requires c =
@@ -31,7 +34,7 @@ access_at-requires c =
     let d = c.index.result.now in
     let w = c.loop-index.invariant in
     let at = at_index list c.deref.result.now c.len-index-end.result c.loop-index.index d c.deref.ensures.value (c.deref.ensures.len ∙ sym c.len-index-end.ensures) c.loop-index-test.true c.index.ensures in
-    slice_get_within c.args.ops.now d.1 _ (placed c.args.id c.args.ops.now c.args.head c.args.edit.now list w.0 c.loop-index.index d at).at
+    slice_get_within c.args.ops.now d.2 _ (placed c.args.id c.args.ops.now c.args.head c.args.edit.now list w.0 c.loop-index.index d at).at
 
 pub change-requires : goal.change-requires
 change-requires c =
@@ -45,9 +48,9 @@ change-requires c =
     let w = c.loop-index.invariant in
     let p = c.access_at.ensures.0 in
     let at = at_index list c.deref.result.now c.len-index-end.result i d c.deref.ensures.value (c.deref.ensures.len ∙ sym c.len-index-end.ensures) c.loop-index-test.true c.index.ensures in
-    let all = pushed c.push.new.self c.replace-all.result c.loop-index.accesses d.1 c.access_at.result p c.replace-all.ensures.value c.in_ok-push.ensures.ok c.access_at.ensures.2 in
-    let last : IsKeyAt list (i + 1) d.0.now → ⊥ = λ k. (let yes : c.is_at.result ≡ true = c.is_at.ensures.1 (subst (λ l. IsKeyAt l (i + 1) d.0.now) (sym c.deref-in-loop-index.ensures.value) k) in let no = c.if-not-is_at.true in cc) in
-    subst (λ g. (Q R : OnKey) × IsOn c.loop-index.keys d.0.now Q × LeadsTo (g ∷ []) Q R) (sym (c.change_by.ensures ∙ ap (change_by h e) all))
+    let all = pushed c.push.new.self c.replace-all.result c.loop-index.accesses d.2 c.access_at.result p c.replace-all.ensures.value c.in_ok-push.ensures.ok c.access_at.ensures.2 in
+    let last : IsKeyAt list (i + 1) d.1.now → ⊥ = λ k. (let yes : c.is_at.result ≡ true = c.is_at.ensures.1 (subst (λ l. IsKeyAt l (i + 1) d.1.now) (sym c.deref-in-loop-index.ensures.value) k) in let no = c.if-not-is_at.true in cc) in
+    subst (λ g. (Q R : OnKey) × IsOn c.loop-index.keys d.1.now Q × LeadsTo (g ∷ []) Q R) (sym (c.change_by.ensures ∙ ap (change_by h e) all))
     (can_make_here id ops h e list w.0 i d at p c.access_at.ensures.1 c.loop-index.accesses c.args.keys.now c.loop-index.keys w.1 last (can_access id ops h e c.args.keys.now c.requires.other c.requires.can))
 
 pub loop-index-preserved : goal.loop-index-preserved
@@ -65,21 +68,25 @@ loop-index-preserved c =
     let mid = c.loop-index.keys in
     let hand = c.loop-index.accesses in
     let at = at_index list c.deref.result.now c.len-index-end.result i d c.deref.ensures.value (c.deref.ensures.len ∙ sym c.len-index-end.ensures) c.loop-index-test.true c.index.ensures in
-    let key_at = ap (λ l. IsKeyAt l (i + 1) d.0.now) c.deref-in-loop-index.ensures.value in
+    let key_at = ap (λ l. IsKeyAt l (i + 1) d.1.now) c.deref-in-loop-index.ensures.value in
     elim c.if-not-is_at.branch [
       | then-not-is_at+in_ok-change x ↦
-          let all = pushed c.push.new.self x.replace-all.result hand d.1 c.access_at.result p x.replace-all.ensures.value c.in_ok-push.ensures.ok c.access_at.ensures.2 in
-          let last : IsKeyAt list (i + 1) d.0.now → ⊥ = λ k. (let yes : c.is_at.result ≡ true = c.is_at.ensures.1 (subst (λ l. IsKeyAt l (i + 1) d.0.now) (sym c.deref-in-loop-index.ensures.value) k) in let no = x.if-not-is_at.true in cc) in
-          (w.0, subst (λ ys. AreMade id ops h e list w.0 (i + 1) ys old c.if-not-is_at.keys) (sym (x.accesses-is ∙ x.replace-all.ensures.after ∙ x.new.ensures))
-          (subst (AreMade id ops h e list w.0 (i + 1) [] old) (sym x.keys-is)
-          (made_on id ops h e list w.0 i d at p c.access_at.ensures.1 hand old mid w.1 last x.change.new.self
-          (subst (λ g. IsChangedAt d.0.now (g ∷ []) mid x.change.new.self) (x.change_by.ensures ∙ ap (change_by h e) all) x.in_ok-change.ensures))))
+          let all = pushed c.push.new.self x.replace-all.result hand d.2 c.access_at.result p x.replace-all.ensures.value c.in_ok-push.ensures.ok c.access_at.ensures.2 in
+          let last : IsKeyAt list (i + 1) d.1.now → ⊥ = λ k. (let yes : c.is_at.result ≡ true = c.is_at.ensures.1 (subst (λ l. IsKeyAt l (i + 1) d.1.now) (sym c.deref-in-loop-index.ensures.value) k) in let no = x.if-not-is_at.true in cc) in (
+            w.0,
+            subst (λ ys. AreMade id ops h e list w.0 (i + 1) ys old c.if-not-is_at.keys) (sym (x.accesses-is ∙ x.replace-all.ensures.after ∙ x.new.ensures))
+                (subst (AreMade id ops h e list w.0 (i + 1) [] old) (sym x.keys-is)
+                (made_on id ops h e list w.0 i d at p c.access_at.ensures.1 hand old mid w.1 last x.change.new.self
+                (subst (λ g. IsChangedAt d.1.now (g ∷ []) mid x.change.new.self) (x.change_by.ensures ∙ ap (change_by h e) all) x.in_ok-change.ensures))),
+          )
       | else-not-is_at x ↦
-          let next : IsKeyAt list (i + 1) d.0.now = subst (λ l. IsKeyAt l (i + 1) d.0.now) c.deref-in-loop-index.ensures.value (c.is_at.ensures.0 (let yes = x.if-not-is_at.false in cc)) in
-          let all = pushed c.push.new.self c.if-not-is_at.accesses hand d.1 c.access_at.result p x.accesses-is c.in_ok-push.ensures.ok c.access_at.ensures.2 in
-          (w.0, subst (λ ys. AreMade id ops h e list w.0 (i + 1) ys old c.if-not-is_at.keys) (sym all)
-          (subst (AreMade id ops h e list w.0 (i + 1) _ old) (sym x.keys-is)
-          (made_past id ops h e list w.0 i d at p c.access_at.ensures.1 hand old mid w.1 next)))
+          let next : IsKeyAt list (i + 1) d.1.now = subst (λ l. IsKeyAt l (i + 1) d.1.now) c.deref-in-loop-index.ensures.value (c.is_at.ensures.0 (let yes = x.if-not-is_at.false in cc)) in
+          let all = pushed c.push.new.self c.if-not-is_at.accesses hand d.2 c.access_at.result p x.accesses-is c.in_ok-push.ensures.ok c.access_at.ensures.2 in (
+            w.0,
+            subst (λ ys. AreMade id ops h e list w.0 (i + 1) ys old c.if-not-is_at.keys) (sym all)
+                (subst (AreMade id ops h e list w.0 (i + 1) _ old) (sym x.keys-is)
+                (made_past id ops h e list w.0 i d at p c.access_at.ensures.1 hand old mid w.1 next)),
+          )
     ]
 
 pub returns-clause-made : goal.returns-clause-made
@@ -92,3 +99,6 @@ pub returns-clause-touches : goal.returns-clause-touches
 returns-clause-touches c =
     told_made c.args.id c.args.ops.now c.args.head c.in_ok-list.list.items c.loop-index.invariant.0 c.args.edit.now c.requires.other (not c.is_empty.result)
     (λ no. (let is = c.is_empty.ensures in search rules)) (λ yes. (let is = c.is_empty.ensures in search rules))
+
+pub is_at-requires : goal.is_at-requires
+is_at-requires c = subst AreHashed (sym c.deref-in-loop-index.ensures.value) c.loop-index.invariant.0.hashed

@@ -1,4 +1,4 @@
-use Rattle.std.proofs.Common.{◌+◌, ◌++◌, ◌∷◌, [], take, subst}
+use Rattle.std.proofs.Common.{subst}
 use Rattle.si_shard.specs.AppliedEdits.{AreApplied}
 use Rattle.si_shard.proofs.Beginnings.{all_taken, beginning_accepted, begins_accepted, one_more_taken}
 use Rattle.si_shard.proofs.applied_edits.Applied.apply_kept.Goals as goal
