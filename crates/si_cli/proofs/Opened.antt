@@ -5,9 +5,10 @@ use Rattle.std.specs.Option.{option_map}
 use Rattle.std.specs.Io.KnownBytes.{Keeps}
 use Rattle.std.specs.Borrow.{Bor}
 use Rattle.std.proofs.Math.Seq.{take-suc}
-use Rattle.std.proofs.lemmas.List.{map-append}
+use Rattle.std.proofs.lemmas.List.{length-map, map-append}
 use Rattle.std.proofs.lemmas.Option.{none-some}
 use Rattle.si_lists.proofs.Tests.{mapped_some}
+use Rattle.si_text.specs.Devices.{Input, Lent, Output, each_failed, each_left}
 use Rattle.si_run.specs.declared.options.Options.{Options}
 use Rattle.si_run.specs.declared.statuses.ExitStatus.{ExitStatus}
 use Rattle.si_run.specs.declared.faults.RunFault.{RunFault}
@@ -15,10 +16,9 @@ use Rattle.si_run.specs.declared.faults.RunFault.TheVariants as fault
 use Rattle.si_run.specs.Endings.{Ends}
 use Rattle.si_run.specs.Outputs.{Terms}
 use Rattle.si_run.specs.Runs.{BeginsSome, BeginsText, IsRunnable, IsTrueDeviceFault, MayBeTooLong, WritesBeginning, WritesOutput, WritesSome, WritesText, all_known, terms_by}
-use Rattle.si_run.specs.Takings.{Device}
 use Rattle.si_run.proofs.InRange.{device_fault}
 use Rattle.si_cli.specs.Openings.{HoldFiles}
-use Rattle.si_cli.specs.Programs.{EndsCheck, EndsFiles, EndsNamed, Files, Input, IsToldOf}
+use Rattle.si_cli.specs.Programs.{EndsCheck, EndsFiles, EndsNamed, Files, IsToldOf}
 
 pub as_many : (files lefts : List (Option (List ℕ))) → HoldFiles files lefts → length lefts ≡ length files
 as_many [] [] k = refl
@@ -95,25 +95,35 @@ kept_fault files lefts failed w (fault.Open opening) k t = t
 kept_fault files lefts failed w fault.Output k t = t
 kept_fault files lefts failed w fault.Memory k t = t
 
-pub kept_check : (terms : Terms) (files lefts : List (Option (List ℕ))) (failed : List Bool) (out err : Device) (result : ℕ) → HoldFiles files lefts → EndsCheck terms lefts failed out err result → EndsCheck terms files failed out err result
+pub kept_check : (terms : Terms) (files lefts : List (Option (List ℕ))) (failed : List Bool) (out err : Lent Output) (result : ℕ) → HoldFiles files lefts → EndsCheck terms lefts failed out err result → EndsCheck terms files failed out err result
 kept_check terms files lefts failed out err result k ends = elim ends [
-  | inl done ↦ inl (done.0, done.1, kept_text terms files lefts out.before out.after done.0 k done.2, done.3, done.4, done.5)
-  | inr f ↦ inr (f.0, kept_fault files lefts failed out.failed f.0 k f.1, kept_beginning terms files lefts out.before out.after k f.2, f.3)
+  | inl done ↦ inl (done.0, done.1, kept_text terms files lefts out.before.written out.after.written done.0 k done.2, done.3, done.4, done.5)
+  | inr f ↦ inr (f.0, kept_fault files lefts failed out.after.failed f.0 k f.1, kept_beginning terms files lefts out.before.written out.after.written k f.2, f.3)
 ]
 
--- what holds of the images of all elements holds of all images
-pub all_images : {X : Type 0} (f : X → Bool) (P : Bool → Type 0) (xs : List X) → ((x : X) → P (f x)) → All P (map f xs)
-all_images f P [] each k d below = absurd (omega arith)
-all_images f P (x ∷ xs) each zero d below = each x
-all_images f P (x ∷ xs) each (suc k) d below = all_images f P xs each k d (omega arith)
+-- what holds of the failures of all sources holds of all failures
+pub all_images : {Source : Type 0} (seen : Source → Input) (P : Bool → Type 0) (sources : List Source) → ((source : Source) → P (seen source).failed) → All P (each_failed (map seen sources))
+all_images seen P [] each k d below = absurd (omega arith)
+all_images seen P (s ∷ sources) each zero d below = each s
+all_images seen P (s ∷ sources) each (suc k) d below = all_images seen P sources each k d (omega arith)
 
 -- a run whose end is told is a check that ends so
-pub run_told : (options : Options) (lefts : List (Option (List ℕ))) (failed : List Bool) (out err : Device) (result : ℕ) (ended : Result ExitStatus RunFault)
-    → IsRunnable options → Ends options lefts failed out ended → IsToldOf ended err result → EndsCheck (terms_by options) lefts failed out err result
-run_told options lefts failed out err result (Ok status) r ends told = inl (status, told.0, ends.output, ends.works.0, ends.works.1, told.1)
-run_told options lefts failed out err result (Err f) r ends told = inr (f, device_fault options lefts failed out.failed f r ends.fault, ends.part, told)
+pub run_told : (options : Options) (inputs : Lent (List Input)) (out err : Lent Output) (result : ℕ) (ended : Result ExitStatus RunFault)
+    → IsRunnable options → Ends options inputs out ended → IsToldOf ended err result → EndsCheck (terms_by options) (each_left inputs.before) (each_failed inputs.after) out err result
+run_told options inputs out err result (Ok status) r ends told = inl (status, told.0, ends.output, ends.works.0, ends.works.1, told.1)
+run_told options inputs out err result (Err f) r ends told =
+    inr (f, device_fault options (each_left inputs.before) (each_failed inputs.after) out.after.failed f r ends.fault, ends.part, told)
 
 -- ---- while files are opened
+
+-- what each source has left, one more at the end
+pub each_left-one_more : {Source : Type 0} (seen : Source → Input) (sources : List Source) (source : Source) → each_left (map seen (sources ++ source ∷ [])) ≡ each_left (map seen sources) ++ (seen source).left ∷ []
+each_left-one_more seen sources source =
+    ap each_left (map-append seen sources (source ∷ [])) ∙ map-append (λ (input : Input). input.left) (map seen sources) (seen source ∷ [])
+
+-- as many as there are sources
+pub length-each_left : {Source : Type 0} (seen : Source → Input) (sources : List Source) → length (each_left (map seen sources)) ≡ length sources
+length-each_left seen sources = length-map (map seen sources) (λ (input : Input). input.left) ∙ length-map sources seen
 
 -- one more file was opened
 pub kept_next : (bytes : List ℕ → Option (List ℕ)) (names : List (List ℕ)) (place : ℕ) (lefts : List (Option (List ℕ))) (left : Option (List ℕ))
@@ -128,13 +138,13 @@ kept_next bytes names place lefts left below k one =
 -- ---- the program's end
 
 -- where files are named, the end is that of their check
-pub files_named : (names : List (Bor (List ℕ))) (terms : Terms) (input : Input) (files : Files) (out err : Device) (result : ℕ) → 1 ≤ length names
+pub files_named : (names : List (Bor (List ℕ))) (terms : Terms) (input : Lent Input) (files : Files) (out err : Lent Output) (result : ℕ) → 1 ≤ length names
     → EndsFiles terms files (map (λ (f : Bor (List ℕ)). f.now) names) out err result → EndsNamed terms input files (map (λ (f : Bor (List ℕ)). f.now) names) out err result
 files_named [] terms input files out err result some ends = absurd (omega arith)
 files_named (name ∷ names) terms input files out err result some ends = ends
 
-pub none_named : (names : List (Bor (List ℕ))) (terms : Terms) (input : Input) (files : Files) (out err : Device) (result : ℕ) → length names ≡ 0
-    → EndsCheck terms (input.left ∷ []) (input.failed ∷ []) out err result → EndsNamed terms input files (map (λ (f : Bor (List ℕ)). f.now) names) out err result
+pub none_named : (names : List (Bor (List ℕ))) (terms : Terms) (input : Lent Input) (files : Files) (out err : Lent Output) (result : ℕ) → length names ≡ 0
+    → EndsCheck terms (input.before.left ∷ []) (input.after.failed ∷ []) out err result → EndsNamed terms input files (map (λ (f : Bor (List ℕ)). f.now) names) out err result
 none_named [] terms input files out err result none ends = ends
 none_named (name ∷ names) terms input files out err result none ends = absurd (omega arith)
 

@@ -1,3 +1,4 @@
+pub mod Folders
 pub mod Openings
 pub mod Programs
 pub mod CommandLines

@@ -2,6 +2,8 @@
 use Rattle.std.specs.Prelude.{◌≡◌, ◌<◌, ℕ, Bool, true, false, All, List, [], ◌∷◌, Option, length, map, take, slice_index_or, ⊤}
 use Rattle.std.specs.Io.KnownBytes.{Keeps}
 use Rattle.clap.specs.Words.{Text}
+use Rattle.si_text.specs.Devices.{Input, each_left}
+use Rattle.si_cli.specs.Folders.{Folder}
 use Rattle.si_cli.specs.declared.programs.NotOpened.{NotOpened}
 use Rattle.si_cli.specs.declared.programs.NotOpened.TheVariants.{File, Memory}
 
@@ -13,9 +15,9 @@ HoldFiles (bytes ∷ files) [] = ⊥
 HoldFiles (bytes ∷ files) (left ∷ lefts) = Keeps bytes left × HoldFiles files lefts
 
 -- of each of these names a source was opened: each gives the bytes of its file, as far as they are known, and has not failed
-abbrev pub AreOpened : {Source : Type 0} → (Source → Option (List ℕ)) → (Source → Bool) → (Text → Option (List ℕ)) → List Text → Type 0
-AreOpened {Source} left failed bytes names =
-    (sources : List Source) × HoldFiles (map bytes names) (map left sources) × All (λ source. failed source ≡ false) sources
+abbrev pub AreOpened : {Source : Type 0} → (Source → Input) → Folder → List Text → Type 0
+AreOpened {Source} seen folder names =
+    (sources : List Source) × HoldFiles (map folder.bytes names) (each_left (map seen sources)) × All (λ source. (seen source).failed ≡ false) sources
 
 -- the file of that place may be one that can't be opened, and those before it were; or memory was refused
 abbrev pub IsNotOpened : (List Text → Type 0) → (Text → Bool) → List Text → NotOpened → Type 0

@@ -14,48 +14,37 @@ use Rattle.si_run.specs.declared.faults.RunFault.TheVariants as fault
 use Rattle.si_cli.specs.CommandLines.{AreTooManyFiles, every_given, expected_given, explain_given, files_given, is_new_alone, only_new_given, rows_given, sicheck_app}
 use Rattle.si_run.specs.Outputs.{Terms, exit_code}
 use Rattle.si_run.specs.Runs.{AppendsBeginning, BeginsText, IsTrueDeviceFault, WritesText}
-use Rattle.si_run.specs.Takings.{Device}
+use Rattle.si_text.specs.Devices.{Input, Lent, Output}
+use Rattle.si_cli.specs.Folders.{Folder}
 use Rattle.si_cli.specs.Openings.{AreOpened}
 
 -- ---- what the program is lent
 
--- the input: the bytes that it has left at the beginning, where they are known, and whether it has failed at the end
-pub record Input : Type 0 where
-  pub left : Option (List ℕ)
-  pub failed : Bool
-
-abbrev pub input_with : Option (List ℕ) → Bool → Input
-input_with left failed = record { left = left; failed = failed }
-
 -- the files that are opened by their names
 pub record Files : Type 1 where
-  -- the bytes of the file of that name, where they are known
-  pub bytes : Text → Option (List ℕ)
-  -- whether there may be none of that name
-  pub may_lack : Text → Bool
+  pub folder : Folder
   -- the files of these names were opened
   pub WereOpened : List Text → Type 0
   -- some source of that kind has failed, or has not
   pub MayBe : Bool → Type 0
 
--- files that are read by such sources, of which this tells what each has left and whether it has failed
-abbrev pub files_of : {Source : Type 0} → (Source → Option (List ℕ)) → (Source → Bool) → (Text → Option (List ℕ)) → (Text → Bool) → Files
-files_of {Source} left failed bytes may_lack = record {
-  bytes = bytes;
-  may_lack = may_lack;
-  WereOpened = AreOpened left failed bytes;
-  MayBe = λ has_failed. (source : Source) × (failed source ≡ has_failed);
+-- files that are read by such sources, of which this tells what is known
+abbrev pub files_of : {Source : Type 0} → (Source → Input) → Folder → Files
+files_of {Source} seen folder = record {
+  folder = folder;
+  WereOpened = AreOpened seen folder;
+  MayBe = λ has_failed. (source : Source) × ((seen source).failed ≡ has_failed);
 }
 
 -- ---- what is written
 
 -- nothing was written
-abbrev pub IsUntouched : Device → Type 0
-IsUntouched d = d.after ≡ d.before
+abbrev pub IsUntouched : Lent Output → Type 0
+IsUntouched d = d.after.written ≡ d.before.written
 
 -- the text was written, unless the device has failed
-abbrev pub Tells : Device → List ℕ → Type 0
-Tells d text = (d.failed ≡ true) ⊎ Appends d.before d.after text
+abbrev pub Tells : Lent Output → List ℕ → Type 0
+Tells d text = (d.after.failed ≡ true) ⊎ Appends d.before.written d.after.written text
 
 -- ---- the line of each fault
 
@@ -90,34 +79,34 @@ fault_line fault.Memory = memory_line
 -- ---- how a check ends
 
 -- the check couldn't be made, which the line tells
-abbrev pub Fails : Device → List ℕ → ℕ → Type 0
+abbrev pub Fails : Lent Output → List ℕ → ℕ → Type 0
 Fails err line result = (result ≡ 2) × Tells err line
 
 -- what a run ended with is told: the status of one that came to its end, or else its fault
-abbrev pub IsToldOf : Result ExitStatus RunFault → Device → ℕ → Type 0
+abbrev pub IsToldOf : Result ExitStatus RunFault → Lent Output → ℕ → Type 0
 IsToldOf (Ok status) err result = (result ≡ exit_code status) × IsUntouched err
 IsToldOf (Err f) err result = Fails err (fault_line f) result
 
 -- the status is that of a run over these inputs, of which the text was written and no device has failed; or a fault of a device or of memory is told,
 -- which is true, and a beginning of that text was written
-abbrev pub EndsCheck : Terms → List (Option (List ℕ)) → List Bool → Device → Device → ℕ → Type 0
+abbrev pub EndsCheck : Terms → List (Option (List ℕ)) → List Bool → Lent Output → Lent Output → ℕ → Type 0
 EndsCheck terms inputs failed out err result =
-    ((status : ExitStatus) × (result ≡ exit_code status) × WritesText terms inputs out.before out.after status
-    × All (λ has_failed. has_failed ≡ false) failed × (out.failed ≡ false) × IsUntouched err)
-    ⊎ ((fault : RunFault) × IsTrueDeviceFault inputs failed out.failed fault × BeginsText terms inputs out.before out.after
+    ((status : ExitStatus) × (result ≡ exit_code status) × WritesText terms inputs out.before.written out.after.written status
+    × All (λ has_failed. has_failed ≡ false) failed × (out.after.failed ≡ false) × IsUntouched err)
+    ⊎ ((fault : RunFault) × IsTrueDeviceFault inputs failed out.after.failed fault × BeginsText terms inputs out.before.written out.after.written
     × Fails err (fault_line fault) result)
 
 -- a file couldn't be opened, which may be, and those before it were, or memory was refused before all were, and nothing was written; or the check of all files ends so, each with a
 -- source that may have failed
-abbrev pub EndsFiles : Terms → Files → List Text → Device → Device → ℕ → Type 0
+abbrev pub EndsFiles : Terms → Files → List Text → Lent Output → Lent Output → ℕ → Type 0
 EndsFiles terms files names out err result =
-    ((place : ℕ) × (place < length names) × (files.may_lack (slice_index_or names place []) ≡ true) × files.WereOpened (take place names) × IsUntouched out × Fails err (open_line place) result)
+    ((place : ℕ) × (place < length names) × (files.folder.may_lack (slice_index_or names place []) ≡ true) × files.WereOpened (take place names) × IsUntouched out × Fails err (open_line place) result)
     ⊎ (IsUntouched out × Fails err memory_line result)
-    ⊎ ((failed : List Bool) × (length failed ≡ length names) × All files.MayBe failed × EndsCheck terms (map files.bytes names) failed out err result)
+    ⊎ ((failed : List Bool) × (length failed ≡ length names) × All files.MayBe failed × EndsCheck terms (map files.folder.bytes names) failed out err result)
 
 -- the check of the input ends so where no file is named, and else that of the files
-abbrev pub EndsNamed : Terms → Input → Files → List Text → Device → Device → ℕ → Type 0
-EndsNamed terms input files [] out err result = EndsCheck terms (input.left ∷ []) (input.failed ∷ []) out err result
+abbrev pub EndsNamed : Terms → Lent Input → Files → List Text → Lent Output → Lent Output → ℕ → Type 0
+EndsNamed terms input files [] out err result = EndsCheck terms (input.before.left ∷ []) (input.after.failed ∷ []) out err result
 EndsNamed terms input files (name ∷ others) out err result = EndsFiles terms files (name ∷ others) out err result
 
 -- ---- how the program ends
@@ -131,14 +120,14 @@ abbrev pub IsFaultOfWords : Error → Type 0
 IsFaultOfWords error = (kind_of error ≢ OutOfMemory) × (kind_of error ≢ DisplayHelp) × (kind_of error ≢ DisplayVersion)
 
 -- a text that was asked for was written, or a beginning of it before the output failed; or memory was refused, or the words are at fault, and nothing was
-abbrev pub EndsLine : Error → Device → Device → ℕ → Type 0
+abbrev pub EndsLine : Error → Lent Output → Lent Output → ℕ → Type 0
 EndsLine error out err result =
-    (IsAskedFor error × (text : List ℕ) × (((result ≡ 0) × Appends out.before out.after text × IsUntouched err)
-    ⊎ ((out.failed ≡ true) × AppendsBeginning out.before out.after text × Fails err output_line result)))
+    (IsAskedFor error × (text : List ℕ) × (((result ≡ 0) × Appends out.before.written out.after.written text × IsUntouched err)
+    ⊎ ((out.after.failed ≡ true) × AppendsBeginning out.before.written out.after.written text × Fails err output_line result)))
     ⊎ (IsUntouched out × (Fails err memory_line result ⊎ (IsFaultOfWords error × (text : List ℕ) × Fails err text result)))
 
 -- why the words ask for no check is told
-abbrev pub EndsUnsettled : SettingsFault → Device → Device → ℕ → Type 0
+abbrev pub EndsUnsettled : SettingsFault → Lent Output → Lent Output → ℕ → Type 0
 EndsUnsettled (unsettled.Line error) out err result = EndsLine error out err result
 EndsUnsettled unsettled.NewAlone out err result = IsUntouched out × Fails err alone_line result
 EndsUnsettled unsettled.TooManyFiles out err result = IsUntouched out × Fails err files_line result
@@ -158,14 +147,14 @@ abbrev pub AreSettled : List Text → Type 0
 AreSettled words = (is_new_alone (rows_given words) ≡ false) × (length (files_given (rows_given words)) ≤ MOST_FILES)
 
 -- `--new` comes alone, or else the files are too many, which is told
-abbrev pub EndsUnasked : List Text → Device → Device → ℕ → Type 0
+abbrev pub EndsUnasked : List Text → Lent Output → Lent Output → ℕ → Type 0
 EndsUnasked words out err result =
     ((is_new_alone (rows_given words) ≡ true) × IsUntouched out × Fails err alone_line result)
     ⊎ (AreTooManyFiles (rows_given words) × IsUntouched out × Fails err files_line result)
 
 -- clap tells something of the words, or that memory was refused; or it has no fault to tell, and `--new` comes alone, or they name too many files, or the check
 -- of the input or of the files ends, by the terms of the words
-abbrev pub EndsProgram : List Text → Input → Files → Device → Device → ℕ → Type 0
+abbrev pub EndsProgram : List Text → Lent Input → Files → Lent Output → Lent Output → ℕ → Type 0
 EndsProgram words input files out err result =
     ((error : Error) × HasKind (fault_of sicheck_app words) error × EndsLine error out err result)
     ⊎ ((fault_of sicheck_app words ≡ [])
@@ -174,7 +163,7 @@ EndsProgram words input files out err result =
 
 -- with no secret key: clap tells something of the words, or that memory was refused; or it has no fault to tell, and `--new` comes alone, or they name too many files,
 -- or ask for a check, which couldn't be made
-abbrev pub EndsWithoutKey : List Text → Device → Device → ℕ → Type 0
+abbrev pub EndsWithoutKey : List Text → Lent Output → Lent Output → ℕ → Type 0
 EndsWithoutKey words out err result =
     ((error : Error) × HasKind (fault_of sicheck_app words) error × EndsLine error out err result)
     ⊎ ((fault_of sicheck_app words ≡ [])

@@ -1,7 +1,8 @@
 //! Files that are opened by their names: a trait, so that contracts and tests can have files of their own, and those of the system.
 
-ghost use Rattle.std.specs.Prelude.{◌≡◌, ℕ, List, Bool, Option, None, true, false, IfOk, IsErr};
+ghost use Rattle.std.specs.Prelude.{◌≡◌, None, true, false, IfOk, IsErr};
 ghost use Rattle.std.specs.Io.KnownBytes.{Keeps};
+ghost use Rattle.si_cli.specs.Folders.{Folder};
 
 use si_text::{ByteSource, StdSource};
 use std::fs;
@@ -18,17 +19,15 @@ pub trait NamedFiles {
     /// What a file is read by.
     type Source: ByteSource + Send + Drop;
 
-    /// The bytes of the file of that name, where they are known. `None` claims nothing.
-    ghost bytes: { Self → List ℕ → Option (List ℕ) };
-
-    /// Whether the opening of the file of that name may fail.
-    ghost may_lack: { Self → List ℕ → Bool };
+    /// What is known of them. `bytes` has the bytes of the file of a name, where they are known: `None` claims nothing. `may_lack` says
+    /// whether its opening may fail.
+    ghost seen: { Self → Folder };
 
     /// Opens the file of that name, from its beginning.
     fn open(&self, name: &str) -> Result<Self::Source, CannotOpen>
-        ensures left { IfOk result (λ source. Keeps (bytes self.now name.now) (Self.Source.left source)) }
-        ensures failed { IfOk result (λ source. Self.Source.failed source ≡ false) }
-        ensures err { IsErr result → may_lack self.now name.now ≡ true };
+        ensures left { IfOk result (λ source. Keeps ((seen self.now).bytes name.now) (Self.Source.seen source).left) }
+        ensures failed { IfOk result (λ source. (Self.Source.seen source).failed ≡ false) }
+        ensures err { IsErr result → (seen self.now).may_lack name.now ≡ true };
 }
 
 /// The system's files. Nothing is known of their bytes.
@@ -48,9 +47,7 @@ where
 {
     type Source = StdSource<R::File>;
 
-    ghost bytes = { λ _ _. None };
-
-    ghost may_lack = { λ _ _. true };
+    ghost seen = { λ _. record { bytes = λ _. None; may_lack = λ _. true } };
 
     fn open(&self, name: &str) -> Result<StdSource<R::File>, CannotOpen> {
         match fs::File::open(self.0, name) {

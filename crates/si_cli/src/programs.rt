@@ -3,11 +3,11 @@
 ghost use Rattle.std.specs.Prelude.{◌≡◌, ◌≤◌, ◌<◌, ◌++◌, ◌∷◌, [], false, true, All, length, map, codes, decimal, is_err, IfOk, IfErr, OnOk, OnErr};
 ghost use Rattle.std.specs.Io.KnownBytes.{Appends};
 ghost use Rattle.std.specs.Mem.{FitsInMemory};
+ghost use Rattle.si_text.specs.Devices.{each_failed, each_left, lent};
 ghost use Rattle.si_cli.specs.declared.settings.TheConstants.{MOST_FILES};
 ghost use Rattle.si_cli.specs.Openings.{AreOpened, HoldFiles, IsNotOpened};
-ghost use Rattle.si_cli.specs.Programs.{EndsCheck, EndsFiles, EndsLine, EndsNamed, EndsProgram, EndsUnsettled, EndsWithoutKey, Fails, IsToldOf, fault_line, files_of, input_with, memory_line, output_line, source_line};
+ghost use Rattle.si_cli.specs.Programs.{EndsCheck, EndsFiles, EndsLine, EndsNamed, EndsProgram, EndsUnsettled, EndsWithoutKey, Fails, IsToldOf, fault_line, files_of, memory_line, output_line, source_line};
 ghost use Rattle.si_run.specs.Runs.{IsRunnable, terms_by};
-ghost use Rattle.si_run.specs.Takings.{device};
 
 use crate::files::NamedFiles;
 use crate::settings::{SettingsFault, settings_of};
@@ -48,13 +48,13 @@ pub fn main_with<
     err: &mut E,
 ) -> u8
     requires size { FitsInMemory I.row }
-    requires input { I.failed input.old ≡ false }
-    requires out { O.failed out.old ≡ false }
+    requires input { (I.seen input.old).failed ≡ false }
+    requires out { (O.seen out.old).failed ≡ false }
     ensures { EndsProgram (map S.text words.now)
-        (input_with (I.left input.old) (I.failed input.new))
-        (files_of F.Source.left F.Source.failed (F.bytes files.now) (F.may_lack files.now))
-        (device (O.written out.old) (O.written out.new) (O.failed out.new))
-        (device (E.written err.old) (E.written err.new) (E.failed err.new)) result }
+        (lent (I.seen input.old) (I.seen input.new))
+        (files_of F.Source.seen (F.seen files.now))
+        (lent (O.seen out.old) (O.seen out.new))
+        (lent (E.seen err.old) (E.seen err.new)) result }
 {
     match settings_of(alloc, words) {
         Ok(settings) => check_by(
@@ -81,10 +81,10 @@ pub fn main_without_key<S: AsStr, O: ByteSink, E: ByteSink>(
     out: &mut O,
     err: &mut E,
 ) -> u8
-    requires out { O.failed out.old ≡ false }
+    requires out { (O.seen out.old).failed ≡ false }
     ensures { EndsWithoutKey (map S.text words.now)
-        (device (O.written out.old) (O.written out.new) (O.failed out.new))
-        (device (E.written err.old) (E.written err.new) (E.failed err.new)) result }
+        (lent (O.seen out.old) (O.seen out.new))
+        (lent (E.seen err.old) (E.seen err.new)) result }
 {
     match settings_of(alloc, words) {
         Ok(_) => tell(err, b"sicheck: no random bytes for the hash maps\n"),
@@ -99,9 +99,9 @@ fn tell_unsettled<O: ByteSink, E: ByteSink>(
     err: &mut E,
     fault: &SettingsFault,
 ) -> u8
-    requires out { O.failed out.old ≡ false }
-    ensures { EndsUnsettled fault.now (device (O.written out.old) (O.written out.new) (O.failed out.new))
-        (device (E.written err.old) (E.written err.new) (E.failed err.new)) result }
+    requires out { (O.seen out.old).failed ≡ false }
+    ensures { EndsUnsettled fault.now (lent (O.seen out.old) (O.seen out.new))
+        (lent (E.seen err.old) (E.seen err.new)) result }
 {
     match fault {
         SettingsFault::Line(error) => tell_line(alloc, out, err, error),
@@ -131,14 +131,14 @@ fn check_by<
     requires size { FitsInMemory I.row }
     requires options { IsRunnable options }
     requires few { length names.now ≤ MOST_FILES }
-    requires input { I.failed input.old ≡ false }
-    requires out { O.failed out.old ≡ false }
+    requires input { (I.seen input.old).failed ≡ false }
+    requires out { (O.seen out.old).failed ≡ false }
     ensures { EndsNamed (terms_by options)
-        (input_with (I.left input.old) (I.failed input.new))
-        (files_of F.Source.left F.Source.failed (F.bytes files.now) (F.may_lack files.now))
+        (lent (I.seen input.old) (I.seen input.new))
+        (files_of F.Source.seen (F.seen files.now))
         (map (λ name. name.now) names.now)
-        (device (O.written out.old) (O.written out.new) (O.failed out.new))
-        (device (E.written err.old) (E.written err.new) (E.failed err.new)) result }
+        (lent (O.seen out.old) (O.seen out.new))
+        (lent (E.seen err.old) (E.seen err.new)) result }
 {
     if names.is_empty() {
         check(rt, alloc, hash, slice::from_mut(input), out, err, options)
@@ -169,12 +169,12 @@ fn check_files<R: Threads + Wait + Sync, F: NamedFiles, O: ByteSink, E: ByteSink
 ) -> u8
     requires options { IsRunnable options }
     requires some { (1 ≤ length names.now) × (length names.now ≤ MOST_FILES) }
-    requires out { O.failed out.old ≡ false }
+    requires out { (O.seen out.old).failed ≡ false }
     ensures { EndsFiles (terms_by options)
-        (files_of F.Source.left F.Source.failed (F.bytes files.now) (F.may_lack files.now))
+        (files_of F.Source.seen (F.seen files.now))
         (map (λ name. name.now) names.now)
-        (device (O.written out.old) (O.written out.new) (O.failed out.new))
-        (device (E.written err.old) (E.written err.new) (E.failed err.new)) result }
+        (lent (O.seen out.old) (O.seen out.new))
+        (lent (E.seen err.old) (E.seen err.new)) result }
 {
     match open_all(files, alloc, names) {
         Ok(mut sources) => check(rt, alloc, hash, sources.as_mut_slice(), out, err, options),
@@ -189,9 +189,9 @@ fn open_all<F: NamedFiles>(
     alloc: Global,
     names: &[&str],
 ) -> Result<Vec<F::Source>, NotOpened>
-    ensures kept { IfOk result (λ sources. HoldFiles (map (F.bytes files.now) (map (λ name. name.now) names.now)) (map F.Source.left sources.items)) }
-    ensures works { IfOk result (λ sources. All (λ s. F.Source.failed s ≡ false) sources.items) }
-    ensures err { IfErr result (IsNotOpened (AreOpened F.Source.left F.Source.failed (F.bytes files.now)) (F.may_lack files.now) (map (λ name. name.now) names.now)) }
+    ensures kept { IfOk result (λ sources. HoldFiles (map (F.seen files.now).bytes (map (λ name. name.now) names.now)) (each_left (map F.Source.seen sources.items))) }
+    ensures works { IfOk result (λ sources. All (λ s. (F.Source.seen s).failed ≡ false) sources.items) }
+    ensures err { IfErr result (IsNotOpened (AreOpened F.Source.seen (F.seen files.now)) (F.seen files.now).may_lack (map (λ name. name.now) names.now)) }
 {
     let mut sources = Vec::new(alloc);
     'names: for place in 0..names.len() {
@@ -217,11 +217,11 @@ fn check<R: Threads + Wait + Sync, I: ByteSource + Send, O: ByteSink, E: ByteSin
 ) -> u8
     requires options { IsRunnable options }
     requires some { (1 ≤ length sources.old) × (length sources.old ≤ MOST_FILES) }
-    requires sources { All (λ s. I.failed s ≡ false) sources.old }
-    requires out { O.failed out.old ≡ false }
-    ensures { EndsCheck (terms_by options) (map I.left sources.old) (map I.failed sources.new)
-        (device (O.written out.old) (O.written out.new) (O.failed out.new))
-        (device (E.written err.old) (E.written err.new) (E.failed err.new)) result }
+    requires sources { All (λ s. (I.seen s).failed ≡ false) sources.old }
+    requires out { (O.seen out.old).failed ≡ false }
+    ensures { EndsCheck (terms_by options) (each_left (map I.seen sources.old)) (each_failed (map I.seen sources.new))
+        (lent (O.seen out.old) (O.seen out.new))
+        (lent (E.seen err.old) (E.seen err.new)) result }
 {
     let ended = run(rt, alloc, hash, sources, out, options);
     tell_end(err, ended)
@@ -229,7 +229,7 @@ fn check<R: Threads + Wait + Sync, I: ByteSource + Send, O: ByteSink, E: ByteSin
 
 /// Answers the status of a run that came to its end, and else tells its fault.
 fn tell_end<E: ByteSink>(err: &mut E, ended: Result<ExitStatus, RunFault>) -> u8
-    ensures { IsToldOf ended (device (E.written err.old) (E.written err.new) (E.failed err.new)) result }
+    ensures { IsToldOf ended (lent (E.seen err.old) (E.seen err.new)) result }
 {
     match ended {
         Ok(status) => status.code(),
@@ -239,7 +239,7 @@ fn tell_end<E: ByteSink>(err: &mut E, ended: Result<ExitStatus, RunFault>) -> u8
 
 /// Tells why a run didn't come to its end. It takes no memory, so each fault is told as what it is.
 fn tell_fault<E: ByteSink>(err: &mut E, fault: RunFault) -> u8
-    ensures { Fails (device (E.written err.old) (E.written err.new) (E.failed err.new)) (fault_line fault) result }
+    ensures { Fails (lent (E.seen err.old) (E.seen err.new)) (fault_line fault) result }
 {
     match fault {
         RunFault::Input(source) => tell_of_source(err, b"sicheck: cannot read source ", source),
@@ -256,8 +256,8 @@ fn tell_line<O: ByteSink, E: ByteSink>(
     err: &mut E,
     error: &clap::Error,
 ) -> u8
-    ensures { EndsLine error.now (device (O.written out.old) (O.written out.new) (O.failed out.new))
-        (device (E.written err.old) (E.written err.new) (E.failed err.new)) result }
+    ensures { EndsLine error.now (lent (O.seen out.old) (O.seen out.new))
+        (lent (E.seen err.old) (E.seen err.new)) result }
 {
     if error.kind() == ErrorKind::OutOfMemory {
         return tell_out_of_memory(err);
@@ -276,21 +276,21 @@ fn tell_line<O: ByteSink, E: ByteSink>(
 
 /// Tells that memory was refused.
 fn tell_out_of_memory<E: ByteSink>(err: &mut E) -> u8
-    ensures { Fails (device (E.written err.old) (E.written err.new) (E.failed err.new)) memory_line result }
+    ensures { Fails (lent (E.seen err.old) (E.seen err.new)) memory_line result }
 {
     tell(err, b"sicheck: out of memory\n")
 }
 
 /// Tells that the output couldn't be written.
 fn tell_unwritten<E: ByteSink>(err: &mut E) -> u8
-    ensures { Fails (device (E.written err.old) (E.written err.new) (E.failed err.new)) output_line result }
+    ensures { Fails (lent (E.seen err.old) (E.seen err.new)) output_line result }
 {
     tell(err, b"sicheck: cannot write\n")
 }
 
 /// Writes a text to `err`, and answers the status of what went wrong.
 fn tell<E: ByteSink>(err: &mut E, text: &[u8]) -> u8
-    ensures { Fails (device (E.written err.old) (E.written err.new) (E.failed err.new)) text.now result }
+    ensures { Fails (lent (E.seen err.old) (E.seen err.new)) text.now result }
 {
     let _ = write_all(err, text);
     FAULTY
@@ -298,7 +298,7 @@ fn tell<E: ByteSink>(err: &mut E, text: &[u8]) -> u8
 
 /// Writes what can't be done with the source of that number, and answers the status of what went wrong.
 fn tell_of_source<E: ByteSink>(err: &mut E, what: &[u8], source: usize) -> u8
-    ensures { Fails (device (E.written err.old) (E.written err.new) (E.failed err.new)) (source_line what.now source) result }
+    ensures { Fails (lent (E.seen err.old) (E.seen err.new)) (source_line what.now source) result }
 {
     let _ = write_of_source(err, what, source);
     FAULTY
@@ -306,8 +306,8 @@ fn tell_of_source<E: ByteSink>(err: &mut E, what: &[u8], source: usize) -> u8
 
 /// Writes that line.
 fn write_of_source<E: ByteSink>(err: &mut E, what: &[u8], source: usize) -> Result<(), DeviceFailed>
-    ensures ok { OnOk result (Appends (E.written err.old) (E.written err.new) (source_line what.now source)) }
-    ensures err { OnErr result (E.failed err.new ≡ true) }
+    ensures ok { OnOk result (Appends (E.seen err.old).written (E.seen err.new).written (source_line what.now source)) }
+    ensures err { OnErr result ((E.seen err.new).failed ≡ true) }
 {
     let mut buffer = Buffer::new();
     write_all(err, what)?;

@@ -117,8 +117,8 @@ fn ended<H: Host, S: ByteSource + Send, W: ByteSink>(
     options: Options,
 ) -> Result<ExitStatus, RunFault>
     requires size { FitsInMemory S.row }
-    requires source { S.failed source.old ≡ false }
-    requires sink { W.failed sink.old ≡ false }
+    requires source { (S.seen source.old).failed ≡ false }
+    requires sink { (W.seen sink.old).failed ≡ false }
 {
     let hash = secret_key(rt);
     run(rt, rt.alloc(), hash, slice::from_mut(source), sink, options)
@@ -179,8 +179,8 @@ fn answer<H: Host, F: NamedFiles, I: ByteSource + Send, O: ByteSink, E: ByteSink
     err: &mut E,
 ) -> u8
     requires size { FitsInMemory I.row }
-    requires input { I.failed input.old ≡ false }
-    requires out { O.failed out.old ≡ false }
+    requires input { (I.seen input.old).failed ≡ false }
+    requires out { (O.seen out.old).failed ≡ false }
 {
     let hash = secret_key(rt);
     main_with(rt, files, rt.alloc(), hash, words, input, out, err)

@@ -10,6 +10,7 @@ use Rattle.si_intake.specs.declared.items.What.{What}
 use Rattle.si_intake.specs.declared.items.What.TheVariants.{Line, ReadFault, NoMemory, End}
 use Rattle.std.specs.Prelude.{Result, Ok, Err, IfOk, OnOk, IfErr}
 use Rattle.std.specs.List.{cons_option}
+use Rattle.si_text.specs.Devices.{Lent, Output, lent}
 use Rattle.si_text.specs.Inputs.{Item}
 use Rattle.si_run.specs.declared.statuses.ExitStatus.{ExitStatus}
 use Rattle.si_run.specs.declared.faults.RunFault.{RunFault}
@@ -17,7 +18,7 @@ use Rattle.si_run.specs.declared.faults.RunFault.TheVariants as fault
 use Rattle.si_run.specs.Outputs.{SourcedItem, sourced, Terms, Progress, start, behind_report, decided_after, is_due, progress_after, progress_through, violations_at, report_at, item_text, items_text, output_of, status_at, status_of}
 use Rattle.si_run.specs.Readings.{told}
 use Rattle.si_run.specs.Runs.{AppendsBeginning, IsUnwritten}
-use Rattle.si_run.specs.Takings.{IsAccepted, IsBegun, IsCutInReport, IsCutOff, IsDecided, IsMetAt, device, IsFinished, has_fault, is_fault, line_of, line_told, lines_among}
+use Rattle.si_run.specs.Takings.{IsAccepted, IsBegun, IsCutInReport, IsCutOff, IsDecided, IsMetAt, IsFinished, has_fault, is_fault, line_of, line_told, lines_among}
 
 -- ---- the texts of items, one more at the end
 
@@ -163,86 +164,93 @@ finishes terms taken old mid new p q status way still adds status_is =
 -- ---- what isn't written whole
 
 -- a beginning of it was
-pub unwritten_begins : (old new : Option (List ℕ)) (writer_failed : Bool) (text : List ℕ) (f : RunFault) → IsUnwritten old new writer_failed text f → AppendsBeginning old new text
-unwritten_begins old new w text (fault.Input source) m = absurd m
-unwritten_begins old new w text (fault.Open opening) m = absurd m
-unwritten_begins old new w text fault.Output m = (m.1.0, m.1.1, m.1.2, m.1.4)
-unwritten_begins old new w text fault.Memory m = subst (λ (x : Option (List ℕ)). AppendsBeginning old x text) (sym m.1) (nothing old text)
+pub unwritten_begins : (out : Lent Output) (text : List ℕ) (f : RunFault) → IsUnwritten out text f → AppendsBeginning out.before.written out.after.written text
+unwritten_begins out text (fault.Input source) m = absurd m
+unwritten_begins out text (fault.Open opening) m = absurd m
+unwritten_begins out text fault.Output m = (m.1.0, m.1.1, m.1.2, m.1.4)
+unwritten_begins out text fault.Memory m = subst (λ (x : Option (List ℕ)). AppendsBeginning out.before.written x text) (sym m.1) (nothing out.before.written text)
 
 -- what was written is a beginning of the text of all lines that were taken until the fault was met, and whatever lines follow
-pub cut_begun : (terms : Terms) (taken : List Told) (old new : Option (List ℕ)) (writer_failed : Bool) (q : Progress) (f : RunFault)
-    → IsCutOff terms taken old new writer_failed q f → IsBegun terms (lines_among taken) old new
-cut_begun terms taken old new w q f cut = subst (λ (l : List Told). IsBegun terms (lines_among l) old new) (sym cut.order) (by cut.last.what cut.met)
+pub cut_begun : (terms : Terms) (taken : List Told) (out : Lent Output) (q : Progress) (f : RunFault)
+    → IsCutOff terms taken out q f → IsBegun terms (lines_among taken) out.before.written out.after.written
+cut_begun terms taken out q f cut = subst (λ (l : List Told). IsBegun terms (lines_among l) old new) (sym cut.order) (by cut.last.what cut.met)
   where
+    old : Option (List ℕ)
+    old = out.before.written
+
+    new : Option (List ℕ)
+    new = out.after.written
+
     source : ℕ
     source = cut.last.source
 
     -- a source told a fault
-    quiet : (what : What) → line_told source what ≡ None → new ≡ cut.mid → IsBegun terms (lines_among (cut.before ++ told source what ∷ [])) old new
+    quiet : (what : What) → line_told source what ≡ None → new ≡ cut.mid.written → IsBegun terms (lines_among (cut.before ++ told source what ∷ [])) old new
     quiet what none same =
         let lines : lines_among (cut.before ++ told source what ∷ []) ≡ lines_among cut.before =
         filter_map-append line_of cut.before (told source what ∷ [])
         ∙ ap (λ (o : Option SourcedItem). lines_among cut.before ++ cons_option o []) none
         ∙ append-nil (lines_among cut.before) in
         subst (λ (l : List SourcedItem). IsBegun terms l old new) (sym lines)
-        (subst (λ (x : Option (List ℕ)). IsBegun terms (lines_among cut.before) old x) (sym same) (stops terms cut.before old cut.mid cut.p cut.decided))
+        (subst (λ (x : Option (List ℕ)). IsBegun terms (lines_among cut.before) old x) (sym same) (stops terms cut.before old cut.mid.written cut.p cut.decided))
 
-    by : (what : What) → IsMetAt terms cut.p source what cut.mid new w q f → IsBegun terms (lines_among (cut.before ++ told source what ∷ [])) old new
+    by : (what : What) → IsMetAt terms cut.p source what (lent cut.mid out.after) q f → IsBegun terms (lines_among (cut.before ++ told source what ∷ [])) old new
     by (Line item) m =
         let text = item_text terms cut.p (sourced source item) in
-        stops_in_line terms cut.before old cut.mid new cut.p source item text cut.decided (unwritten_begins cut.mid new w text f m.0) refl
-    by ReadFault m = quiet ReadFault refl m.2
-    by NoMemory m = quiet NoMemory refl m.2
+        stops_in_line terms cut.before old cut.mid.written new cut.p source item text cut.decided (unwritten_begins (lent cut.mid out.after) text f m.0) refl
+    by ReadFault m = quiet ReadFault refl m.1.1
+    by NoMemory m = quiet NoMemory refl m.1.1
     by End m = absurd m
 
 -- so it is where more was taken and dropped
-pub stop_begun : (terms : Terms) (taken met dropped : List Told) (old new : Option (List ℕ)) (writer_failed : Bool) (q : Progress) (f : RunFault)
-    → taken ≡ met ++ dropped → IsCutOff terms met old new writer_failed q f → IsBegun terms (lines_among taken) old new
-stop_begun terms taken met dropped old new w q f order cut =
-    more_begun terms (lines_among met) (lines_among taken) (lines_among dropped) old new (ap lines_among order ∙ filter_map-append line_of met dropped) (cut_begun terms met old new w q f cut)
+pub stop_begun : (terms : Terms) (taken met dropped : List Told) (out : Lent Output) (q : Progress) (f : RunFault)
+    → taken ≡ met ++ dropped → IsCutOff terms met out q f → IsBegun terms (lines_among taken) out.before.written out.after.written
+stop_begun terms taken met dropped out q f order cut =
+    more_begun terms (lines_among met) (lines_among taken) (lines_among dropped) out.before.written out.after.written
+    (ap lines_among order ∙ filter_map-append line_of met dropped) (cut_begun terms met out q f cut)
 
 -- where the last report wasn't written whole, what was written is a beginning of the text of all lines
-pub report_begun : (terms : Terms) (taken : List Told) (old new : Option (List ℕ)) (writer_failed : Bool) (q : Progress) (f : RunFault)
-    → IsCutInReport terms taken old new writer_failed q f → AppendsBeginning old new (output_of terms (lines_among taken))
-report_begun terms taken old new w q f cut =
-    subst (λ (l : List SourcedItem). AppendsBeginning old new (output_of terms l)) (append-nil (lines_among taken))
-    (begun terms old cut.mid new (lines_among taken) [] q (report_at terms q) [] cut.decided.wrote cut.decided.progress (unwritten_begins cut.mid new w (report_at terms q) f cut.met)
-    (sym (append-nil (report_at terms q))))
+pub report_begun : (terms : Terms) (taken : List Told) (out : Lent Output) (q : Progress) (f : RunFault)
+    → IsCutInReport terms taken out q f → AppendsBeginning out.before.written out.after.written (output_of terms (lines_among taken))
+report_begun terms taken out q f cut =
+    subst (λ (l : List SourcedItem). AppendsBeginning out.before.written out.after.written (output_of terms l)) (append-nil (lines_among taken))
+    (begun terms out.before.written cut.mid.written out.after.written (lines_among taken) [] q (report_at terms q) [] cut.decided.wrote cut.decided.progress
+    (unwritten_begins (lent cut.mid out.after) (report_at terms q) f cut.met) (sym (append-nil (report_at terms q))))
 
 -- ---- all was taken
 
 -- everything was decided, and then the last report written, or not the whole of it
-pub reported : (terms at : Terms) (old new : Accepting) (before mid after : Option (List ℕ)) (failed : Bool) (p q : Progress) (result : Result ExitStatus RunFault)
-    → at ≡ terms → new ≡ record old { taken = new.taken } → AllEnded new → IsDecided terms new.taken before mid p → q ≡ p
-    → OnOk result (Appends mid after (report_at at p)) → IfOk result (λ status. status ≡ status_at at p) → OnOk result (failed ≡ false)
-    → IfErr result (IsUnwritten mid after failed (report_at at p))
-    → IsAccepted terms old new (device before after failed) q result
-reported terms at old new before mid after failed p q (Ok status) is same ended way still adds status_is works fault = record {
+pub reported : (terms at : Terms) (old new : Accepting) (before mid after : Output) (p q : Progress) (result : Result ExitStatus RunFault)
+    → at ≡ terms → new ≡ record old { taken = new.taken } → AllEnded new → IsDecided terms new.taken before.written mid.written p → q ≡ p
+    → OnOk result (Appends mid.written after.written (report_at at p)) → IfOk result (λ status. status ≡ status_at at p) → OnOk result (after.failed ≡ false)
+    → IfErr result (IsUnwritten (lent mid after) (report_at at p))
+    → IsAccepted terms old new (lent before after) q result
+reported terms at old new before mid after p q (Ok status) is same ended way still adds status_is works fault = record {
   same = same;
   ended = ended;
-  ok = finishes terms new.taken before mid after p q status way still (subst (λ (t : Terms). Appends mid after (report_at t p)) is adds)
+  ok = finishes terms new.taken before.written mid.written after.written p q status way still (subst (λ (t : Terms). Appends mid.written after.written (report_at t p)) is adds)
       (subst (λ (t : Terms). status ≡ status_at t p) is status_is);
   works = works;
   err = tt;
 }
-reported terms at old new before mid after failed p q (Err f) is same ended way still adds status_is works fault = record {
+reported terms at old new before mid after p q (Err f) is same ended way still adds status_is works fault = record {
   same = same;
   ended = ended;
   ok = tt;
   works = tt;
   err = inr (record {
     mid = mid;
-    decided = subst (IsDecided terms new.taken before mid) (sym still) way;
-    met = subst (λ (r : Progress). IsUnwritten mid after failed (report_at terms r) f) (sym still) (subst (λ (t : Terms). IsUnwritten mid after failed (report_at t p) f) is fault);
+    decided = subst (IsDecided terms new.taken before.written mid.written) (sym still) way;
+    met = subst (λ (r : Progress). IsUnwritten (lent mid after) (report_at terms r) f) (sym still) (subst (λ (t : Terms). IsUnwritten (lent mid after) (report_at t p) f) is fault);
   });
 }
 
 -- a fault was met, and what was left was taken and dropped
-pub dropped : (terms : Terms) (old mid new : Accepting) (more : List Told) (before after : Option (List ℕ)) (failed : Bool) (q : Progress) (f : RunFault)
+pub dropped : (terms : Terms) (old mid new : Accepting) (more : List Told) (out : Lent Output) (q : Progress) (f : RunFault)
     → mid ≡ record old { taken = mid.taken } → new ≡ record mid { taken = mid.taken ++ more } → AllEnded new
-    → IsCutOff terms mid.taken before after failed q f
-    → IsAccepted terms old new (device before after failed) q (Err f)
-dropped terms old mid new more before after failed q f same goes_on ended cut =
+    → IsCutOff terms mid.taken out q f
+    → IsAccepted terms old new out q (Err f)
+dropped terms old mid new more out q f same goes_on ended cut =
     let taken : new.taken ≡ mid.taken ++ more = ap (λ (a : Accepting). a.taken) goes_on in
     record {
       same = goes_on ∙ ap (λ (a : Accepting). record a { taken = mid.taken ++ more }) same ∙ ap (λ (l : List Told). record old { taken = l }) (sym taken);

@@ -5,6 +5,7 @@ use Rattle.std.proofs.lemmas.List.{drop_all, take_all}
 use Rattle.std.proofs.lemmas.List.Elements.{All-append}
 use Rattle.std.specs.Prelude.{slice_get, slice_index_or}
 use Rattle.std.proofs.lemmas.Option.{same_Some, slice_get-get_or, slice_get_within}
+use Rattle.si_text.specs.Devices.{Input, Lent, Output, each_failed, each_left, lent}
 use Rattle.si_intake.specs.Ends.{Accepting, AreAllEndsOf, Putting, all_put, new_end, new_ends}
 use Rattle.si_intake.specs.Interleavings.{IsInterleaving as IsIntakeOf}
 use Rattle.si_run.specs.declared.statuses.ExitStatus.{ExitStatus}
@@ -14,7 +15,7 @@ use Rattle.si_run.specs.Outputs.{Progress, Terms}
 use Rattle.si_run.specs.Readings.{AreRead}
 use Rattle.si_run.specs.Endings.{EndsOpened}
 use Rattle.si_run.specs.Runs.{BeginsText, IsTrueDeviceFault}
-use Rattle.si_run.specs.Takings.{Device, IsNotBegun, IsRunThrough, IsStopped, device}
+use Rattle.si_run.specs.Takings.{IsNotBegun, IsRunThrough, IsStopped}
 use Rattle.si_run.proofs.Interleaved.{AreTaken, all_worked, finished, met, nothing_begun, stopped}
 
 -- the ends keep their places and numbers while their inputs are read, and so does the accepter
@@ -67,41 +68,41 @@ written_over n news olds many same =
 -- ---- what the threads did together
 
 -- where no source has begun, nothing was written, which is a beginning of some text
-unbegun : (terms : Terms) (out : Device) (q : Progress) (f : RunFault) (lefts : List (Option (List ℕ))) → IsNotBegun out q f → BeginsText terms lefts out.before out.after
+unbegun : (terms : Terms) (out : Lent Output) (q : Progress) (f : RunFault) (lefts : List (Option (List ℕ))) → IsNotBegun out q f → BeginsText terms lefts out.before.written out.after.written
 unbegun terms out q (fault.Input s) lefts m = absurd m
 unbegun terms out q (fault.Open opening) lefts m = absurd m
 unbegun terms out q fault.Output lefts m = absurd m
-unbegun terms out q fault.Memory lefts m = subst (BeginsText terms lefts out.before) (sym m.0) (nothing_begun terms lefts out.before)
+unbegun terms out q fault.Memory lefts m = subst (BeginsText terms lefts out.before.written) (sym m.0.1) (nothing_begun terms lefts out.before.written)
 
-unbegun_true : (out : Device) (q : Progress) (f : RunFault) (lefts : List (Option (List ℕ))) (failed : List Bool) → IsNotBegun out q f → IsTrueDeviceFault lefts failed out.failed f
+unbegun_true : (out : Lent Output) (q : Progress) (f : RunFault) (lefts : List (Option (List ℕ))) (failed : List Bool) → IsNotBegun out q f → IsTrueDeviceFault lefts failed out.after.failed f
 unbegun_true out q (fault.Input s) lefts failed m = absurd m
 unbegun_true out q (fault.Open opening) lefts failed m = m
 unbegun_true out q fault.Output lefts failed m = absurd m
-unbegun_true out q fault.Memory lefts failed m = m.1
+unbegun_true out q fault.Memory lefts failed m = m.0.0
 
 -- what the threads did together is what a run does
-pub ran : (terms : Terms) (old new : Accepting) (out : Device) (q : Progress) (result : Result ExitStatus RunFault) (lefts : List (Option (List ℕ))) (failed : List Bool) (olds news : List Putting)
-    → AreTaken lefts failed olds news new.taken → IsRunThrough terms old new out q result → length failed ≡ length lefts → EndsOpened terms lefts failed out result
-ran terms old new out q (Ok status) lefts failed olds news t a many = record {
-  output = finished terms lefts failed olds news new.taken out.before out.after q status t a.ok;
-  works = (all_worked lefts failed olds news new.taken t a.ok.faultless many, a.works);
+pub ran : (terms : Terms) (old new : Accepting) (inputs : Lent (List Input)) (out : Lent Output) (q : Progress) (result : Result ExitStatus RunFault) (olds news : List Putting)
+    → AreTaken (each_left inputs.before) (each_failed inputs.after) olds news new.taken → IsRunThrough terms old new out q result
+    → length (each_failed inputs.after) ≡ length (each_left inputs.before) → EndsOpened terms inputs out result
+ran terms old new inputs out q (Ok status) olds news t a many = record {
+  output = finished terms (each_left inputs.before) (each_failed inputs.after) olds news new.taken out.before.written out.after.written q status t a.ok;
+  works = (all_worked (each_left inputs.before) (each_failed inputs.after) olds news new.taken t a.ok.faultless many, a.works);
   part = tt;
   fault = tt;
 }
-ran terms old new out q (Err f) lefts failed olds news t a many = record {
+ran terms old new inputs out q (Err f) olds news t a many = record {
   output = tt;
   works = tt;
   part = ⊎_elim
-      (λ (s : IsStopped terms new.taken out.before out.after out.failed q f). stopped terms lefts failed olds news new.taken out.before out.after out.failed q f t s)
-      (λ (n : IsNotBegun out q f). unbegun terms out q f lefts n)
+      (λ (s : IsStopped terms new.taken out q f). stopped terms (each_left inputs.before) (each_failed inputs.after) olds news new.taken out q f t s)
+      (λ (n : IsNotBegun out q f). unbegun terms out q f (each_left inputs.before) n)
       a.err;
   fault = ⊎_elim
-      (λ (s : IsStopped terms new.taken out.before out.after out.failed q f). met terms lefts failed olds news new.taken out.before out.after out.failed q f t s)
-      (λ (n : IsNotBegun out q f). unbegun_true out q f lefts failed n)
+      (λ (s : IsStopped terms new.taken out q f). met terms (each_left inputs.before) (each_failed inputs.after) olds news new.taken out q f t s)
+      (λ (n : IsNotBegun out q f). unbegun_true out q f (each_left inputs.before) (each_failed inputs.after) n)
       a.err;
 }
 
 -- a run that was refused memory before its threads began
-pub refused : (terms : Terms) (lefts : List (Option (List ℕ))) (failed : List Bool) (written : Option (List ℕ)) (writer_failed : Bool) → writer_failed ≡ false
-    → EndsOpened terms lefts failed (device written written writer_failed) (Err fault.Memory)
-refused terms lefts failed written writer_failed works = record { output = tt; works = tt; part = nothing_begun terms lefts written; fault = works }
+pub refused : (terms : Terms) (inputs : List Input) (out : Output) → out.failed ≡ false → EndsOpened terms (lent inputs inputs) (lent out out) (Err fault.Memory)
+refused terms inputs out works = record { output = tt; works = tt; part = nothing_begun terms (each_left inputs) out.written; fault = works }

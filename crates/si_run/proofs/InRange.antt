@@ -1,6 +1,7 @@
 -- Of options in range no fault of the options is told.
 use Rattle.std.proofs.Common.{inl, inr, ℕ, Bool, List, Option, arith}
 use Rattle.std.specs.Prelude.{Result, Ok, Err, IfErr}
+use Rattle.si_text.specs.Devices.{Input, Lent, Output, each_failed, each_left}
 use Rattle.si_checker.specs.Openings.{CanOpen}
 use Rattle.si_checker.specs.declared.openings.OpenFault.{OpenFault}
 use Rattle.si_checker.specs.declared.openings.OpenFault.TheVariants as opening
@@ -10,7 +11,6 @@ use Rattle.si_run.specs.declared.faults.RunFault.TheVariants as fault
 use Rattle.si_run.specs.declared.statuses.ExitStatus.{ExitStatus}
 use Rattle.si_run.specs.Endings.{Ends, EndsOpened}
 use Rattle.si_run.specs.Runs.{IsOutOfRange, IsRunnable, IsToldFirst, IsTrueDeviceFault, IsTrueFault, terms_by}
-use Rattle.si_run.specs.Takings.{Device}
 
 -- options in range aren't told to be out of it
 in_range : (options : Options) (o : OpenFault) → IsRunnable options → IsOutOfRange options o → ⊥
@@ -46,9 +46,9 @@ runnable options can = record {
 }
 
 -- and how a run of it ends is how a run with them ends
-pub opened_ends : (options : Options) (lefts : List (Option (List ℕ))) (failed : List Bool) (out : Device) (result : Result ExitStatus RunFault) → CanOpen options.shards 1 options.limit
-    → EndsOpened (terms_by options) lefts failed out result → Ends options lefts failed out result
-opened_ends options lefts failed out result can ends = record {
+pub opened_ends : (options : Options) (inputs : Lent (List Input)) (out : Lent Output) (result : Result ExitStatus RunFault) → CanOpen options.shards 1 options.limit
+    → EndsOpened (terms_by options) inputs out result → Ends options inputs out result
+opened_ends options inputs out result can ends = record {
   output = ends.output;
   works = ends.works;
   part = ends.part;
@@ -57,22 +57,22 @@ opened_ends options lefts failed out result can ends = record {
   range = λ o is. absurd (in_range options o (runnable options can) is);
 }
   where
-    of_device : (f : RunFault) → IsTrueDeviceFault lefts failed out.failed f → IsTrueFault options lefts failed out.failed f
+    of_device : (f : RunFault) → IsTrueDeviceFault (each_left inputs.before) (each_failed inputs.after) out.after.failed f → IsTrueFault options (each_left inputs.before) (each_failed inputs.after) out.after.failed f
     of_device (fault.Input source) t = t
     of_device (fault.Open o) t = absurd t
     of_device fault.Output t = t
     of_device fault.Memory t = t
 
-    true_fault : (r : Result ExitStatus RunFault) → IfErr r (IsTrueDeviceFault lefts failed out.failed) → IfErr r (IsTrueFault options lefts failed out.failed)
+    true_fault : (r : Result ExitStatus RunFault) → IfErr r (IsTrueDeviceFault (each_left inputs.before) (each_failed inputs.after) out.after.failed) → IfErr r (IsTrueFault options (each_left inputs.before) (each_failed inputs.after) out.after.failed)
     true_fault (Ok status) t = tt
     true_fault (Err f) t = of_device f t
 
-    first_of : (f : RunFault) → IsTrueDeviceFault lefts failed out.failed f → IsToldFirst out.before out.after f
+    first_of : (f : RunFault) → IsTrueDeviceFault (each_left inputs.before) (each_failed inputs.after) out.after.failed f → IsToldFirst out.before.written out.after.written f
     first_of (fault.Input source) t = tt
     first_of (fault.Open o) t = absurd t
     first_of fault.Output t = tt
     first_of fault.Memory t = tt
 
-    told_first : (r : Result ExitStatus RunFault) → IfErr r (IsTrueDeviceFault lefts failed out.failed) → IfErr r (IsToldFirst out.before out.after)
+    told_first : (r : Result ExitStatus RunFault) → IfErr r (IsTrueDeviceFault (each_left inputs.before) (each_failed inputs.after) out.after.failed) → IfErr r (IsToldFirst out.before.written out.after.written)
     told_first (Ok status) t = tt
     told_first (Err f) t = first_of f t

@@ -14,6 +14,7 @@ use Rattle.si_intake.specs.declared.items.What.TheVariants.{Line, ReadFault, NoM
 use Rattle.si_intake.specs.Ends.{Putting, all_put}
 use Rattle.si_intake.specs.Items.{comes_from as is_of, of_source}
 use Rattle.si_intake.specs.Interleavings.{IsInterleaving as IsIntakeOf}
+use Rattle.si_text.specs.Devices.{Lent, Output, lent}
 use Rattle.si_text.specs.Inputs.{Item, items_of}
 use Rattle.si_run.specs.declared.statuses.ExitStatus.{ExitStatus}
 use Rattle.si_run.specs.declared.faults.RunFault.{RunFault}
@@ -200,29 +201,28 @@ finished terms lefts failed olds news taken old new q status t f = text_written 
     by None e = tt
     by (Some all) e = (lines_among taken, all_lines lefts failed olds news taken all t e f.faultless, f.wrote, f.ends)
 
-pub stopped : (terms : Terms) (lefts : List (Option (List ℕ))) (failed : List Bool) (olds news : List Putting) (taken : List Told) (old new : Option (List ℕ))
-    (writer_failed : Bool) (q : Progress) (fault : RunFault) → AreTaken lefts failed olds news taken → IsStopped terms taken old new writer_failed q fault → BeginsText terms lefts old new
-stopped terms lefts failed olds news taken old new writer_failed q fault t f = text_begun terms lefts old new (by (all_known lefts) refl)
+pub stopped : (terms : Terms) (lefts : List (Option (List ℕ))) (failed : List Bool) (olds news : List Putting) (taken : List Told) (out : Lent Output) (q : Progress) (fault : RunFault)
+    → AreTaken lefts failed olds news taken → IsStopped terms taken out q fault → BeginsText terms lefts out.before.written out.after.written
+stopped terms lefts failed olds news taken out q fault t f = text_begun terms lefts out.before.written out.after.written (by (all_known lefts) refl)
   where
-    by : (known : Option (List (List ℕ))) → all_known lefts ≡ known → BeginsSome terms known old new
+    by : (known : Option (List (List ℕ))) → all_known lefts ≡ known → BeginsSome terms known out.before.written out.after.written
     by None e = tt
     by (Some all) e = ⊎_elim
-        (λ (cut : (met : List Told) × (dropped : List Told) × (taken ≡ met ++ dropped) × IsCutOff terms met old new writer_failed q fault).
+        (λ (cut : (met : List Told) × (dropped : List Told) × (taken ≡ met ++ dropped) × IsCutOff terms met out q fault).
         let m = lines_and_more lefts failed olds news taken all t e in
-        (lines_among taken ++ m.0, m.1, stop_begun terms taken cut.0 cut.1 old new writer_failed q fault cut.2 cut.3 m.0))
-        (λ (cut : IsCutInReport terms taken old new writer_failed q fault).
-        (lines_among taken, all_lines lefts failed olds news taken all t e cut.decided.faultless, report_begun terms taken old new writer_failed q fault cut))
+        (lines_among taken ++ m.0, m.1, stop_begun terms taken cut.0 cut.1 out q fault cut.2 cut.3 m.0))
+        (λ (cut : IsCutInReport terms taken out q fault).
+        (lines_among taken, all_lines lefts failed olds news taken all t e cut.decided.faultless, report_begun terms taken out q fault cut))
         f
 
 -- ---- the fault is true
 
 -- that a text wasn't written whole is the writer's fault, or one of memory
-unwritten_true : (lefts : List (Option (List ℕ))) (failed : List Bool) (old new : Option (List ℕ)) (writer_failed : Bool) (text : List ℕ) (f : RunFault)
-    → IsUnwritten old new writer_failed text f → IsTrueDeviceFault lefts failed writer_failed f
-unwritten_true lefts failed old new w text (fault.Input s) m = absurd m
-unwritten_true lefts failed old new w text (fault.Open opening) m = m
-unwritten_true lefts failed old new w text fault.Output m = m.0
-unwritten_true lefts failed old new w text fault.Memory m = m.0
+unwritten_true : (lefts : List (Option (List ℕ))) (failed : List Bool) (out : Lent Output) (text : List ℕ) (f : RunFault) → IsUnwritten out text f → IsTrueDeviceFault lefts failed out.after.failed f
+unwritten_true lefts failed out text (fault.Input s) m = absurd m
+unwritten_true lefts failed out text (fault.Open opening) m = m
+unwritten_true lefts failed out text fault.Output m = m.0
+unwritten_true lefts failed out text fault.Memory m = m.0
 
 -- a fault that a source told is true
 told_true : (lefts : List (Option (List ℕ))) (failed : List Bool) (olds news : List Putting) (taken : List Told) (s : ℕ)
@@ -235,9 +235,9 @@ told_true lefts failed olds news taken s t there =
     let own : Contains (of_source s taken) it = Contains-filter (is_of s) taken it there (eq-eqb s s refl) in
     (below, told_fault (slice_index_or lefts s None) (slice_index_or failed s false) one.old one.new s one.read (subst (λ (l : List Told). Contains l it) one.put own))
 
-cut_true : (terms : Terms) (lefts : List (Option (List ℕ))) (failed : List Bool) (olds news : List Putting) (taken met dropped : List Told) (old new : Option (List ℕ)) (writer_failed : Bool) (q : Progress) (f : RunFault)
-    → AreTaken lefts failed olds news taken → taken ≡ met ++ dropped → IsCutOff terms met old new writer_failed q f → IsTrueDeviceFault lefts failed writer_failed f
-cut_true terms lefts failed olds news taken met dropped old new w q f t order cut = by cut.last.what refl cut.met
+cut_true : (terms : Terms) (lefts : List (Option (List ℕ))) (failed : List Bool) (olds news : List Putting) (taken met dropped : List Told) (out : Lent Output) (q : Progress) (f : RunFault)
+    → AreTaken lefts failed olds news taken → taken ≡ met ++ dropped → IsCutOff terms met out q f → IsTrueDeviceFault lefts failed out.after.failed f
+cut_true terms lefts failed olds news taken met dropped out q f t order cut = by cut.last.what refl cut.met
   where
     source : ℕ
     source = cut.last.source
@@ -247,21 +247,20 @@ cut_true terms lefts failed olds news taken met dropped old new w q f t order cu
         subst (λ (l : List Told). Contains l cut.last) (sym (order ∙ ap (λ (l : List Told). l ++ dropped) cut.order))
         (Contains-append_left (cut.before ++ cut.last ∷ []) dropped cut.last (Contains-append_right cut.before (cut.last ∷ []) cut.last (here cut.last [])))
 
-    by : (what : What) → cut.last.what ≡ what → IsMetAt terms cut.p source what cut.mid new w q f → IsTrueDeviceFault lefts failed w f
-    by (Line item) is m = unwritten_true lefts failed cut.mid new w (item_text terms cut.p (sourced source item)) f m.0
+    by : (what : What) → cut.last.what ≡ what → IsMetAt terms cut.p source what (lent cut.mid out.after) q f → IsTrueDeviceFault lefts failed out.after.failed f
+    by (Line item) is m = unwritten_true lefts failed (lent cut.mid out.after) (item_text terms cut.p (sourced source item)) f m.0
     by ReadFault is m =
         let true_fault = told_true lefts failed olds news taken source t (subst (λ (x : What). Contains taken (told source x)) is here_last) in
-        subst (IsTrueDeviceFault lefts failed w) (sym m.0) (true_fault.0, m.1, true_fault.1)
-    by NoMemory is m = subst (IsTrueDeviceFault lefts failed w) (sym m.0) m.1
+        subst (IsTrueDeviceFault lefts failed out.after.failed) (sym m.0) (true_fault.0, m.1.0, true_fault.1)
+    by NoMemory is m = subst (IsTrueDeviceFault lefts failed out.after.failed) (sym m.0) m.1.0
     by End is m = absurd m
 
-pub met : (terms : Terms) (lefts : List (Option (List ℕ))) (failed : List Bool) (olds news : List Putting) (taken : List Told) (old new : Option (List ℕ)) (writer_failed : Bool) (q : Progress) (f : RunFault)
-    → AreTaken lefts failed olds news taken → IsStopped terms taken old new writer_failed q f → IsTrueDeviceFault lefts failed writer_failed f
-met terms lefts failed olds news taken old new writer_failed q f t stop =
+pub met : (terms : Terms) (lefts : List (Option (List ℕ))) (failed : List Bool) (olds news : List Putting) (taken : List Told) (out : Lent Output) (q : Progress) (f : RunFault)
+    → AreTaken lefts failed olds news taken → IsStopped terms taken out q f → IsTrueDeviceFault lefts failed out.after.failed f
+met terms lefts failed olds news taken out q f t stop =
     ⊎_elim
-    (λ (cut : (met : List Told) × (dropped : List Told) × (taken ≡ met ++ dropped) × IsCutOff terms met old new writer_failed q f).
-    cut_true terms lefts failed olds news taken cut.0 cut.1 old new writer_failed q f t cut.2 cut.3)
-    (λ (cut : IsCutInReport terms taken old new writer_failed q f). unwritten_true lefts failed cut.mid new writer_failed (report_at terms q) f cut.met)
+    (λ (cut : (met : List Told) × (dropped : List Told) × (taken ≡ met ++ dropped) × IsCutOff terms met out q f). cut_true terms lefts failed olds news taken cut.0 cut.1 out q f t cut.2 cut.3)
+    (λ (cut : IsCutInReport terms taken out q f). unwritten_true lefts failed (lent cut.mid out.after) (report_at terms q) f cut.met)
     stop
 
 -- where no fault was taken, no input has failed

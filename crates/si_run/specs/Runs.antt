@@ -2,6 +2,7 @@
 use Rattle.std.specs.Prelude.{◌≡◌, ◌≢◌, ◌⊎◌, ℕ, ◌-◌, ◌^◌, ◌<◌, ◌≤◌, ◌++◌, Bool, true, false, List, [], ◌∷◌, length, map, slice_index_or, Option, Some, None, ⊤}
 use Rattle.std.specs.Option.{option_map}
 use Rattle.std.specs.Io.KnownBytes.{Appends}
+use Rattle.si_text.specs.Devices.{Lent, Output}
 use Rattle.si_text.specs.Inputs.{items_of}
 use Rattle.si_model.specs.declared.edits.TheConstants.{MOST_EDITS}
 use Rattle.si_shard.specs.declared.shards.TheConstants.{MOST_SHARDS}
@@ -117,12 +118,16 @@ IsTrueFault options inputs failed writer_failed (fault.Input source) = IsTrueDev
 IsTrueFault options inputs failed writer_failed fault.Output = IsTrueDeviceFault inputs failed writer_failed fault.Output
 IsTrueFault options inputs failed writer_failed fault.Memory = IsTrueDeviceFault inputs failed writer_failed fault.Memory
 
+-- nothing was written, and no write has failed
+abbrev pub IsUnused : Lent Output → Type 0
+IsUnused out = (out.after.failed ≡ false) × (out.after.written ≡ out.before.written)
+
 -- why a text wasn't written whole: the writer failed behind a part of it, or memory was refused before any of it was written
-abbrev pub IsUnwritten : Option (List ℕ) → Option (List ℕ) → Bool → List ℕ → RunFault → Type 0
-IsUnwritten old new writer_failed text (fault.Input source) = ⊥
-IsUnwritten old new writer_failed text fault.Output = (writer_failed ≡ true) × AppendsPart old new text
-IsUnwritten old new writer_failed text fault.Memory = (writer_failed ≡ false) × (new ≡ old)
-IsUnwritten old new writer_failed text (fault.Open o) = ⊥
+abbrev pub IsUnwritten : Lent Output → List ℕ → RunFault → Type 0
+IsUnwritten out text (fault.Input source) = ⊥
+IsUnwritten out text fault.Output = (out.after.failed ≡ true) × AppendsPart out.before.written out.after.written text
+IsUnwritten out text fault.Memory = IsUnused out
+IsUnwritten out text (fault.Open o) = ⊥
 
 -- the fault of an opening is told before anything is written
 abbrev pub IsToldFirst : Option (List ℕ) → Option (List ℕ) → RunFault → Type 0

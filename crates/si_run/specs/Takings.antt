@@ -6,11 +6,12 @@ use Rattle.si_intake.specs.declared.items.Item.{Item as Told}
 use Rattle.si_intake.specs.declared.items.What.{What}
 use Rattle.si_intake.specs.declared.items.What.TheVariants.{Line, ReadFault, NoMemory, End}
 use Rattle.si_intake.specs.Ends.{Accepting, AllEnded}
+use Rattle.si_text.specs.Devices.{Lent, Output, lent}
 use Rattle.si_run.specs.declared.statuses.ExitStatus.{ExitStatus}
 use Rattle.si_run.specs.declared.faults.RunFault.{RunFault}
 use Rattle.si_run.specs.declared.faults.RunFault.TheVariants as fault
 use Rattle.si_run.specs.Outputs.{SourcedItem, sourced, Terms, Progress, decided_after, item_text, items_text, output_of, progress_after, progress_through, reason_after, report_at, start, status_of}
-use Rattle.si_run.specs.Runs.{AppendsBeginning, IsUnwritten}
+use Rattle.si_run.specs.Runs.{AppendsBeginning, IsUnused, IsUnwritten}
 
 -- the item of a line, if it is one
 abbrev pub line_told : ℕ → What → Option SourcedItem
@@ -68,72 +69,63 @@ IsLeftAt terms p item q fault.Memory = IsUndecided terms p item q ⊎ ((q ≡ de
 IsLeftAt terms p item q (fault.Open o) = ⊥
 
 -- the fault was met at this item, which is then not done with: it wasn't decided, or its text wasn't written whole
-abbrev pub IsUndone : Terms → Progress → SourcedItem → Option (List ℕ) → Option (List ℕ) → Bool → Progress → RunFault → Type 0
-IsUndone terms p item old new writer_failed q f = IsUnwritten old new writer_failed (item_text terms p item) f × IsLeftAt terms p item q f
+abbrev pub IsUndone : Terms → Progress → SourcedItem → Lent Output → Progress → RunFault → Type 0
+IsUndone terms p item out q f = IsUnwritten out (item_text terms p item) f × IsLeftAt terms p item q f
 
 -- the fault was met at what this source told, from these decisions on: at a line it is one of the checker's own memory or of the writer; else it is the
 -- one that the source told, and nothing more was decided or written
-abbrev pub IsMetAt : Terms → Progress → ℕ → What → Option (List ℕ) → Option (List ℕ) → Bool → Progress → RunFault → Type 0
-IsMetAt terms p source (Line item) old new writer_failed q f = IsUndone terms p (sourced source item) old new writer_failed q f
-IsMetAt terms p source ReadFault old new writer_failed q f = (f ≡ fault.Input source) × (writer_failed ≡ false) × (new ≡ old) × (q ≡ p)
-IsMetAt terms p source NoMemory old new writer_failed q f = (f ≡ fault.Memory) × (writer_failed ≡ false) × (new ≡ old) × (q ≡ p)
-IsMetAt terms p source End old new writer_failed q f = ⊥
+abbrev pub IsMetAt : Terms → Progress → ℕ → What → Lent Output → Progress → RunFault → Type 0
+IsMetAt terms p source (Line item) out q f = IsUndone terms p (sourced source item) out q f
+IsMetAt terms p source ReadFault out q f = (f ≡ fault.Input source) × IsUnused out × (q ≡ p)
+IsMetAt terms p source NoMemory out q f = (f ≡ fault.Memory) × IsUnused out × (q ≡ p)
+IsMetAt terms p source End out q f = ⊥
 
 -- all that was taken but the last is decided and its text written, without a fault, and at the last the fault was met
-pub record IsCutOff (terms : Terms) (taken : List Told) (old new : Option (List ℕ)) (writer_failed : Bool) (q : Progress) (f : RunFault) : Type 0 where
+pub record IsCutOff (terms : Terms) (taken : List Told) (out : Lent Output) (q : Progress) (f : RunFault) : Type 0 where
   pub before : List Told
   pub last : Told
   pub order : taken ≡ before ++ last ∷ []
-  pub mid : Option (List ℕ)
+  pub mid : Output
   pub p : Progress
-  pub decided : IsDecided terms before old mid p
-  pub met : IsMetAt terms p last.source last.what mid new writer_failed q f
+  pub decided : IsDecided terms before out.before.written mid.written p
+  pub met : IsMetAt terms p last.source last.what (lent mid out.after) q f
 
 -- all that was taken is decided and its text written, without a fault, and the last report wasn't written whole
-pub record IsCutInReport (terms : Terms) (taken : List Told) (old new : Option (List ℕ)) (writer_failed : Bool) (q : Progress) (f : RunFault) : Type 0 where
-  pub mid : Option (List ℕ)
-  pub decided : IsDecided terms taken old mid q
-  pub met : IsUnwritten mid new writer_failed (report_at terms q) f
+pub record IsCutInReport (terms : Terms) (taken : List Told) (out : Lent Output) (q : Progress) (f : RunFault) : Type 0 where
+  pub mid : Output
+  pub decided : IsDecided terms taken out.before.written mid.written q
+  pub met : IsUnwritten (lent mid out.after) (report_at terms q) f
 
 -- at the first fault that was met nothing more was decided or written, and what came behind it was taken and dropped
-abbrev pub IsStopped : Terms → List Told → Option (List ℕ) → Option (List ℕ) → Bool → Progress → RunFault → Type 0
-IsStopped terms taken old new writer_failed q f =
-    ((met : List Told) × (dropped : List Told) × (taken ≡ met ++ dropped) × IsCutOff terms met old new writer_failed q f)
-    ⊎ IsCutInReport terms taken old new writer_failed q f
-
--- a device for text: what was written to it before and is now, where that is known, and whether it has failed
-pub record Device : Type 0 where
-  pub before : Option (List ℕ)
-  pub after : Option (List ℕ)
-  pub failed : Bool
-
-abbrev pub device : Option (List ℕ) → Option (List ℕ) → Bool → Device
-device old new has_failed = record { before = old; after = new; failed = has_failed }
+abbrev pub IsStopped : Terms → List Told → Lent Output → Progress → RunFault → Type 0
+IsStopped terms taken out q f =
+    ((met : List Told) × (dropped : List Told) × (taken ≡ met ++ dropped) × IsCutOff terms met out q f)
+    ⊎ IsCutInReport terms taken out q f
 
 -- all of what the sources told was taken, and its text was written, or a fault was met as this says
-pub record IsTaken (terms : Terms) (old new : Accepting) (out : Device) (q : Progress) (IsFault : RunFault → Type 0) (result : Result ExitStatus RunFault) : Type 0 where
+pub record IsTaken (terms : Terms) (old new : Accepting) (out : Lent Output) (q : Progress) (IsFault : RunFault → Type 0) (result : Result ExitStatus RunFault) : Type 0 where
   pub same : new ≡ record old { taken = new.taken }
   pub ended : AllEnded new
-  pub ok : IfOk result (IsFinished terms new.taken out.before out.after q)
-  pub works : OnOk result (out.failed ≡ false)
+  pub ok : IfOk result (IsFinished terms new.taken out.before.written out.after.written q)
+  pub works : OnOk result (out.after.failed ≡ false)
   pub err : IfErr result IsFault
 
 -- all of what the sources told was taken, and its text was written, or it was stopped at a fault
-abbrev pub IsAccepted : Terms → Accepting → Accepting → Device → Progress → Result ExitStatus RunFault → Type 0
-IsAccepted terms old new out q result = IsTaken terms old new out q (IsStopped terms new.taken out.before out.after out.failed q) result
+abbrev pub IsAccepted : Terms → Accepting → Accepting → Lent Output → Progress → Result ExitStatus RunFault → Type 0
+IsAccepted terms old new out q result = IsTaken terms old new out q (IsStopped terms new.taken out q) result
 
 -- it was accepted so, or nothing was taken or written
-abbrev pub IsTried : Terms → Accepting → Accepting → Device → Progress → Option (Result ExitStatus RunFault) → Type 0
+abbrev pub IsTried : Terms → Accepting → Accepting → Lent Output → Progress → Option (Result ExitStatus RunFault) → Type 0
 IsTried terms old new out q (Some result) = IsAccepted terms old new out q result
-IsTried terms old new out q None = (new ≡ old) × (out.after ≡ out.before) × (out.failed ≡ false) × (q ≡ start)
+IsTried terms old new out q None = (new ≡ old) × IsUnused out × (q ≡ start)
 
 -- no source has begun, so that memory was refused, and nothing was decided or written
-abbrev pub IsNotBegun : Device → Progress → RunFault → Type 0
+abbrev pub IsNotBegun : Lent Output → Progress → RunFault → Type 0
 IsNotBegun out q (fault.Input source) = ⊥
 IsNotBegun out q fault.Output = ⊥
-IsNotBegun out q fault.Memory = (out.after ≡ out.before) × (out.failed ≡ false) × (q ≡ start)
+IsNotBegun out q fault.Memory = IsUnused out × (q ≡ start)
 IsNotBegun out q (fault.Open o) = ⊥
 
 -- it was accepted so, or no source has begun
-abbrev pub IsRunThrough : Terms → Accepting → Accepting → Device → Progress → Result ExitStatus RunFault → Type 0
-IsRunThrough terms old new out q result = IsTaken terms old new out q (λ f. IsStopped terms new.taken out.before out.after out.failed q f ⊎ IsNotBegun out q f) result
+abbrev pub IsRunThrough : Terms → Accepting → Accepting → Lent Output → Progress → Result ExitStatus RunFault → Type 0
+IsRunThrough terms old new out q result = IsTaken terms old new out q (λ f. IsStopped terms new.taken out q f ⊎ IsNotBegun out q f) result

@@ -3,9 +3,10 @@ ghost use Rattle.std.specs.Prelude.{◌≡◌, ◌<◌, ◌-◌, ◌^◌, ◌++�
 ghost use Rattle.std.specs.Io.KnownBytes.{Appends};
 ghost use Rattle.si_intake.specs.declared.items.Item.{Item as Told};
 ghost use Rattle.si_intake.specs.Ends.{AllEnded};
+ghost use Rattle.si_text.specs.Devices.{lent};
 ghost use Rattle.si_run.specs.Outputs.{item_text, progress_after, report_at, sourced, start, status_at};
 ghost use Rattle.si_run.specs.Runs.{IsUnwritten};
-ghost use Rattle.si_run.specs.Takings.{IsAccepted, IsCutOff, IsDecided, IsUndone, device};
+ghost use Rattle.si_run.specs.Takings.{IsAccepted, IsCutOff, IsDecided, IsUndone};
 
 use crate::engines::{Decision, Engine};
 use crate::sessions::Session;
@@ -30,8 +31,8 @@ pub fn accept_all<N: Name, R: Wait, W: ByteSink, G: Gate>(
 ) -> Result<ExitStatus, RunFault>
     requires fresh { engine.old.progress ≡ start }
     requires untaken { accepter.old.taken ≡ [] }
-    requires writer { W.failed writer.old ≡ false }
-    ensures { IsAccepted engine.old.terms accepter.old accepter.new (device (W.written writer.old) (W.written writer.new) (W.failed writer.new)) engine.new.progress result }
+    requires writer { (W.seen writer.old).failed ≡ false }
+    ensures { IsAccepted engine.old.terms accepter.old accepter.new (lent (W.seen writer.old) (W.seen writer.new)) engine.new.progress result }
 {
     let mut text = Vec::new(session.alloc);
     match decide_all(rt, session, &mut text, engine, accepter, writer) {
@@ -54,13 +55,13 @@ fn decide_all<N: Name, R: Wait, W: ByteSink, G: Gate>(
 ) -> Result<(), RunFault>
     requires fresh { engine.old.progress ≡ start }
     requires untaken { accepter.old.taken ≡ [] }
-    requires writer { W.failed writer.old ≡ false }
+    requires writer { (W.seen writer.old).failed ≡ false }
     ensures same { accepter.new ≡ record accepter.old { taken = accepter.new.taken } }
     ensures terms { engine.new.terms ≡ engine.old.terms }
     ensures ended { OnOk result (AllEnded accepter.new) }
-    ensures ok { OnOk result (IsDecided engine.old.terms accepter.new.taken (W.written writer.old) (W.written writer.new) engine.new.progress) }
-    ensures works { OnOk result (W.failed writer.new ≡ false) }
-    ensures err { IfErr result (IsCutOff engine.old.terms accepter.new.taken (W.written writer.old) (W.written writer.new) (W.failed writer.new) engine.new.progress) }
+    ensures ok { OnOk result (IsDecided engine.old.terms accepter.new.taken (W.seen writer.old).written (W.seen writer.new).written engine.new.progress) }
+    ensures works { OnOk result ((W.seen writer.new).failed ≡ false) }
+    ensures err { IfErr result (IsCutOff engine.old.terms accepter.new.taken (lent (W.seen writer.old) (W.seen writer.new)) engine.new.progress) }
 {
     'items: for _turn in 0..u64::MAX {
         let Some(Item { source, what }) = accepter.take(rt) else {
@@ -93,12 +94,12 @@ fn decide_line<N: Name, R: Wait, W: ByteSink, G: Gate>(
     writer: &mut W,
 ) -> Result<(), RunFault>
     requires room { engine.old.progress.decided < 2 ^ 64 - 1 }
-    requires writer { W.failed writer.old ≡ false }
+    requires writer { (W.seen writer.old).failed ≡ false }
     ensures terms { engine.new.terms ≡ engine.old.terms }
     ensures progress { OnOk result (engine.new.progress ≡ progress_after engine.old.terms engine.old.progress (sourced source item)) }
-    ensures ok { OnOk result (Appends (W.written writer.old) (W.written writer.new) (item_text engine.old.terms engine.old.progress (sourced source item))) }
-    ensures works { OnOk result (W.failed writer.new ≡ false) }
-    ensures err { IfErr result (IsUndone engine.old.terms engine.old.progress (sourced source item) (W.written writer.old) (W.written writer.new) (W.failed writer.new) engine.new.progress) }
+    ensures ok { OnOk result (Appends (W.seen writer.old).written (W.seen writer.new).written (item_text engine.old.terms engine.old.progress (sourced source item))) }
+    ensures works { OnOk result ((W.seen writer.new).failed ≡ false) }
+    ensures err { IfErr result (IsUndone engine.old.terms engine.old.progress (sourced source item) (lent (W.seen writer.old) (W.seen writer.new)) engine.new.progress) }
 {
     let (line, operations) = (item.0, operations_of(&item.1));
     text.clear();
@@ -141,11 +142,11 @@ fn finish<N: Name, R: Wait, W: ByteSink>(
     text: &mut Vec<u8>,
     writer: &mut W,
 ) -> Result<ExitStatus, RunFault>
-    requires { W.failed writer.old ≡ false }
-    ensures written { OnOk result (Appends (W.written writer.old) (W.written writer.new) (report_at engine.old.terms engine.old.progress)) }
+    requires { (W.seen writer.old).failed ≡ false }
+    ensures written { OnOk result (Appends (W.seen writer.old).written (W.seen writer.new).written (report_at engine.old.terms engine.old.progress)) }
     ensures status { IfOk result (λ status. status ≡ status_at engine.old.terms engine.old.progress) }
-    ensures works { OnOk result (W.failed writer.new ≡ false) }
-    ensures err { IfErr result (IsUnwritten (W.written writer.old) (W.written writer.new) (W.failed writer.new) (report_at engine.old.terms engine.old.progress)) }
+    ensures works { OnOk result ((W.seen writer.new).failed ≡ false) }
+    ensures err { IfErr result (IsUnwritten (lent (W.seen writer.old) (W.seen writer.new)) (report_at engine.old.terms engine.old.progress)) }
     ensures engine { engine.new ≡ engine.old }
 {
     text.clear();

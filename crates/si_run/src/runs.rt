@@ -4,13 +4,14 @@
 ghost use Rattle.std.specs.Prelude.{◌≡◌, ◌≤◌, All, [], false, length, map};
 ghost use Rattle.std.specs.Thread.{IsSend, IsSync};
 ghost use Rattle.si_intake.specs.declared.openings.TheConstants.{MOST_SOURCES};
+ghost use Rattle.si_text.specs.Devices.{each_failed, each_left, lent};
 ghost use Rattle.si_words.specs.Seats.{seated};
 ghost use Rattle.si_words.specs.Views.{new_pass};
 ghost use Rattle.si_run.specs.Endings.{Ends, EndsOpened};
 ghost use Rattle.si_run.specs.Outputs.{start};
 ghost use Rattle.si_run.specs.Readings.{AreRead};
 ghost use Rattle.si_run.specs.Runs.{terms_by};
-ghost use Rattle.si_run.specs.Takings.{IsAccepted, IsRunThrough, IsTried, device};
+ghost use Rattle.si_run.specs.Takings.{IsAccepted, IsRunThrough, IsTried};
 
 use crate::accepters::{accept_all, drop_all};
 use crate::engines::Engine;
@@ -48,9 +49,9 @@ pub fn run<R: Threads + Wait + Sync, S: ByteSource + Send, W: ByteSink>(
     options: Options,
 ) -> Result<ExitStatus, RunFault>
     requires some { (1 ≤ length inputs.old) × (length inputs.old ≤ MOST_SOURCES) }
-    requires inputs { All (λ s. S.failed s ≡ false) inputs.old }
-    requires writer { W.failed writer.old ≡ false }
-    ensures { Ends options (map S.left inputs.old) (map S.failed inputs.new) (device (W.written writer.old) (W.written writer.new) (W.failed writer.new)) result }
+    requires inputs { All (λ s. (S.seen s).failed ≡ false) inputs.old }
+    requires writer { (W.seen writer.old).failed ≡ false }
+    ensures { Ends options (lent (map S.seen inputs.old) (map S.seen inputs.new)) (lent (W.seen writer.old) (W.seen writer.new)) result }
 {
     run_gated(rt, alloc, hash, inputs, writer, options, &Open)
 }
@@ -66,9 +67,9 @@ pub fn run_gated<R: Threads + Wait + Sync, S: ByteSource + Send, W: ByteSink, G:
     gate: &G,
 ) -> Result<ExitStatus, RunFault>
     requires some { (1 ≤ length inputs.old) × (length inputs.old ≤ MOST_SOURCES) }
-    requires inputs { All (λ s. S.failed s ≡ false) inputs.old }
-    requires writer { W.failed writer.old ≡ false }
-    ensures { Ends options (map S.left inputs.old) (map S.failed inputs.new) (device (W.written writer.old) (W.written writer.new) (W.failed writer.new)) result }
+    requires inputs { All (λ s. (S.seen s).failed ≡ false) inputs.old }
+    requires writer { (W.seen writer.old).failed ≡ false }
+    ensures { Ends options (lent (map S.seen inputs.old) (map S.seen inputs.new)) (lent (W.seen writer.old) (W.seen writer.new)) result }
 {
     let (parts, mut passes) = open(alloc, hash, options.shards, 1, options.limit)?;
     let Some(pass) = passes.pop() else {
@@ -96,14 +97,14 @@ fn run_named<
     gate: &G,
 ) -> Result<ExitStatus, RunFault>
     requires some { (1 ≤ length inputs.old) × (length inputs.old ≤ MOST_SOURCES) }
-    requires inputs { All (λ s. S.failed s ≡ false) inputs.old }
-    requires writer { W.failed writer.old ≡ false }
+    requires inputs { All (λ s. (S.seen s).failed ≡ false) inputs.old }
+    requires writer { (W.seen writer.old).failed ≡ false }
     requires board { parts.board ≡ N.board }
     requires limit { parts.limit ≡ N.limit }
     requires options { options.limit ≡ N.limit }
     requires alone { N.board.passes ≡ 1 }
     requires pass { pass ≡ seated N.board.table (new_pass N.board.shards 0) }
-    ensures { EndsOpened (terms_by options) (map S.left inputs.old) (map S.failed inputs.new) (device (W.written writer.old) (W.written writer.new) (W.failed writer.new)) result }
+    ensures { EndsOpened (terms_by options) (lent (map S.seen inputs.old) (map S.seen inputs.new)) (lent (W.seen writer.old) (W.seen writer.new)) result }
 {
     if !can_start(rt) {
         return Err(RunFault::Memory);
@@ -146,23 +147,23 @@ fn read_and_accept<
     ends: &mut [SourceEnd],
 ) -> Result<ExitStatus, RunFault>
     requires many { length inputs.old ≡ length ends.old }
-    requires inputs { All (λ s. S.failed s ≡ false) inputs.old }
+    requires inputs { All (λ s. (S.seen s).failed ≡ false) inputs.old }
     requires ends { All (λ e. e.put ≡ []) ends.old }
     requires engine { engine.old.progress ≡ start }
     requires accepter { accepter.old.taken ≡ [] }
-    requires writer { W.failed writer.old ≡ false }
-    ensures sources { AreRead (map S.left inputs.old) (map S.failed inputs.new) ends.old ends.new }
-    ensures accepted { IsRunThrough engine.old.terms accepter.old accepter.new (device (W.written writer.old) (W.written writer.new) (W.failed writer.new)) engine.new.progress result }
+    requires writer { (W.seen writer.old).failed ≡ false }
+    ensures sources { AreRead (each_left (map S.seen inputs.old)) (each_failed (map S.seen inputs.new)) ends.old ends.new }
+    ensures accepted { IsRunThrough engine.old.terms accepter.old accepter.new (lent (W.seen writer.old) (W.seen writer.new)) engine.new.progress result }
 {
     let mut sources = ||
         requires { IsSync R.row × IsSync N.row × IsSend N.row × IsSync G.row × IsSend S.row
-            × (length inputs.now ≡ length ends.now) × All (λ s. S.failed s ≡ false) inputs.now × All (λ e. e.put ≡ []) ends.now }
-        ensures { AreRead (map S.left inputs.entry.now) (map S.failed inputs.exit.now) ends.entry.now ends.exit.now }
+            × (length inputs.now ≡ length ends.now) × All (λ s. (S.seen s).failed ≡ false) inputs.now × All (λ e. e.put ≡ []) ends.now }
+        ensures { AreRead (each_left (map S.seen inputs.entry.now)) (each_failed (map S.seen inputs.exit.now)) ends.entry.now ends.exit.now }
     { read_all(rt, session, inputs, ends) };
     let mut others = || -> Option<Result<ExitStatus, RunFault>>
         requires { IsSync R.row × IsSync N.row × IsSend N.row × IsSync G.row
-            × (engine.now.progress ≡ start) × (accepter.now.taken ≡ []) × (W.failed writer.now ≡ false) }
-        ensures { IsTried engine.entry.now.terms accepter.entry.now accepter.exit.now (device (W.written writer.entry.now) (W.written writer.exit.now) (W.failed writer.exit.now)) engine.exit.now.progress result }
+            × (engine.now.progress ≡ start) × (accepter.now.taken ≡ []) × ((W.seen writer.now).failed ≡ false) }
+        ensures { IsTried engine.entry.now.terms accepter.entry.now accepter.exit.now (lent (W.seen writer.entry.now) (W.seen writer.exit.now)) engine.exit.now.progress result }
     { work_and_accept(rt, session, engine, accepter, writer) };
     let ((), tried) = join_mut(rt, &mut sources, &mut others);
     match tried {
@@ -184,8 +185,8 @@ fn work_and_accept<N: Name + Send + Sync, R: Threads + Wait + Sync, W: ByteSink,
 ) -> Option<Result<ExitStatus, RunFault>>
     requires engine { engine.old.progress ≡ start }
     requires accepter { accepter.old.taken ≡ [] }
-    requires writer { W.failed writer.old ≡ false }
-    ensures { IsTried engine.old.terms accepter.old accepter.new (device (W.written writer.old) (W.written writer.new) (W.failed writer.new)) engine.new.progress result }
+    requires writer { (W.seen writer.old).failed ≡ false }
+    ensures { IsTried engine.old.terms accepter.old accepter.new (lent (W.seen writer.old) (W.seen writer.new)) engine.new.progress result }
 {
     if !session.have_sources_begun(rt) {
         return None;
@@ -194,8 +195,8 @@ fn work_and_accept<N: Name + Send + Sync, R: Threads + Wait + Sync, W: ByteSink,
         requires { IsSync R.row × IsSync N.row × IsSend N.row × IsSync G.row }
     { work_all(rt, session) };
     let mut accept = || -> Result<ExitStatus, RunFault>
-        requires { (engine.now.progress ≡ start) × (accepter.now.taken ≡ []) × (W.failed writer.now ≡ false) }
-        ensures { IsAccepted engine.entry.now.terms accepter.entry.now accepter.exit.now (device (W.written writer.entry.now) (W.written writer.exit.now) (W.failed writer.exit.now)) engine.exit.now.progress result }
+        requires { (engine.now.progress ≡ start) × (accepter.now.taken ≡ []) × ((W.seen writer.now).failed ≡ false) }
+        ensures { IsAccepted engine.entry.now.terms accepter.entry.now accepter.exit.now (lent (W.seen writer.entry.now) (W.seen writer.exit.now)) engine.exit.now.progress result }
     {
         let ended = accept_all(rt, session, engine, accepter, writer);
         engine.close(rt, session.checker);

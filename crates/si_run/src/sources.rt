@@ -1,6 +1,7 @@
 //! The sources: each is read to its end by a thread of its own, which puts its items for the accepter.
 ghost use Rattle.std.specs.Prelude.{◌≡◌, ◌+◌, ◌-◌, ◌^◌, ◌<◌, ◌≤◌, ◌↔◌, [], false, All, IsTrue, List, length, map, min};
 ghost use Rattle.std.specs.Thread.{IsSend, IsSync};
+ghost use Rattle.si_text.specs.Devices.{each_failed, each_left};
 ghost use Rattle.si_text.specs.Inputs.{Item as LineRead};
 ghost use Rattle.si_text.specs.LineBuffers.{IsFresh};
 ghost use Rattle.si_run.specs.Readings.{AreRead, EndsSo, HasPut, IsRead};
@@ -66,9 +67,9 @@ pub fn read_all<
     G: Gate + Sync,
 >(rt: &R, session: &Session<'_, N, G>, inputs: &mut [S], ends: &mut [SourceEnd])
     requires many { length inputs.old ≡ length ends.old }
-    requires works { All (λ s. S.failed s ≡ false) inputs.old }
+    requires works { All (λ s. (S.seen s).failed ≡ false) inputs.old }
     requires fresh { All (λ e. e.put ≡ []) ends.old }
-    ensures { AreRead (map S.left inputs.old) (map S.failed inputs.new) ends.old ends.new }
+    ensures { AreRead (each_left (map S.seen inputs.old)) (each_failed (map S.seen inputs.new)) ends.old ends.new }
 {
     if inputs.is_empty() {
         return;
@@ -88,22 +89,22 @@ fn read_both<N: Name + Send + Sync, R: Threads + Wait + Sync, S: ByteSource + Se
     inputs: &mut [S],
     ends: &mut [SourceEnd],
 )
-    requires works { S.failed input.old ≡ false }
+    requires works { (S.seen input.old).failed ≡ false }
     requires fresh { end.old.put ≡ [] }
     requires many { length inputs.old ≡ length ends.old }
-    requires others_work { All (λ s. S.failed s ≡ false) inputs.old }
+    requires others_work { All (λ s. (S.seen s).failed ≡ false) inputs.old }
     requires others_fresh { All (λ e. e.put ≡ []) ends.old }
-    ensures first { IsRead (S.left input.old) (S.failed input.new) end.old end.new }
-    ensures others { AreRead (map S.left inputs.old) (map S.failed inputs.new) ends.old ends.new }
+    ensures first { IsRead (S.seen input.old).left (S.seen input.new).failed end.old end.new }
+    ensures others { AreRead (each_left (map S.seen inputs.old)) (each_failed (map S.seen inputs.new)) ends.old ends.new }
 {
     let mut first = ||
-        requires { (S.failed input.now ≡ false) × (end.now.put ≡ []) }
-        ensures { IsRead (S.left input.entry.now) (S.failed input.exit.now) end.entry.now end.exit.now }
+        requires { ((S.seen input.now).failed ≡ false) × (end.now.put ≡ []) }
+        ensures { IsRead (S.seen input.entry.now).left (S.seen input.exit.now).failed end.entry.now end.exit.now }
     { read(rt, session, input, end) };
     let mut others = ||
         requires { IsSync R.row × IsSync N.row × IsSend N.row × IsSync G.row × IsSend S.row
-            × (length inputs.now ≡ length ends.now) × All (λ s. S.failed s ≡ false) inputs.now × All (λ e. e.put ≡ []) ends.now }
-        ensures { AreRead (map S.left inputs.entry.now) (map S.failed inputs.exit.now) ends.entry.now ends.exit.now }
+            × (length inputs.now ≡ length ends.now) × All (λ s. (S.seen s).failed ≡ false) inputs.now × All (λ e. e.put ≡ []) ends.now }
+        ensures { AreRead (each_left (map S.seen inputs.entry.now)) (each_failed (map S.seen inputs.exit.now)) ends.entry.now ends.exit.now }
     { read_all(rt, session, inputs, ends) };
     join_mut(rt, &mut first, &mut others);
 }
@@ -115,9 +116,9 @@ pub fn read<N: Name, R: Wait, S: ByteSource, G: Gate>(
     input: &mut S,
     end: &mut SourceEnd,
 )
-    requires works { S.failed input.old ≡ false }
+    requires works { (S.seen input.old).failed ≡ false }
     requires fresh { end.old.put ≡ [] }
-    ensures { IsRead (S.left input.old) (S.failed input.new) end.old end.new }
+    ensures { IsRead (S.seen input.old).left (S.seen input.new).failed end.old end.new }
 {
     let what = put_lines(rt, session, input, end);
     let source = end.source();
@@ -131,9 +132,9 @@ fn put_lines<N: Name, R: Wait, S: ByteSource, G: Gate>(
     input: &mut S,
     end: &mut SourceEnd,
 ) -> What
-    requires works { S.failed input.old ≡ false }
+    requires works { (S.seen input.old).failed ≡ false }
     requires fresh { end.old.put ≡ [] }
-    ensures { (items : List LineRead) × HasPut end.old end.new items × EndsSo (S.left input.old) (S.failed input.new) items result }
+    ensures { (items : List LineRead) × HasPut end.old end.new items × EndsSo (S.seen input.old).left (S.seen input.new).failed items result }
 {
     if !session.begin() {
         return What::NoMemory;
@@ -154,10 +155,10 @@ fn put_read<N: Name, R: Wait, S: ByteSource, G: Gate>(
     lines: &mut LineBuffer,
     kept: &mut KeptKeys,
 ) -> What
-    requires works { S.failed input.old ≡ false }
+    requires works { (S.seen input.old).failed ≡ false }
     requires fresh { end.old.put ≡ [] }
     requires buffer { IsFresh lines.old }
-    ensures { (items : List LineRead) × HasPut end.old end.new items × EndsSo (S.left input.old) (S.failed input.new) items result }
+    ensures { (items : List LineRead) × HasPut end.old end.new items × EndsSo (S.seen input.old).left (S.seen input.new).failed items result }
 {
     let source = end.source();
     'items: for _turn in 0..u64::MAX {

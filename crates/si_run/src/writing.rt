@@ -8,9 +8,9 @@ use si_text::{ByteSink, DeviceFailed};
 
 /// Writes all of the bytes, or a beginning of them, and not the whole, where the writer fails.
 pub fn write_all<W: ByteSink>(writer: &mut W, bytes: &[u8]) -> Result<(), DeviceFailed>
-    ensures ok { OnOk result (Appends (W.written writer.old) (W.written writer.new) bytes.now) }
-    ensures err { OnErr result (AppendsPart (W.written writer.old) (W.written writer.new) bytes.now) }
-    ensures failed { W.failed writer.new ≡ (W.failed writer.old || is_err result) }
+    ensures ok { OnOk result (Appends (W.seen writer.old).written (W.seen writer.new).written bytes.now) }
+    ensures err { OnErr result (AppendsPart (W.seen writer.old).written (W.seen writer.new).written bytes.now) }
+    ensures failed { (W.seen writer.new).failed ≡ ((W.seen writer.old).failed || is_err result) }
 {
     let mut rest = bytes;
     while !rest.is_empty() {

@@ -1,6 +1,6 @@
 -- What the devices in memory show of themselves.
 use Rattle.std.specs.Prelude.{ℕ, List, Bool, ◌||◌, drop}
-use Rattle.si_text.specs.Devices.{turned_by}
+use Rattle.si_text.specs.Devices.{Input, Output, turned_by}
 use Rattle.si_text.specs.declared.memory.MemorySource.{MemorySource}
 use Rattle.si_text.specs.declared.memory.MemorySink.{MemorySink}
 use Rattle.si_text.specs.declared.memory.FailingSource.{FailingSource}
@@ -34,13 +34,11 @@ reads_left source = source.reads
 abbrev pub source_behind : {S : Type 0} → FailingSource S → S
 source_behind source = source.source
 
--- whether a read failed, by itself or of the source behind it
-abbrev pub source_failed : {S : Type 0} → (S → Bool) → FailingSource S → Bool
-source_failed failed source = source.has_failed || failed source.source
-
--- whether an odd number of reads failed, by itself or of the source behind it
-abbrev pub source_turned : {S : Type 0} → (S → Bool) → FailingSource S → Bool
-source_turned turned source = turned_by source.has_turned (turned source.source)
+-- what is known of such a source: a read failed by itself or of the source behind it
+abbrev pub source_seen : {S : Type 0} → (S → Input) → FailingSource S → Input
+source_seen seen source =
+    let behind = seen source.source in
+    record { left = behind.left; failed = source.has_failed || behind.failed; turned = turned_by source.has_turned behind.turned }
 
 -- how many writes are left before each one fails
 abbrev pub writes_left : {W : Type 0} → FailingSink W → ℕ
@@ -50,6 +48,6 @@ writes_left sink = sink.writes
 abbrev pub sink_behind : {W : Type 0} → FailingSink W → W
 sink_behind sink = sink.sink
 
--- whether a write failed, by itself or of the sink behind it
-abbrev pub sink_failed : {W : Type 0} → (W → Bool) → FailingSink W → Bool
-sink_failed failed sink = sink.has_failed || failed sink.sink
+-- what is known of such a sink: a write failed by itself or of the sink behind it
+abbrev pub sink_seen : {W : Type 0} → (W → Output) → FailingSink W → Output
+sink_seen seen sink = let behind = seen sink.sink in record { written = behind.written; failed = sink.has_failed || behind.failed }

@@ -7,15 +7,12 @@ use crate::devices::{ByteSink, ByteSource};
 
 /// A lent source tells what its owner tells.
 pub fn lent_sources_tell<'a, S: ByteSource>(source: &'a mut S)
-    ensures left { ⟦<&'a mut S as ByteSource>⟧.left source.entry ≡ S.left source.old }
-    ensures failed { ⟦<&'a mut S as ByteSource>⟧.failed source.entry ≡ S.failed source.old }
-    ensures turned { ⟦<&'a mut S as ByteSource>⟧.turned source.entry ≡ S.turned source.old }
+    ensures { ⟦<&'a mut S as ByteSource>⟧.seen source.entry ≡ S.seen source.old }
 {}
 
 /// A lent sink tells what its owner tells.
 pub fn lent_sinks_tell<'a, W: ByteSink>(sink: &'a mut W)
-    ensures written { ⟦<&'a mut W as ByteSink>⟧.written sink.entry ≡ W.written sink.old }
-    ensures failed { ⟦<&'a mut W as ByteSink>⟧.failed sink.entry ≡ W.failed sink.old }
+    ensures { ⟦<&'a mut W as ByteSink>⟧.seen sink.entry ≡ W.seen sink.old }
 {}
 
 /// The fault of a line is the one of least number whose condition holds.

@@ -105,27 +105,27 @@ impl LineBuffer {
         keys: &mut KnownKeys,
     ) -> Result<Option<LineItem>, InputFault>
         ensures items { IfOk result (λ item.
-            Yields (lines_ended self.old) (bytes_to_come self.old (S.left source.old))
-            (lines_ended self.new) (bytes_to_come self.new (S.left source.new))
+            Yields (lines_ended self.old) (bytes_to_come self.old (S.seen source.old).left)
+            (lines_ended self.new) (bytes_to_come self.new (S.seen source.new).left)
             (option_to_list item)) }
 
         // The end is told only there.
         ensures end { IfOk result (λ item.
-            IsNone item → IsAtEnd (bytes_to_come self.new (S.left source.new))) }
+            IsNone item → IsAtEnd (bytes_to_come self.new (S.seen source.new).left)) }
         ensures err { OnErr result
-            (Yields (lines_ended self.old) (bytes_to_come self.old (S.left source.old))
-            (lines_ended self.new) (bytes_to_come self.new (S.left source.new)) []) }
+            (Yields (lines_ended self.old) (bytes_to_come self.old (S.seen source.old).left)
+            (lines_ended self.new) (bytes_to_come self.new (S.seen source.new).left) []) }
 
         // A fault of the device is told only where it failed in this call or no further read or line is allowed.
         ensures device { IfErr result (λ fault. fault ≡ InputFault.DeviceFailed
-            → (S.failed source.new ≡ true) ⊎ IsSpent self.new) }
+            → ((S.seen source.new).failed ≡ true) ⊎ IsSpent self.new) }
         ensures here { IfErr result (λ fault. fault ≡ InputFault.DeviceFailed
-            → (S.turned source.new ≡ not (S.turned source.old)) ⊎ IsSpent self.new) }
-        ensures counts { CountsBytes self.old (S.left source.old) self.new (S.left source.new) }
-        ensures works { OnOk result (S.failed source.new ≡ S.failed source.old) }
-        ensures steady { OnOk result (S.turned source.new ≡ S.turned source.old) }
+            → ((S.seen source.new).turned ≡ not (S.seen source.old).turned) ⊎ IsSpent self.new) }
+        ensures counts { CountsBytes self.old (S.seen source.old).left self.new (S.seen source.new).left }
+        ensures works { OnOk result ((S.seen source.new).failed ≡ (S.seen source.old).failed) }
+        ensures steady { OnOk result ((S.seen source.new).turned ≡ (S.seen source.old).turned) }
         ensures memory { IfErr result (λ fault. fault ≡ InputFault.OutOfMemory
-            → S.failed source.new ≡ S.failed source.old) }
+            → (S.seen source.new).failed ≡ (S.seen source.old).failed) }
     {
         'pieces: loop {
             if let Some(item) = self.next_in_piece(keys)? {
@@ -234,17 +234,17 @@ impl LineBuffer {
     fn refill<S: ByteSource>(&mut self, source: &mut S) -> Result<bool, InputFault>
         requires { self.old.piece ≡ [] }
         ensures bytes { OnOk result
-            (Consumes (S.left source.old) (S.left source.new) self.new.piece) }
+            (Consumes (S.seen source.old).left (S.seen source.new).left self.new.piece) }
         ensures end { IfOk result (λ some. MatchBool some (0 < length self.new.piece)
-            ((self.new.piece ≡ []) × IsAtEnd (S.left source.new))) }
+            ((self.new.piece ≡ []) × IsAtEnd (S.seen source.new).left)) }
         ensures err { OnErr result
-            ((self.new.piece ≡ []) × Keeps (S.left source.old) (S.left source.new)) }
+            ((self.new.piece ≡ []) × Keeps (S.seen source.old).left (S.seen source.new).left) }
         ensures device { IfErr result (λ fault. (fault ≡ InputFault.DeviceFailed)
-            × ((S.failed source.new ≡ true) ⊎ IsSpent self.new)) }
+            × (((S.seen source.new).failed ≡ true) ⊎ IsSpent self.new)) }
         ensures here { OnErr result
-            ((S.turned source.new ≡ not (S.turned source.old)) ⊎ IsSpent self.new) }
-        ensures failed { OnOk result (S.failed source.new ≡ S.failed source.old) }
-        ensures turned { OnOk result (S.turned source.new ≡ S.turned source.old) }
+            (((S.seen source.new).turned ≡ not (S.seen source.old).turned) ⊎ IsSpent self.new) }
+        ensures failed { OnOk result ((S.seen source.new).failed ≡ (S.seen source.old).failed) }
+        ensures turned { OnOk result ((S.seen source.new).turned ≡ (S.seen source.old).turned) }
         ensures line { (self.new.line ≡ self.old.line) × (self.new.lines ≡ self.old.lines) }
         ensures reads { IfOk result (λ some. MatchBool some
             ((self.new.reads ≡ self.old.reads + 1) × (self.old.reads < 2 ^ 64 - 1))

@@ -32,9 +32,9 @@ impl MemorySource {
     /// ```
     pub fn new(bytes: Vec<u8>, piece: usize) -> Self
         requires { 1 ≤ piece }
-        ensures left { ⟦<MemorySource as ByteSource>⟧.left result ≡ Some bytes.items }
+        ensures left { (⟦<MemorySource as ByteSource>⟧.seen result).left ≡ Some bytes.items }
         ensures piece { most_given result ≡ piece }
-        ensures failed { ⟦<MemorySource as ByteSource>⟧.failed result ≡ false }
+        ensures failed { (⟦<MemorySource as ByteSource>⟧.seen result).failed ≡ false }
     {
         MemorySource {
             bytes,
@@ -47,11 +47,7 @@ impl MemorySource {
 impl ByteSource for MemorySource {
     ghost use Rattle.si_text.specs.Memory.{bytes_left, most_given};
 
-    ghost left = { λ source. Some (drop source.given source.bytes.items) };
-
-    ghost failed = { λ _. false };
-
-    ghost turned = { λ _. false };
+    ghost seen = { λ source. record { left = Some (drop source.given source.bytes.items); failed = false; turned = false } };
 
     /// Gives as many of its next bytes as there is room for and one piece may have, and none only at the end.
     fn read(&mut self, buffer: &mut [u8]) -> Result<usize, DeviceFailed>
@@ -93,9 +89,9 @@ impl MemorySink {
     /// ```
     pub fn new(alloc: Global, piece: usize) -> Self
         requires { 1 ≤ piece }
-        ensures written { ⟦<MemorySink as ByteSink>⟧.written result ≡ Some [] }
+        ensures written { (⟦<MemorySink as ByteSink>⟧.seen result).written ≡ Some [] }
         ensures piece { most_taken result ≡ piece }
-        ensures failed { ⟦<MemorySink as ByteSink>⟧.failed result ≡ false }
+        ensures failed { (⟦<MemorySink as ByteSink>⟧.seen result).failed ≡ false }
     {
         MemorySink {
             bytes: Vec::new(alloc),
@@ -112,7 +108,7 @@ impl MemorySink {
     /// let text = sink.as_slice();
     /// ```
     pub fn as_slice(&self) -> &[u8]
-        ensures { ⟦<MemorySink as ByteSink>⟧.written self.now ≡ Some result.now }
+        ensures { (⟦<MemorySink as ByteSink>⟧.seen self.now).written ≡ Some result.now }
     {
         self.bytes.as_slice()
     }
@@ -121,9 +117,7 @@ impl MemorySink {
 impl ByteSink for MemorySink {
     ghost use Rattle.si_text.specs.Memory.{bytes_taken, has_failed, most_taken};
 
-    ghost written = { λ sink. Some sink.bytes.items };
-
-    ghost failed = { λ sink. sink.has_failed };
+    ghost seen = { λ sink. record { written = Some sink.bytes.items; failed = sink.has_failed } };
 
     /// Takes as many bytes as one piece may have.
     fn write(&mut self, bytes: &[u8]) -> Result<usize, DeviceFailed>
@@ -168,9 +162,9 @@ impl<S: ByteSource> FailingSource<S> {
     /// let mut source = FailingSource::new(MemorySource::new(bytes, 7), 3); // the fourth read fails, and each one after it
     /// ```
     pub fn new(source: S, reads: u64) -> Self
-        ensures left { ⟦<FailingSource<S> as ByteSource>⟧.left result ≡ S.left source }
-        ensures failed { ⟦<FailingSource<S> as ByteSource>⟧.failed result
-            ≡ S.failed source }
+        ensures left { (⟦<FailingSource<S> as ByteSource>⟧.seen result).left ≡ (S.seen source).left }
+        ensures failed { (⟦<FailingSource<S> as ByteSource>⟧.seen result).failed
+            ≡ (S.seen source).failed }
         ensures reads { reads_left result ≡ reads }
         ensures behind { source_behind result ≡ source }
     {
@@ -184,26 +178,23 @@ impl<S: ByteSource> FailingSource<S> {
 }
 
 impl<S: ByteSource> ByteSource for FailingSource<S> {
-    ghost use Rattle.si_text.specs.Memory.{reads_left, source_behind, source_failed, source_turned};
+    ghost use Rattle.si_text.specs.Memory.{reads_left, source_behind, source_seen};
 
-    ghost left = { λ source. S.left source.source };
-
-    ghost failed = { λ source. source.has_failed || S.failed source.source };
-
-    ghost turned = { λ source. turned_by source.has_turned (S.turned source.source) };
+    ghost seen = { source_seen S.seen };
 
     /// While reads are left, the answer is the other source's, and fails only where that one does. Then each read fails.
     fn read(&mut self, buffer: &mut [u8]) -> Result<usize, DeviceFailed>
         requires { 0 < length buffer.old }
         ensures bound { ReadsAtMost result buffer.new }
-        ensures bytes { ReadConsumes (S.left (source_behind self.old)) (S.left (source_behind self.new))
+        ensures bytes { ReadConsumes (source_seen S.seen self.old).left (source_seen S.seen self.new).left
             result buffer.new }
-        ensures failed { source_failed S.failed self.new
-            ≡ (source_failed S.failed self.old || is_err result) }
-        ensures turned { source_turned S.turned self.new
-            ≡ turned_by (is_err result) (source_turned S.turned self.old) }
+        ensures failed { (source_seen S.seen self.new).failed
+            ≡ ((source_seen S.seen self.old).failed || is_err result) }
+        ensures turned { (source_seen S.seen self.new).turned
+            ≡ turned_by (is_err result) (source_seen S.seen self.old).turned }
         ensures passed { 0 < reads_left self.old → (reads_left self.new + 1 ≡ reads_left self.old)
-            × (S.turned (source_behind self.new) ≡ turned_by (is_err result) (S.turned (source_behind self.old))) }
+            × ((S.seen (source_behind self.new)).turned
+            ≡ turned_by (is_err result) (S.seen (source_behind self.old)).turned) }
         ensures spent { reads_left self.old ≡ 0 → (is_err result ≡ true)
             × (source_behind self.new ≡ source_behind self.old) × (reads_left self.new ≡ 0) }
     {
@@ -237,8 +228,8 @@ impl<W: ByteSink> FailingSink<W> {
     /// let mut sink = FailingSink::new(MemorySink::new(rt.alloc(), 7), 0); // each write fails
     /// ```
     pub fn new(sink: W, writes: u64) -> Self
-        ensures written { ⟦<FailingSink<W> as ByteSink>⟧.written result ≡ W.written sink }
-        ensures failed { ⟦<FailingSink<W> as ByteSink>⟧.failed result ≡ W.failed sink }
+        ensures written { (⟦<FailingSink<W> as ByteSink>⟧.seen result).written ≡ (W.seen sink).written }
+        ensures failed { (⟦<FailingSink<W> as ByteSink>⟧.seen result).failed ≡ (W.seen sink).failed }
         ensures writes { writes_left result ≡ writes }
         ensures behind { sink_behind result ≡ sink }
     {
@@ -251,23 +242,22 @@ impl<W: ByteSink> FailingSink<W> {
 }
 
 impl<W: ByteSink> ByteSink for FailingSink<W> {
-    ghost use Rattle.si_text.specs.Memory.{writes_left, sink_behind, sink_failed};
+    ghost use Rattle.si_text.specs.Memory.{writes_left, sink_behind, sink_seen};
 
-    ghost written = { λ sink. W.written sink.sink };
-
-    ghost failed = { λ sink. sink.has_failed || W.failed sink.sink };
+    ghost seen = { sink_seen W.seen };
 
     /// While writes are left, the answer is the other sink's, and fails only where that one does. Then each write fails.
     fn write(&mut self, bytes: &[u8]) -> Result<usize, DeviceFailed>
         requires { 0 < length bytes.now }
         ensures some { IfOk result (λ count. 1 ≤ count) }
         ensures bound { WritesAtMost result bytes.now }
-        ensures bytes { WriteAppends (W.written (sink_behind self.old)) (W.written (sink_behind self.new))
+        ensures bytes { WriteAppends (sink_seen W.seen self.old).written (sink_seen W.seen self.new).written
             result bytes.now }
-        ensures failed { sink_failed W.failed self.new
-            ≡ (sink_failed W.failed self.old || is_err result) }
+        ensures failed { (sink_seen W.seen self.new).failed
+            ≡ ((sink_seen W.seen self.old).failed || is_err result) }
         ensures passed { 0 < writes_left self.old → (writes_left self.new + 1 ≡ writes_left self.old)
-            × (W.failed (sink_behind self.new) ≡ (W.failed (sink_behind self.old) || is_err result)) }
+            × ((W.seen (sink_behind self.new)).failed
+            ≡ ((W.seen (sink_behind self.old)).failed || is_err result)) }
         ensures spent { writes_left self.old ≡ 0 → (is_err result ≡ true)
             × (sink_behind self.new ≡ sink_behind self.old) × (writes_left self.new ≡ 0) }
     {

@@ -61,13 +61,13 @@ impl Piece {
     pub(crate) fn fill<S: ByteSource>(&mut self, source: &mut S) -> Result<bool, DeviceFailed>
         requires { self.old ≡ [] }
         ensures bytes { IfOk result
-            (λ some. Consumes (S.left source.old) (S.left source.new) self.new) }
+            (λ some. Consumes (S.seen source.old).left (S.seen source.new).left self.new) }
         ensures end { IfOk result (λ some. MatchBool some (0 < length self.new)
-            ((self.new ≡ []) × IsAtEnd (S.left source.new))) }
+            ((self.new ≡ []) × IsAtEnd (S.seen source.new).left)) }
         ensures err { OnErr result
-            ((self.new ≡ []) × Keeps (S.left source.old) (S.left source.new)) }
-        ensures failed { S.failed source.new ≡ (S.failed source.old || is_err result) }
-        ensures turned { S.turned source.new ≡ turned_by (is_err result) (S.turned source.old) }
+            ((self.new ≡ []) × Keeps (S.seen source.old).left (S.seen source.new).left) }
+        ensures failed { (S.seen source.new).failed ≡ ((S.seen source.old).failed || is_err result) }
+        ensures turned { (S.seen source.new).turned ≡ turned_by (is_err result) (S.seen source.old).turned }
     {
         self.start = 0;
         self.end = 0;

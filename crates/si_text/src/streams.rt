@@ -27,8 +27,8 @@ impl<R: Read> StdSource<R> {
     /// let mut source = StdSource::new(rt.stdin());
     /// ```
     pub fn new(reader: R) -> Self
-        ensures left { ⟦<StdSource<R> as ByteSource>⟧.left result ≡ R.remaining reader }
-        ensures failed { ⟦<StdSource<R> as ByteSource>⟧.failed result ≡ false }
+        ensures left { (⟦<StdSource<R> as ByteSource>⟧.seen result).left ≡ R.remaining reader }
+        ensures failed { (⟦<StdSource<R> as ByteSource>⟧.seen result).failed ≡ false }
     {
         StdSource {
             reader,
@@ -39,11 +39,7 @@ impl<R: Read> StdSource<R> {
 }
 
 impl<R: Read> ByteSource for StdSource<R> {
-    ghost left = { λ source. R.remaining source.reader };
-
-    ghost failed = { λ source. source.has_failed };
-
-    ghost turned = { λ source. source.has_turned };
+    ghost seen = { λ source. record { left = R.remaining source.reader; failed = source.has_failed; turned = source.has_turned } };
 
     fn read(&mut self, buffer: &mut [u8]) -> Result<usize, DeviceFailed> {
         'tries: for _ in 0..u64::MAX {
@@ -82,8 +78,8 @@ impl<W: Write> StdSink<W> {
     /// let mut sink = StdSink::new(rt.stdout());
     /// ```
     pub fn new(writer: W) -> Self
-        ensures written { ⟦<StdSink<W> as ByteSink>⟧.written result ≡ W.contents writer }
-        ensures failed { ⟦<StdSink<W> as ByteSink>⟧.failed result ≡ false }
+        ensures written { (⟦<StdSink<W> as ByteSink>⟧.seen result).written ≡ W.contents writer }
+        ensures failed { (⟦<StdSink<W> as ByteSink>⟧.seen result).failed ≡ false }
     {
         StdSink {
             writer,
@@ -93,9 +89,7 @@ impl<W: Write> StdSink<W> {
 }
 
 impl<W: Write> ByteSink for StdSink<W> {
-    ghost written = { λ sink. W.contents sink.writer };
-
-    ghost failed = { λ sink. sink.has_failed };
+    ghost seen = { λ sink. record { written = W.contents sink.writer; failed = sink.has_failed } };
 
     fn write(&mut self, bytes: &[u8]) -> Result<usize, DeviceFailed> {
         'tries: for _ in 0..u64::MAX {

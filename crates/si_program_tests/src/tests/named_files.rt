@@ -19,9 +19,7 @@ struct OneFile<'a> {
 impl<'a> NamedFiles for OneFile<'a> {
     type Source = FailingSource<StdSource<&'a [u8]>>;
 
-    ghost bytes = { λ files _. Some files.bytes.now };
-
-    ghost may_lack = { λ files name. not (bytes_eq name files.name.now) };
+    ghost seen = { λ files. record { bytes = λ _. Some files.bytes.now; may_lack = λ name. not (bytes_eq name files.name.now) } };
 
     fn open(&self, name: &str) -> Result<FailingSource<StdSource<&'a [u8]>>, CannotOpen> {
         if name == self.name {

@@ -231,7 +231,7 @@ fn statuses(rt: HostRuntime) {
 
 /// Lines that are read whole.
 fn source(rt: &impl Host) -> MemorySource
-    ensures { ⟦<MemorySource as ByteSource>⟧.failed result ≡ false }
+    ensures { (⟦<MemorySource as ByteSource>⟧.seen result).failed ≡ false }
 {
     MemorySource::new(bytes_of(rt, LOST_UPDATE), 4096)
 }

@@ -14,6 +14,7 @@ returns-in_default g c = inr (refl, inl c.tell_out_of_memory-in_default.ensures)
 pub returns : goal.returns
 returns g c =
     let asked : IsAskedFor c.args.error.now = search rules in
-    let failed : g.O.ByteSink.failed c.write_all.new.writer ≡ true = c.in-Err.ensures.failed ∙ or_true (g.O.ByteSink.failed c.args.out.now) in
+    let seen = g.O.ByteSink.seen in
+    let failed : (seen c.write_all.new.writer).failed ≡ true = c.in-Err.ensures.failed ∙ or_true (seen c.args.out.now).failed in
     let part = c.in-Err.ensures.err in
     inl (asked, c.as_bytes-2.result.now, inr (failed, (part.0, part.1, part.2, part.4), c.tell_unwritten.ensures))

@@ -1,5 +1,6 @@
 use Rattle.std.proofs.Common.{rules, ◌≡◌, ◌∙◌, ◌++◌, ◌∷◌, [], ◌+◌, List, refl, sym, ap, arith, subst}
 use Rattle.std.proofs.lemmas.Result.{err_from_is_err_and}
+use Rattle.si_text.specs.Devices.{lent}
 use Rattle.si_intake.specs.Ends.{Accepting}
 use Rattle.si_intake.specs.declared.items.Item.{Item as Told}
 use Rattle.si_intake.specs.declared.items.What.TheVariants.{Line, ReadFault, NoMemory, End}
@@ -18,8 +19,7 @@ taken_is old new t is = ap (λ (a : Accepting). a.taken) is
 
 pub returns-in_err-decide_line-in-Line-clause-err : goal.returns-in_err-decide_line-in-Line-clause-err
 returns-in_err-decide_line-in-Line-clause-err g c =
-    let written = g.W.ByteSink.written in
-    let failed = g.W.ByteSink.failed c.decide_line.new.writer in
+    let seen = g.W.ByteSink.seen in
     let at = c.items.invariant in
     let terms : Terms = c.args.engine.now.terms in
     let p = c.items.engine.progress in
@@ -28,13 +28,13 @@ returns-in_err-decide_line-in-Line-clause-err g c =
     let line = sourced source c.in-Line.item in
     let item : c.in-Some.field-0 ≡ told source (Line c.in-Line.item) = search rules in
     let fault = c.in_err-decide_line-in-Line.field-0.0 in
-    let undone = subst (λ (t : Terms). IsUndone t p line (written c.items.writer) (written c.decide_line.new.writer) failed q fault) at.terms c.in_err-decide_line-in-Line.ensures.err in
+    let undone = subst (λ (t : Terms). IsUndone t p line (lent (seen c.items.writer) (seen c.decide_line.new.writer)) q fault) at.terms c.in_err-decide_line-in-Line.ensures.err in
     let f = err_from_is_err_and c.from_residual.result c.from_residual.ensures.1 in
     rw f.1 (rw f.2 (record {
       before = c.items.accepter.taken;
       last = told source (Line c.in-Line.item);
       order = taken_is c.items.accepter c.take.new.self c.in-Some.field-0 c.in-Some.ensures.taken ∙ ap (λ (t : Told). c.items.accepter.taken ++ t ∷ []) item;
-      mid = written c.items.writer;
+      mid = seen c.items.writer;
       p = p;
       decided = at.way;
       met = undone;
@@ -49,10 +49,10 @@ returns-in-ReadFault-clause-err g c =
       before = c.items.accepter.taken;
       last = told source ReadFault;
       order = taken_is c.items.accepter c.take.new.self c.in-Some.field-0 c.in-Some.ensures.taken ∙ ap (λ (t : Told). c.items.accepter.taken ++ t ∷ []) item;
-      mid = g.W.ByteSink.written c.items.writer;
+      mid = g.W.ByteSink.seen c.items.writer;
       p = c.items.engine.progress;
       decided = at.way;
-      met = (refl, at.works, refl, refl);
+      met = (refl, (at.works, refl), refl);
     }
 
 pub returns-in-NoMemory-clause-err : goal.returns-in-NoMemory-clause-err
@@ -64,15 +64,15 @@ returns-in-NoMemory-clause-err g c =
       before = c.items.accepter.taken;
       last = told source NoMemory;
       order = taken_is c.items.accepter c.take.new.self c.in-Some.field-0 c.in-Some.ensures.taken ∙ ap (λ (t : Told). c.items.accepter.taken ++ t ∷ []) item;
-      mid = g.W.ByteSink.written c.items.writer;
+      mid = g.W.ByteSink.seen c.items.writer;
       p = c.items.engine.progress;
       decided = at.way;
-      met = (refl, at.works, refl, refl);
+      met = (refl, (at.works, refl), refl);
     }
 
 pub items-preserved : goal.items-preserved
 items-preserved g c =
-    let written = g.W.ByteSink.written in
+    let seen = g.W.ByteSink.seen in
     let at = c.items.invariant in
     let terms : Terms = c.args.engine.now.terms in
     let p = c.items.engine.progress in
@@ -87,18 +87,18 @@ items-preserved g c =
           let text_is : item_text c.items.engine.terms p line ≡ item_text terms p line = ap (λ (t : Terms). item_text t p line) at.terms in
           let state : c.match-what.engine.progress ≡ progress_after terms p line =
           ap (λ (e : EngineState). e.progress) w.engine-is ∙ w.in_ok-decide_line-in-Line.ensures.progress ∙ ap (λ (t : Terms). progress_after t p line) at.terms in
-          let adds : Appends (written c.items.writer) (written c.match-what.writer) (item_text c.items.engine.terms p line) =
-          subst (λ x. Appends (written c.items.writer) (written x) (item_text c.items.engine.terms p line)) (sym w.writer-is) w.in_ok-decide_line-in-Line.ensures.ok in
+          let adds : Appends (seen c.items.writer).written (seen c.match-what.writer).written (item_text c.items.engine.terms p line) =
+          subst (λ x. Appends (seen c.items.writer).written (seen x).written (item_text c.items.engine.terms p line)) (sym w.writer-is) w.in_ok-decide_line-in-Line.ensures.ok in
           let decided : c.match-what.engine.progress.decided ≡ p.decided + 1 = ap (λ (r : Progress). r.decided) state ∙ decided_one terms p line in
           record {
             same = same;
             terms = ap (λ (e : EngineState). e.terms) w.engine-is ∙ w.in_ok-decide_line-in-Line.ensures.terms ∙ at.terms;
-            way = subst (λ (l : List Told). IsDecided terms l (written c.args.writer.now) (written c.match-what.writer) c.match-what.engine.progress)
+            way = subst (λ (l : List Told). IsDecided terms l (seen c.args.writer.now).written (seen c.match-what.writer).written c.match-what.engine.progress)
                 (sym (taken ∙ ap (λ (t : Told). before ++ t ∷ []) item))
-                (line_decided terms before (written c.args.writer.now) (written c.items.writer) (written c.match-what.writer) p c.match-what.engine.progress source w.in-Line.item
+                (line_decided terms before (seen c.args.writer.now).written (seen c.items.writer).written (seen c.match-what.writer).written p c.match-what.engine.progress source w.in-Line.item
                 (item_text c.items.engine.terms p line) at.way adds text_is state);
             turns = (let t = at.turns in omega arith);
-            works = ap g.W.ByteSink.failed w.writer-is ∙ w.in_ok-decide_line-in-Line.ensures.works;
+            works = ap (λ x. (seen x).failed) w.writer-is ∙ w.in_ok-decide_line-in-Line.ensures.works;
           }
           )
       | in-End w ↦ (
@@ -107,13 +107,13 @@ items-preserved g c =
           record {
             same = same;
             terms = ap (λ (e : EngineState). e.terms) state ∙ at.terms;
-            way = subst (λ (l : List Told). IsDecided terms l (written c.args.writer.now) (written c.match-what.writer) c.match-what.engine.progress)
+            way = subst (λ (l : List Told). IsDecided terms l (seen c.args.writer.now).written (seen c.match-what.writer).written c.match-what.engine.progress)
                 (sym (taken ∙ ap (λ (t : Told). before ++ t ∷ []) item))
-                (subst (λ (e : EngineState). IsDecided terms (before ++ told source End ∷ []) (written c.args.writer.now) (written c.match-what.writer) e.progress) (sym state)
-                (subst (λ x. IsDecided terms (before ++ told source End ∷ []) (written c.args.writer.now) (written x) p) (sym w.writer-is)
-                (end_decided terms before (written c.args.writer.now) (written c.items.writer) p source at.way)));
+                (subst (λ (e : EngineState). IsDecided terms (before ++ told source End ∷ []) (seen c.args.writer.now).written (seen c.match-what.writer).written e.progress) (sym state)
+                (subst (λ x. IsDecided terms (before ++ told source End ∷ []) (seen c.args.writer.now).written (seen x).written p) (sym w.writer-is)
+                (end_decided terms before (seen c.args.writer.now).written (seen c.items.writer).written p source at.way)));
             turns = (let t = at.turns in let d = ap (λ (e : EngineState). e.progress.decided) state in omega arith);
-            works = ap g.W.ByteSink.failed w.writer-is ∙ at.works;
+            works = ap (λ x. (seen x).failed) w.writer-is ∙ at.works;
           }
           )
     ]

@@ -5,13 +5,13 @@ use Rattle.si_run.proofs.accepters.decide_all.Given as goal
 -- all that was taken is decided, and what is written for it was written
 abbrev pub invariant-items : goal.invariant-items
 invariant-items g l =
-    let written = g.W.ByteSink.written in
+    let seen = g.W.ByteSink.seen in
     record {
       same : l.accepter ≡ record l.fn.accepter { taken = l.accepter.taken };
       terms : l.engine.terms ≡ l.fn.engine.terms;
-      way : IsDecided l.fn.engine.terms l.accepter.taken (written l.fn.writer) (written l.writer) l.engine.progress;
+      way : IsDecided l.fn.engine.terms l.accepter.taken (seen l.fn.writer).written (seen l.writer).written l.engine.progress;
       turns : l.engine.progress.decided ≤ l._turn;
-      works : g.W.ByteSink.failed l.writer ≡ false;
+      works : (seen l.writer).failed ≡ false;
     }
 
 abbrev pub invariant-loop : goal.invariant-loop

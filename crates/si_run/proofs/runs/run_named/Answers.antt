@@ -1,6 +1,7 @@
 use Rattle.std.proofs.Common.{rules, ◌≡◌, ◌∙◌, ◌++◌, ℕ, [], List, All, map, length, take, drop, sym, ap, subst}
 use Rattle.std.proofs.lemmas.Result.{err_from_is_err_and}
 use Rattle.std.proofs.lemmas.List.{length-map}
+use Rattle.si_text.specs.Devices.{Input, each_failed, each_left, lent}
 use Rattle.si_intake.specs.Ends.{Accepting, AreAllEndsOf, Putting, all_put, new_ends}
 use Rattle.si_intake.specs.Interleavings.{IsInterleaving}
 use Rattle.si_intake.proofs.Gathered.{all_new}
@@ -8,31 +9,27 @@ use Rattle.si_run.proofs.Gathered.{all_fresh, are_taken, ran, refused, still_all
 use Rattle.si_run.proofs.Interleaved.{AreTaken}
 use Rattle.si_run.specs.Runs.{terms_by}
 use Rattle.si_run.specs.Outputs.{Terms}
-use Rattle.si_run.specs.Takings.{IsRunThrough, device}
+use Rattle.si_run.specs.Takings.{IsRunThrough}
 use Rattle.si_run.proofs.runs.run_named.Goals as goal
 
 pub returns-then-not-can_start : goal.returns-then-not-can_start
 returns-then-not-can_start g c =
-    refused (terms_by c.args.options) (map g.S.ByteSource.left c.args.inputs.now) (map g.S.ByteSource.failed c.args.inputs.now)
-    (g.W.ByteSink.written c.args.writer.now) (g.W.ByteSink.failed c.args.writer.now) c.requires.writer
+    refused (terms_by c.args.options) (map g.S.ByteSource.seen c.args.inputs.now) (g.W.ByteSink.seen c.args.writer.now) c.requires.writer
 
 pub returns-in_err-ends : goal.returns-in_err-ends
 returns-in_err-ends g c =
     let fault = err_from_is_err_and c.from_residual.result c.from_residual.ensures.1 in
-    rw fault.1 (rw fault.2 (refused (terms_by c.args.options) (map g.S.ByteSource.left c.args.inputs.now) (map g.S.ByteSource.failed c.args.inputs.now)
-    (g.W.ByteSink.written c.args.writer.now) (g.W.ByteSink.failed c.args.writer.now) c.requires.writer))
+    rw fault.1 (rw fault.2 (refused (terms_by c.args.options) (map g.S.ByteSource.seen c.args.inputs.now) (g.W.ByteSink.seen c.args.writer.now) c.requires.writer))
 
 pub returns-in_err-checker : goal.returns-in_err-checker
 returns-in_err-checker g c =
     let fault = err_from_is_err_and c.from_residual-in_err-checker.result c.from_residual-in_err-checker.ensures.1 in
-    rw fault.1 (rw fault.2 (refused (terms_by c.args.options) (map g.S.ByteSource.left c.args.inputs.now) (map g.S.ByteSource.failed c.args.inputs.now)
-    (g.W.ByteSink.written c.args.writer.now) (g.W.ByteSink.failed c.args.writer.now) c.requires.writer))
+    rw fault.1 (rw fault.2 (refused (terms_by c.args.options) (map g.S.ByteSource.seen c.args.inputs.now) (g.W.ByteSink.seen c.args.writer.now) c.requires.writer))
 
 pub returns-in_err-session : goal.returns-in_err-session
 returns-in_err-session g c =
     let fault = err_from_is_err_and c.from_residual-in_err-session.result c.from_residual-in_err-session.ensures.1 in
-    rw fault.1 (rw fault.2 (refused (terms_by c.args.options) (map g.S.ByteSource.left c.args.inputs.now) (map g.S.ByteSource.failed c.args.inputs.now)
-    (g.W.ByteSink.written c.args.writer.now) (g.W.ByteSink.failed c.args.writer.now) c.requires.writer))
+    rw fault.1 (rw fault.2 (refused (terms_by c.args.options) (map g.S.ByteSource.seen c.args.inputs.now) (g.W.ByteSink.seen c.args.writer.now) c.requires.writer))
 
 -- the ends that were opened
 opened : (accepter : Accepting) (n : ℕ) (ends slice : List Putting) → accepter ≡ record accepter { sources = n; taken = [] } → ends ≡ new_ends accepter.intake n → slice ≡ ends → AreAllEndsOf accepter slice
@@ -58,26 +55,27 @@ gather-taken-requires-clause-ends g c =
     let over : take c.in_ok-ends.ends.len (run.new.ends ++ drop (length run.new.ends) c.in_ok-ends.ends.items) ≡ run.new.ends =
     written_over c.in_ok-ends.ends.len run.new.ends c.in_ok-ends.ends.items (sym c.as_mut_slice.ensures.len ∙ sym run.ensures.sources.many) many in
     subst (AreAllEndsOf run.new.accepter) (sym over)
-    (still_all c.in_ok-ends.accepter run.new.accepter (map g.S.ByteSource.left c.args.inputs.now) (map g.S.ByteSource.failed run.new.inputs) c.as_mut_slice.result.now run.new.ends all run.ensures.accepted.same run.ensures.sources)
+    (still_all c.in_ok-ends.accepter run.new.accepter (each_left (map g.S.ByteSource.seen c.args.inputs.now)) (each_failed (map g.S.ByteSource.seen run.new.inputs)) c.as_mut_slice.result.now run.new.ends all run.ensures.accepted.same run.ensures.sources)
 
 pub returns : goal.returns
 returns g c =
     let opening = c.in_ok-ends.ensures in
     let run = c.read_and_accept-ended in
-    let lefts = map g.S.ByteSource.left c.args.inputs.now in
-    let failed = map g.S.ByteSource.failed run.new.inputs in
+    let seen = g.S.ByteSource.seen in
+    let devices = lent (map seen c.args.inputs.now) (map seen run.new.inputs) in
+    let lefts = each_left devices.before in
+    let failed = each_failed devices.after in
+    let out = lent (g.W.ByteSink.seen c.args.writer.now) (g.W.ByteSink.seen run.new.writer) in
     let all = opened c.in_ok-ends.accepter (length c.args.inputs.now) c.in_ok-ends.ends.items c.as_mut_slice.result.now opening.accepter opening.ends c.as_mut_slice.ensures.value in
     let many : length c.in_ok-ends.ends.items ≡ length run.new.ends = sym (ap (length {A = Putting}) c.as_mut_slice.ensures.value) ∙ sym run.ensures.sources.many in
     let over : take c.in_ok-ends.ends.len (run.new.ends ++ drop (length run.new.ends) c.in_ok-ends.ends.items) ≡ run.new.ends =
     written_over c.in_ok-ends.ends.len run.new.ends c.in_ok-ends.ends.items (sym c.as_mut_slice.ensures.len ∙ sym run.ensures.sources.many) many in
-    let inputs = all.0 ∙ ap (λ (a : Accepting). a.sources) opening.accepter ∙ sym (length-map c.args.inputs.now g.S.ByteSource.left) in
+    let befores : length lefts ≡ length c.args.inputs.now = length-map devices.before (λ (input : Input). input.left) ∙ length-map c.args.inputs.now seen in
+    let afters : length failed ≡ length run.new.inputs = length-map devices.after (λ (input : Input). input.failed) ∙ length-map run.new.inputs seen in
     let taken : AreTaken lefts failed c.as_mut_slice.result.now run.new.ends run.new.accepter.taken =
-    are_taken c.in_ok-ends.accepter run.new.accepter lefts failed c.as_mut_slice.result.now run.new.ends all inputs run.ensures.sources
+    are_taken c.in_ok-ends.accepter run.new.accepter lefts failed c.as_mut_slice.result.now run.new.ends all (all.0 ∙ ap (λ (a : Accepting). a.sources) opening.accepter ∙ sym befores) run.ensures.sources
     (subst (λ (l : List Putting). IsInterleaving run.new.accepter.taken (all_put l)) over c.gather-taken.ensures.interleaving) in
-    let accepted = subst (λ (t : Terms). IsRunThrough t c.in_ok-ends.accepter run.new.accepter
-    (device (g.W.ByteSink.written c.args.writer.now) (g.W.ByteSink.written run.new.writer) (g.W.ByteSink.failed run.new.writer)) run.new.engine.progress run.result) c.new-engine.ensures.terms run.ensures.accepted in
+    let accepted = subst (λ (t : Terms). IsRunThrough t c.in_ok-ends.accepter run.new.accepter out run.new.engine.progress run.result) c.new-engine.ensures.terms run.ensures.accepted in
     let same : length run.new.inputs ≡ length c.args.inputs.now = search rules in
-    ran (terms_by c.args.options) c.in_ok-ends.accepter run.new.accepter
-    (device (g.W.ByteSink.written c.args.writer.now) (g.W.ByteSink.written run.new.writer) (g.W.ByteSink.failed run.new.writer)) run.new.engine.progress run.result lefts failed
-    c.as_mut_slice.result.now run.new.ends taken accepted
-    (length-map run.new.inputs g.S.ByteSource.failed ∙ same ∙ sym (length-map c.args.inputs.now g.S.ByteSource.left))
+    ran (terms_by c.args.options) c.in_ok-ends.accepter run.new.accepter devices out run.new.engine.progress run.result c.as_mut_slice.result.now run.new.ends taken accepted
+    (afters ∙ same ∙ sym befores)

@@ -14,7 +14,7 @@ put_of old mid new items s item source puts put =
 
 pub items-init : goal.items-init
 items-init g c =
-    let left = g.S.ByteSource.left c.args.input.now in
+    let left = (g.S.ByteSource.seen c.args.input.now).left in
     record {
       way = begins c.args.lines.now left c.args.end.now c.requires.buffer;
       counts = (c.args.lines.now, c.requires.buffer, CountsBytes-none c.args.lines.now left);
@@ -24,31 +24,31 @@ items-init g c =
 
 pub put-requires-clause-unended : goal.put-requires-clause-unended
 put-requires-clause-unended g c =
-    let left = g.S.ByteSource.left in
+    let seen = g.S.ByteSource.seen in
     let at = c.items.invariant in
-    unended (left c.args.input.now) c.items.lines.lines (bytes_to_come c.items.lines (left c.items.input)) c.args.end.now c.items.end c.items._turn c.requires.fresh at.way
+    unended (seen c.args.input.now).left c.items.lines.lines (bytes_to_come c.items.lines (seen c.items.input).left) c.args.end.now c.items.end c.items._turn c.requires.fresh at.way
 
 pub items-preserved : goal.items-preserved
 items-preserved g c =
-    let left = g.S.ByteSource.left in
+    let seen = g.S.ByteSource.seen in
     let at = c.items.invariant in
     let one = rw c.in-Ok-Some.field-0-is at c.in-Ok-Some.ensures.items in
     let item : Item = c.in-Ok-Some.item in
     record {
-      way = goes_on (left c.args.input.now) c.items.lines.lines c.next_item.new.self.lines
-          (bytes_to_come c.items.lines (left c.items.input)) (bytes_to_come c.next_item.new.self (left c.next_item.new.source))
+      way = goes_on (seen c.args.input.now).left c.items.lines.lines c.next_item.new.self.lines
+          (bytes_to_come c.items.lines (seen c.items.input).left) (bytes_to_come c.next_item.new.self (seen c.next_item.new.source).left)
           c.args.end.now c.items.end c.put.new.self c.items._turn item at.way one
           (put_of c.args.end.now c.items.end c.put.new.self at.way.items c.source-source.result item c.source-source.ensures at.way.puts c.put.ensures.put);
-      counts = (at.counts.0, at.counts.1, CountsBytes-then at.counts.0 c.items.lines c.next_item.new.self (left c.args.input.now) (left c.items.input) (left c.next_item.new.source) at.counts.2 c.next_item.ensures.counts);
+      counts = (at.counts.0, at.counts.1, CountsBytes-then at.counts.0 c.items.lines c.next_item.new.self (seen c.args.input.now).left (seen c.items.input).left (seen c.next_item.new.source).left at.counts.2 c.next_item.ensures.counts);
       works = c.in-Ok-Some.ensures.works ∙ at.works;
       source = at.source;
     }
 
 pub returns : goal.returns
 returns g c =
-    let left = g.S.ByteSource.left c.args.input.now in
+    let left = (g.S.ByteSource.seen c.args.input.now).left in
     let at = c.items.invariant in
-    let to_come = bytes_to_come c.items.lines (g.S.ByteSource.left c.items.input) in
+    let to_come = bytes_to_come c.items.lines (g.S.ByteSource.seen c.items.input).left in
     let most : 2 ^ 64 - 1 ≤ c.items._turn = omega arith in (
       at.way.items,
       at.way.puts,
@@ -61,17 +61,17 @@ returns g c =
 -- where the device failed it is told so, and else the reads or the numbers of lines are used up
 pub returns-in-Err-DeviceFailed : goal.returns-in-Err-DeviceFailed
 returns-in-Err-DeviceFailed g c =
-    let left = g.S.ByteSource.left in
+    let seen = g.S.ByteSource.seen in
     let at = c.items.invariant in
-    let counts = CountsBytes-then at.counts.0 c.items.lines c.next_item.new.self (left c.args.input.now) (left c.items.input) (left c.next_item.new.source) at.counts.2 c.next_item.ensures.counts in
+    let counts = CountsBytes-then at.counts.0 c.items.lines c.next_item.new.self (seen c.args.input.now).left (seen c.items.input).left (seen c.next_item.new.source).left at.counts.2 c.next_item.ensures.counts in
     let told = rw c.in-Err-DeviceFailed.field-0-is at c.in-Err-DeviceFailed.ensures.device in (
       at.way.items,
       at.way.puts,
       (
-        first_read (left c.args.input.now) c.items.lines.lines (bytes_to_come c.items.lines (left c.items.input)) c.args.end.now c.items.end c.items._turn at.way,
+        first_read (seen c.args.input.now).left c.items.lines.lines (bytes_to_come c.items.lines (seen c.items.input).left) c.args.end.now c.items.end c.items._turn at.way,
         elim (told refl) [
           | inl failed ↦ inl failed
-          | inr spent ↦ inr (spends at.counts.0 c.next_item.new.self (left c.args.input.now) (left c.next_item.new.source) at.counts.1 counts spent)
+          | inr spent ↦ inr (spends at.counts.0 c.next_item.new.self (seen c.args.input.now).left (seen c.next_item.new.source).left at.counts.1 counts spent)
         ],
       ),
     )

@@ -7,10 +7,10 @@ use Rattle.si_run.proofs.sources.put_read.Given as goal
 -- what was read was put
 abbrev pub invariant-items : goal.invariant-items
 invariant-items g l =
-    let left = g.S.ByteSource.left in
+    let seen = g.S.ByteSource.seen in
     record {
-      way : IsReading (left l.fn.input) l.lines.lines (bytes_to_come l.lines (left l.input)) l.fn.end l.end l._turn;
-      counts : (fresh : LineBuffer) × IsFresh fresh × CountsBytes fresh (left l.fn.input) l.lines (left l.input);
-      works : g.S.ByteSource.failed l.input ≡ false;
+      way : IsReading (seen l.fn.input).left l.lines.lines (bytes_to_come l.lines (seen l.input).left) l.fn.end l.end l._turn;
+      counts : (fresh : LineBuffer) × IsFresh fresh × CountsBytes fresh (seen l.fn.input).left l.lines (seen l.input).left;
+      works : (seen l.input).failed ≡ false;
       source : l.source ≡ l.fn.end.source;
     }

@@ -9,6 +9,7 @@ or_false false = refl
 -- what was taken joins what was taken before
 pub loop-rest-preserved : goal.loop-rest-preserved
 loop-rest-preserved g c =
+    let seen = g.W.ByteSink.seen in
     let before = c.loop-rest.invariant.0 in
     let rest = c.loop-rest.rest.now in
     let taken = take c.in_ok-count.count rest in
@@ -16,7 +17,7 @@ loop-rest-preserved g c =
       (
         before.0 ++ taken,
         before.1 ∙ ap (λ l. before.0 ++ l) (sym (take-append-drop c.in_ok-count.count rest)) ∙ sym (append_assoc before.0 taken left) ∙ ap (λ l. (before.0 ++ taken) ++ l) (sym c.split_at.ensures.back),
-        Appends-trans (g.W.ByteSink.written c.args.writer.now) (g.W.ByteSink.written c.loop-rest.writer) (g.W.ByteSink.written c.write.new.self) before.0 taken before.2 c.in_ok-count.ensures.bytes,
+        Appends-trans (seen c.args.writer.now).written (seen c.loop-rest.writer).written (seen c.write.new.self).written before.0 taken before.2 c.in_ok-count.ensures.bytes,
       ),
-      c.in_ok-count.ensures.failed ∙ or_false (g.W.ByteSink.failed c.loop-rest.writer) ∙ c.loop-rest.invariant.1,
+      c.in_ok-count.ensures.failed ∙ or_false (seen c.loop-rest.writer).failed ∙ c.loop-rest.invariant.1,
     )

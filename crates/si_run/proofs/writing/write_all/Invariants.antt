@@ -5,8 +5,8 @@ use Rattle.si_run.proofs.writing.write_all.Given as goal
 -- what was taken so far, and what is left
 abbrev pub invariant-loop-rest : goal.invariant-loop-rest
 invariant-loop-rest g l =
-    let written = g.W.ByteSink.written in
-    ((done : List ℕ) × (l.bytes ≡ done ++ l.rest) × Appends (written l.fn.writer) (written l.writer) done) × (g.W.ByteSink.failed l.writer ≡ g.W.ByteSink.failed l.fn.writer)
+    let seen = g.W.ByteSink.seen in
+    ((done : List ℕ) × (l.bytes ≡ done ++ l.rest) × Appends (seen l.fn.writer).written (seen l.writer).written done) × ((seen l.writer).failed ≡ (seen l.fn.writer).failed)
 
 abbrev pub decreases-loop-rest : goal.decreases-loop-rest
 decreases-loop-rest g l = length l.rest
