@@ -82,16 +82,16 @@ impl<N: Name> Checker<N> {
         if locked_shard.is_spoiled() {
             return Worked::Spoiled;
         }
-        let edits = locked_book.copy(self.alloc, before);
+        let copied = locked_book.copy(self.alloc, before);
         drop(book);
-        if edits.is_empty() {
+        let Some(copied) = copied else {
             return Worked::NoMemory;
-        }
+        };
         gate.at(Place::Apply {
             shard: k,
             number: Number(before + 1),
         });
-        locked_shard.apply(&self.words, edits);
+        locked_shard.apply(&self.words, copied.as_slice());
         let position = locked_shard.position();
         if position == before {
             return Worked::Spoiled;

@@ -1,10 +1,9 @@
-use Rattle.std.proofs.Common.{◌≡◌, ◌++◌, false, true, length}
+use Rattle.std.proofs.Common.{◌≡◌, ◌++◌, false, true, take}
 use Rattle.si_checker.proofs.locked_shards.store.Given as goal
 
 abbrev pub invariant-loop-edit : goal.invariant-loop-edit
 invariant-loop-edit l =
     (l.shard.id ≡ l.fn.shard.id)
-    × (l.shard.stored ≡ l.fn.shard.stored ++ l.yielded)
-    × (l.fn.edits.items ≡ l.yielded ++ l.edit-iterator.rest.items)
+    × (l.shard.stored ≡ l.fn.shard.stored ++ take l.edit-index l.edits)
     × (l.shard.spoiled ≡ false → l.fn.shard.spoiled ≡ false)
-    × (l.shard.spoiled ≡ true → (length l.yielded ≡ 0) × (l.fn.shard.spoiled ≡ true))
+    × (l.shard.spoiled ≡ true → (l.edit-index ≡ 0) × (l.fn.shard.spoiled ≡ true))
