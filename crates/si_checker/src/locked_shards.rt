@@ -6,7 +6,7 @@ ghost use Rattle.si_shard.specs.Shards.{findings_in};
 ghost use Rattle.si_words.specs.Entries.{IsBeginning, edits_of};
 ghost use Rattle.si_words.specs.Seats.{seated};
 ghost use Rattle.si_words.specs.Views.{new_shard, shard_closed, shard_counted, with_done, with_due, with_learned};
-ghost use Rattle.si_checker.specs.LockedShards.{StoresFirst, stored_by};
+ghost use Rattle.si_checker.specs.LockedShards.{stored_by};
 ghost use Rattle.si_checker.specs.declared.reports.ReportFault.TheVariants as fault;
 
 use crate::Name;
@@ -20,7 +20,6 @@ use si_words::{Pass, ShardSeat, Words};
 use std::alloc::Global;
 use std::hash::RandomState;
 use std::marker::{Model, PhantomData};
-use std::slice;
 
 /// One shard and its seat. Contracts see what the seat knows, and whether the shard is spoiled: what it has stored is the first
 /// of what it is due, as far as its seat has published.
@@ -146,7 +145,7 @@ impl<N: Name> LockedShard<N> {
         ensures whole { self.new.spoiled ≡ false → (self.new.seat.done ≡ self.old.seat.done + length edits.now) × (self.old.spoiled ≡ false) }
     {
         accepted_begins();
-        store(&mut self.shard, edits);
+        self.shard.apply_first(edits);
         words.publish(&mut self.seat, self.shard.position());
         edits_keep_length();
     }
@@ -294,20 +293,5 @@ impl<N: Name> LockedShard<N> {
         ensures stays { self.old.seat.closed ≡ true → result ≡ true }
     {
         words.closed_at(&mut self.seat)
-    }
-}
-
-/// The shard stores these edits, one after the other, until memory is refused to one of them.
-fn store(shard: &mut Shard, edits: &[Edit])
-    requires accepted { IsAccepted (shard.old.stored ++ edits.now) }
-    requires room { length shard.old.stored + length edits.now ≤ MOST_EDITS }
-    ensures { (n : ℕ) × StoresFirst n edits.now shard.old shard.new }
-{
-    accepted_begins();
-    shard.look_ahead(edits);
-    for edit in edits {
-        if shard.apply_all(slice::from_ref(edit)).is_err() {
-            return;
-        }
     }
 }
