@@ -1,5 +1,6 @@
 pub mod Crossing
 pub mod Machines
 pub mod Storing
+pub mod Covering
 pub mod Fresh
 pub mod Told

@@ -1,5 +1,5 @@
 -- What a shard has stored is a beginning of what it is due, before and after it applies more.
-use Rattle.std.proofs.Common.{◌≡◌, ◌∙◌, ◌⊎◌, ⊎_elim, ◌<◌, ◌≤◌, ◌+◌, ◌-◌, ℕ, zero, suc, true, List, [], ◌∷◌, ◌++◌, length, take, drop, refl, sym, ap, subst, arith, append_assoc, length-drop}
+use Rattle.std.proofs.Common.{◌≡◌, ◌∙◌, ⊎_elim, ◌<◌, ◌≤◌, ◌+◌, ◌-◌, ℕ, zero, suc, List, [], ◌∷◌, ◌++◌, length, take, drop, refl, sym, ap, subst, arith, length-drop}
 use Rattle.std.proofs.Math.Seq.{drop-nil, take-nil}
 use Rattle.std.proofs.lemmas.List.{length-map, length-take-le, take-append-drop}
 use Rattle.si_model.specs.declared.edits.Edit.{Edit}
@@ -10,8 +10,8 @@ use Rattle.si_words.specs.declared.views.ShardView.{ShardView}
 use Rattle.si_words.specs.Entries.{edit_in, edits_of}
 use Rattle.si_words.specs.Seats.{Board, Seated}
 use Rattle.si_words.specs.Views.{with_done}
-use Rattle.si_shard.specs.Shards.{ShardState}
-use Rattle.si_checker.specs.LockedShards.{IsLockedShard, StoresFirst}
+use Rattle.si_shard.specs.Shards.{ShardState, StoresFirst}
+use Rattle.si_checker.specs.LockedShards.{IsLockedShard}
 
 -- ---- lists
 
@@ -57,14 +57,6 @@ module _ (E edits : List Edit) (done m : ℕ) (next : edits ≡ take m (drop don
 
 pub taken_accepted : AcceptedBegins → (E : List Edit) (n : ℕ) → IsAccepted E → IsAccepted (take n E)
 taken_accepted begins E n accepted = begins (take n E) (drop n E) (subst IsAccepted (sym (take-append-drop n E)) accepted)
-
--- one more of accepted edits
-pub accepted_next : AcceptedBegins → (old before rest all : List Edit) (e : Edit) → all ≡ before ++ e ∷ rest → IsAccepted (old ++ all) → IsAccepted ((old ++ before) ++ e ∷ [])
-accepted_next begins old before rest all e is accepted =
-    let same : old ++ all ≡ ((old ++ before) ++ e ∷ []) ++ rest =
-    ap (λ l. old ++ l) is ∙ sym (append_assoc old before (e ∷ rest)) ∙ sym (append_assoc (old ++ before) (e ∷ []) rest)
-    in
-    begins ((old ++ before) ++ e ∷ []) rest (subst IsAccepted same accepted)
 
 pub edits_length : (xs : List Entry) → length (edits_of xs) ≡ length xs
 edits_length xs = length-map xs edit_in

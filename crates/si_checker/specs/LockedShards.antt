@@ -1,5 +1,5 @@
 -- What lies under the lock of one shard. All of it is this project's choice.
-use Rattle.std.specs.Prelude.{◌≡◌, ◌⊎◌, ℕ, ◌<◌, ◌≤◌, Bool, true, false, List, ◌++◌, length, take}
+use Rattle.std.specs.Prelude.{◌≡◌, ◌<◌, ◌≤◌, Bool, true, List, length, take}
 use Rattle.si_model.specs.declared.edits.Edit.{Edit}
 use Rattle.si_model.specs.declared.edits.TheConstants.{MOST_EDITS}
 use Rattle.si_model.specs.Journals.{IsAccepted}
@@ -30,13 +30,3 @@ pub record IsLockedShard (board : Board) (shard : ShardState) (seat : Seated Sha
   pub stored : shard.stored ≡ stored_by seat.view
   -- where it is spoiled, the edit to which memory was refused is left for it
   pub left : shard.spoiled ≡ true → seat.view.done < length seat.view.due
-
--- the shard has stored the first n of these edits behind what it had
-pub record StoresFirst (n : ℕ) (edits : List Edit) (old new : ShardState) : Type 0 where
-  pub id : new.id ≡ old.id
-  pub within : n ≤ length edits
-  pub stored : new.stored ≡ old.stored ++ take n edits
-  -- where it isn't spoiled, these are all, and it wasn't before
-  pub whole : new.spoiled ≡ false → (n ≡ length edits) × (old.spoiled ≡ false)
-  -- where it is spoiled, one was left, or it was spoiled before and stored none
-  pub spoiled : new.spoiled ≡ true → (n < length edits) ⊎ ((n ≡ 0) × (old.spoiled ≡ true))

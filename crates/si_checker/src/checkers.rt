@@ -70,7 +70,7 @@ impl<N: Name> Checker<N> {
             limit,
         } = parts;
         let locked_shards = locked_shards_of(alloc, hash, seats)?;
-        let locked_book = LockedBook::new(Book::new(alloc, hash, limit), book);
+        let locked_book = LockedBook::new(alloc, Book::new(alloc, hash, limit), book);
         Ok(Checker {
             alloc,
             words,

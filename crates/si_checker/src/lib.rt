@@ -5,6 +5,7 @@
 //! `si_accept`, `si_shard`, `si_core` and `si_words`.
 #![tactic(auto)]
 
+pub mod blocks;
 pub mod checkers;
 pub mod gates;
 pub mod laws;

@@ -1,5 +1,5 @@
 //! What lies under the lock of the book, and what calls do there.
-ghost use Rattle.std.specs.Prelude.{◌≡◌, ◌≤◌, None, [], length, take, drop, IfOk, OnOk, IfErr, OnErr};
+ghost use Rattle.std.specs.Prelude.{◌≡◌, ◌<◌, ◌≤◌, None, [], length, take, drop, IfOk, OnOk, IfErr, OnErr, IfSome};
 ghost use Rattle.std.specs.Vec.{vec_len};
 ghost use Rattle.si_model.specs.Journals.{IsAccepted, present, refusal_after};
 ghost use Rattle.si_accept.specs.Faults.{IsFaultOf};
@@ -7,8 +7,10 @@ ghost use Rattle.si_accept.specs.Statuses.{committed_among, doubtful_among};
 ghost use Rattle.si_words.specs.Entries.{IsBeginning, edits_of, entry};
 ghost use Rattle.si_words.specs.Seats.{seated};
 ghost use Rattle.si_words.specs.Views.{book_closed, new_book, with_entry};
+ghost use Rattle.si_checker.specs.Blocks.{IsBlockOf};
 ghost use Rattle.si_checker.specs.Calls.{SeesJournal, issuing};
 
+use crate::blocks::{Block, Copied};
 use crate::{Name, Statuses};
 use si_accept::{AcceptFault, Book};
 use si_model::{Edit, Key, Number, OutOfMemory, Txn, Value};
@@ -21,10 +23,15 @@ use std::snapshot::Snapshot;
 /// The most edits that are copied at once.
 pub const MOST_AT_ONCE: usize = 64;
 
+/// The most blocks that are kept: a shard that is 16 blocks behind the one that is furthest finds its next edits still.
+const MOST_BLOCKS: usize = 16;
+
 /// The book and its seat. Contracts see what the seat knows: its journal is the book's, with the pass of each edit.
 #[derive(Drop)]
 pub struct LockedBook<N: Name> {
     book: Book,
+    // Those that were copied last, the oldest first.
+    blocks: Vec<Block>,
     pub(crate) seat: BookSeat,
     of: PhantomData<N>,
 }
@@ -37,7 +44,7 @@ impl<N: Name> Model for LockedBook<N> {
 
     ghost view = { λ d. d.seat.view };
 
-    ghost invariant = { λ d. IsLockedBook N.board N.limit d.book d.seat };
+    ghost invariant = { λ d. IsLockedBook N.board N.limit d.book d.blocks.items d.seat };
 }
 
 impl<N: Name> LockedBook<N> {
@@ -46,9 +53,9 @@ impl<N: Name> LockedBook<N> {
     /// # Examples
     ///
     /// ```
-    /// let locked_book = LockedBook::new(Book::new(alloc, hash, limit), seat);
+    /// let locked_book = LockedBook::new(alloc, Book::new(alloc, hash, limit), seat);
     /// ```
-    pub fn new(book: Book, seat: BookSeat) -> Self
+    pub fn new(alloc: Global, book: Book, seat: BookSeat) -> Self
         requires book { book ≡ record { limit = N.limit; journal = [] } }
         requires seat { seat ≡ seated N.board.table (new_book N.board.passes) }
         ensures { result ≡ new_book N.board.passes }
@@ -57,6 +64,7 @@ impl<N: Name> LockedBook<N> {
         let _limit = book.limit();
         LockedBook {
             book,
+            blocks: Vec::new(alloc),
             seat,
             of: PhantomData,
         }
@@ -135,18 +143,51 @@ impl<N: Name> LockedBook<N> {
         words.close(&mut self.seat);
     }
 
-    /// Copies of the edits from this position on, [`MOST_AT_ONCE`] at most, which share the operations. If memory is
-    /// refused, there are fewer.
+    /// Copies of the edits from this position on, [`MOST_AT_ONCE`] at most, which share the operations. If memory is refused, there are
+    /// fewer, or none.
+    ///
+    /// They are copied once for all shards: whoever asks for what a kept block covers shares that block.
     ///
     /// # Examples
     ///
     /// ```
-    /// let edits = locked_book.copy(alloc, locked_shard.position()); // the next edits that the shard has left
+    /// let copied = locked_book.copy(alloc, locked_shard.position()); // the next edits that the shard has left
     /// ```
-    pub fn copy(&self, alloc: Global, position: u64) -> Vec<Edit>
+    pub fn copy(&mut self, alloc: Global, position: u64) -> Option<Copied>
+        requires { position ≤ length self.old.journal }
+        ensures locked_book { self.new ≡ self.old }
+        ensures edits { IfSome result (λ edits. edits ≡ take (length edits) (drop position (edits_of self.old.journal))) }
+        ensures some { IfSome result (λ edits. 0 < length edits) }
+        ensures most { IfSome result (λ edits. length edits ≤ MOST_AT_ONCE) }
+    {
+        if let Some(copied) = self.kept_from(position) {
+            return Some(copied);
+        }
+        let block = self.block_from(alloc, position)?;
+        let copied = block.copied_from(position)?;
+        self.keep(block);
+        Some(copied)
+    }
+
+    /// What a kept block has from this position on.
+    fn kept_from(&self, position: u64) -> Option<Copied>
+        ensures edits { IfSome result (λ edits. edits ≡ take (length edits) (drop position (edits_of self.now.journal))) }
+        ensures some { IfSome result (λ edits. 0 < length edits) }
+        ensures most { IfSome result (λ edits. length edits ≤ MOST_AT_ONCE) }
+    {
+        for block in &self.blocks {
+            if let Some(copied) = block.copied_from(position) {
+                return Some(copied);
+            }
+        }
+        None
+    }
+
+    /// A new block, which begins at this position. There is none where memory is refused for it.
+    fn block_from(&self, alloc: Global, position: u64) -> Option<Block>
         requires { position ≤ length self.now.journal }
-        ensures edits { result.items ≡ take (vec_len result) (drop position (edits_of self.now.journal)) }
-        ensures most { vec_len result ≤ MOST_AT_ONCE }
+        ensures block { IfSome result (λ block. IsBlockOf (edits_of self.now.journal) block) }
+        ensures first { IfSome result (λ block. block.first ≡ position) }
     {
         let left = &self.book.journal()[position as usize..];
         let count = if left.len() < MOST_AT_ONCE {
@@ -154,7 +195,18 @@ impl<N: Name> LockedBook<N> {
         } else {
             MOST_AT_ONCE
         };
-        copies(alloc, &left[..count])
+        Block::new(position, copies(alloc, &left[..count])).ok()
+    }
+
+    /// Keeps the block in place of the oldest. Where memory is refused for that, it is let go.
+    fn keep(&mut self, block: Block)
+        requires { IsBlockOf (edits_of self.old.journal) block }
+        ensures { self.new ≡ self.old }
+    {
+        if self.blocks.len() >= MOST_BLOCKS {
+            self.blocks.remove(0);
+        }
+        let _kept = self.blocks.push(block).is_ok();
     }
 
     /// The accepted edits, in the order of their numbers.
@@ -247,7 +299,10 @@ fn copies(alloc: Global, edits: &[Edit]) -> Vec<Edit>
     ensures edits { result.items ≡ take (vec_len result) edits.now }
     ensures most { vec_len result ≤ length edits.now }
 {
-    let mut copies = Vec::new(alloc);
+    // The room comes first, so that nothing grows under the book's lock.
+    let Ok(mut copies) = Vec::with_capacity(alloc, edits.len()) else {
+        return Vec::new(alloc);
+    };
     for edit in edits {
         let Ok(copy) = edit.try_clone() else {
             return copies;

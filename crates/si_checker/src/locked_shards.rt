@@ -1,20 +1,19 @@
 //! What lies under the lock of one shard, and what calls do there.
 ghost use Rattle.std.specs.Prelude.{◌≡◌, ℕ, ◌+◌, ◌<◌, ◌≤◌, Bool, true, false, IsTrue, ◌↔◌, ◌++◌, length, take, drop, slice_index, IfOk, OnOk, IfErr, OnErr};
-ghost use Rattle.std.specs.Vec.{vec_len};
 ghost use Rattle.si_model.specs.Journals.{IsAccepted, present};
 ghost use Rattle.si_shard.specs.Laws.{shard_id};
 ghost use Rattle.si_shard.specs.Shards.{findings_in};
 ghost use Rattle.si_words.specs.Entries.{IsBeginning, edits_of};
 ghost use Rattle.si_words.specs.Seats.{seated};
 ghost use Rattle.si_words.specs.Views.{new_shard, shard_closed, shard_counted, with_done, with_due, with_learned};
-ghost use Rattle.si_checker.specs.LockedShards.{StoresFirst, stored_by};
+ghost use Rattle.si_checker.specs.LockedShards.{stored_by};
 ghost use Rattle.si_checker.specs.declared.reports.ReportFault.TheVariants as fault;
 
 use crate::Name;
 use crate::locked_books::LockedBook;
 use crate::reports::{ReportFault, ShardReport};
 use si_model::laws::accepted_begins;
-use si_model::{Edit, Finding, MOST_EDITS, Number, OutOfMemory};
+use si_model::{Edit, Finding, MOST_EDITS, OutOfMemory};
 use si_shard::{KeyFault, MOST_SHARDS, Shard};
 use si_words::laws::{edits_begin, edits_keep_length};
 use si_words::{Pass, ShardSeat, Words};
@@ -134,19 +133,19 @@ impl<N: Name> LockedShard<N> {
     ///
     /// ```
     /// locked_shard.pull(&words, &mut locked_book);
-    /// let edits = locked_book.copy(alloc, locked_shard.position());
-    /// locked_shard.apply(&words, edits); // the book isn't needed for it
+    /// let copied = locked_book.copy(alloc, locked_shard.position())?;
+    /// locked_shard.apply(&words, copied.as_slice()); // the book isn't needed for it
     /// ```
-    pub fn apply(&mut self, words: &Words, edits: Vec<Edit>)
+    pub fn apply(&mut self, words: &Words, edits: &[Edit])
         requires words { words.now ≡ N.board }
-        requires next { edits.items ≡ take (vec_len edits) (drop self.old.seat.done (edits_of self.old.seat.due)) }
+        requires next { edits.now ≡ take (length edits.now) (drop self.old.seat.done (edits_of self.old.seat.due)) }
         ensures seat { self.new.seat ≡ with_done self.new.seat.done self.old.seat }
         ensures onward { self.old.seat.done ≤ self.new.seat.done }
-        ensures within { self.new.seat.done ≤ self.old.seat.done + vec_len edits }
-        ensures whole { self.new.spoiled ≡ false → (self.new.seat.done ≡ self.old.seat.done + vec_len edits) × (self.old.spoiled ≡ false) }
+        ensures within { self.new.seat.done ≤ self.old.seat.done + length edits.now }
+        ensures whole { self.new.spoiled ≡ false → (self.new.seat.done ≡ self.old.seat.done + length edits.now) × (self.old.spoiled ≡ false) }
     {
         accepted_begins();
-        store(&mut self.shard, edits);
+        self.shard.apply_first(edits);
         words.publish(&mut self.seat, self.shard.position());
         edits_keep_length();
     }
@@ -294,21 +293,5 @@ impl<N: Name> LockedShard<N> {
         ensures stays { self.old.seat.closed ≡ true → result ≡ true }
     {
         words.closed_at(&mut self.seat)
-    }
-}
-
-/// The shard stores these edits, one after the other, until memory is refused to one of them.
-fn store(shard: &mut Shard, edits: Vec<Edit>)
-    requires accepted { IsAccepted (shard.old.stored ++ edits.items) }
-    requires room { length shard.old.stored + vec_len edits ≤ MOST_EDITS }
-    ensures { (n : ℕ) × StoresFirst n edits.items shard.old shard.new }
-{
-    accepted_begins();
-    shard.look_ahead(&edits);
-    for edit in edits {
-        let number = Number(shard.position() + 1);
-        if shard.apply(number, edit).is_err() {
-            return;
-        }
     }
 }

@@ -5,7 +5,6 @@ ghost use Rattle.si_checker.specs.Workers.{EndsWork, TellsPosition};
 
 use crate::checkers::Checker;
 use crate::gates::{Gate, Place};
-use crate::locked_books::MOST_AT_ONCE;
 use crate::names::Name;
 use si_model::Number;
 use si_words::Pass;
@@ -13,7 +12,7 @@ use std::sync::Wait;
 use std::thread;
 use std::time::Duration;
 
-/// How long a worker rests once it has applied less than a whole batch, in microseconds: what comes meanwhile is applied together.
+/// How long a worker rests once it has applied all that there was, in microseconds: what comes meanwhile is applied together.
 const REST_MICROS: u64 = 200;
 
 /// How long it rests at most, in microseconds. Each rest in which nothing came doubles the next one up to here.
@@ -63,6 +62,15 @@ impl<N: Name> Checker<N> {
         requires { k < N.board.shards }
         ensures { TellsPosition result }
     {
+        let mut issued = 0;
+        self.work_on(rt, k, gate, &mut issued)
+    }
+
+    /// As [`Checker::work_one`], and tells how many edits were issued before. The shared block that was applied may end earlier.
+    fn work_on<R: Wait, G: Gate>(&self, rt: &R, k: usize, gate: &G, issued: &mut u64) -> Worked
+        requires { k < N.board.shards }
+        ensures { TellsPosition result }
+    {
         let mut book = self.locked_book.lock(rt);
         let locked_book = &mut *book;
         let Some(mut guard) = self.locked_shard(rt, k) else {
@@ -71,7 +79,8 @@ impl<N: Name> Checker<N> {
         let locked_shard = &mut *guard;
         locked_shard.pull(&self.words, locked_book);
         let before = locked_shard.position();
-        if before >= locked_book.len() {
+        *issued = locked_book.len();
+        if before >= *issued {
             drop(book);
             return if locked_shard.is_closed(&self.words) {
                 Worked::Closed
@@ -82,16 +91,16 @@ impl<N: Name> Checker<N> {
         if locked_shard.is_spoiled() {
             return Worked::Spoiled;
         }
-        let edits = locked_book.copy(self.alloc, before);
+        let copied = locked_book.copy(self.alloc, before);
         drop(book);
-        if edits.is_empty() {
+        let Some(copied) = copied else {
             return Worked::NoMemory;
-        }
+        };
         gate.at(Place::Apply {
             shard: k,
             number: Number(before + 1),
         });
-        locked_shard.apply(&self.words, edits);
+        locked_shard.apply(&self.words, copied.as_slice());
         let position = locked_shard.position();
         if position == before {
             return Worked::Spoiled;
@@ -114,14 +123,13 @@ impl<N: Name> Checker<N> {
         requires { k < N.board.shards }
         ensures { EndsWork result }
     {
-        let mut last = 0;
+        let mut issued = 0;
         for _ in rt.forever() {
-            match self.work_one(rt, k, gate) {
+            match self.work_on(rt, k, gate, &mut issued) {
                 Worked::Applied(position) => {
-                    if position.saturating_sub(last) < MOST_AT_ONCE as u64 {
+                    if position >= issued {
                         self.rest(rt, REST_MICROS);
                     }
-                    last = position;
                 }
                 Worked::Idle => self.wait_for_work(rt, k),
                 ended => return ended,

@@ -1,0 +1,15 @@
+-- Parts of the journal that were copied once. All of it is this project's choice.
+use Rattle.std.specs.Prelude.{◌≡◌, ℕ, ◌+◌, ◌≤◌, List, length, drop, take}
+use Rattle.si_model.specs.declared.edits.Edit.{Edit}
+use Rattle.si_checker.specs.declared.locked_books.TheConstants.{MOST_AT_ONCE}
+
+-- where a block begins in the journal, and its edits
+pub record BlockState : Type 0 where
+  pub first : ℕ
+  pub edits : List Edit
+
+-- the block's edits are those of the journal from where it begins, no more than are copied at once
+pub record IsBlockOf (journal : List Edit) (block : BlockState) : Type 0 where
+  pub within : block.first + length block.edits ≤ length journal
+  pub edits : block.edits ≡ take (length block.edits) (drop block.first journal)
+  pub most : length block.edits ≤ MOST_AT_ONCE
