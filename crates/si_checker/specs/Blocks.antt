@@ -8,8 +8,12 @@ pub record BlockState : Type 0 where
   pub first : ℕ
   pub edits : List Edit
 
--- the block's edits are those of the journal from where it begins, no more than are copied at once
-pub record IsBlockOf (journal : List Edit) (block : BlockState) : Type 0 where
+-- the block's edits are those of the journal from where it begins
+pub record IsPartOf (journal : List Edit) (block : BlockState) : Type 0 where
   pub within : block.first + length block.edits ≤ length journal
   pub edits : block.edits ≡ take (length block.edits) (drop block.first journal)
+
+-- they are no more than are copied at once
+pub record IsBlockOf (journal : List Edit) (block : BlockState) : Type 0 where
+  pub part : IsPartOf journal block
   pub most : length block.edits ≤ MOST_AT_ONCE

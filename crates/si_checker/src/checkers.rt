@@ -287,7 +287,7 @@ impl<N: Name> Checker<N> {
             return Err(ReportFault::Spoiled(k));
         };
         let locked_shard = &mut *guard;
-        locked_shard.settle(&self.words, locked_book)?;
+        locked_shard.settle(self.alloc, &self.words, locked_book)?;
         locked_shard.add_findings(found)
     }
 

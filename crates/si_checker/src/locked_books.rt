@@ -1,5 +1,5 @@
 //! What lies under the lock of the book, and what calls do there.
-ghost use Rattle.std.specs.Prelude.{◌≡◌, ◌<◌, ◌≤◌, None, [], length, take, drop, IfOk, OnOk, IfErr, OnErr, IfSome};
+ghost use Rattle.std.specs.Prelude.{◌≡◌, ◌+◌, ◌<◌, ◌≤◌, None, [], length, take, drop, IfOk, OnOk, IfErr, OnErr, IfSome};
 ghost use Rattle.std.specs.Vec.{vec_len};
 ghost use Rattle.si_model.specs.Journals.{IsAccepted, present, refusal_after};
 ghost use Rattle.si_accept.specs.Faults.{IsFaultOf};
@@ -7,13 +7,14 @@ ghost use Rattle.si_accept.specs.Statuses.{committed_among, doubtful_among};
 ghost use Rattle.si_words.specs.Entries.{IsBeginning, edits_of, entry};
 ghost use Rattle.si_words.specs.Seats.{seated};
 ghost use Rattle.si_words.specs.Views.{book_closed, new_book, with_entry};
-ghost use Rattle.si_checker.specs.Blocks.{IsBlockOf};
+ghost use Rattle.si_checker.specs.Blocks.{IsBlockOf, IsPartOf};
 ghost use Rattle.si_checker.specs.Calls.{SeesJournal, issuing};
 
-use crate::blocks::{Block, Copied};
+use crate::blocks::Block;
 use crate::{Name, Statuses};
 use si_accept::{AcceptFault, Book};
 use si_model::{Edit, Key, Number, OutOfMemory, Txn, Value};
+use si_shard::SharedEdits;
 use si_words::laws::edits_append;
 use si_words::{BookSeat, Pass, Words};
 use std::alloc::Global;
@@ -32,6 +33,8 @@ pub struct LockedBook<N: Name> {
     book: Book,
     // Those that were copied last, the oldest first.
     blocks: Vec<Block>,
+    // All that was left for a shard that settled.
+    left: Option<Block>,
     pub(crate) seat: BookSeat,
     of: PhantomData<N>,
 }
@@ -44,7 +47,7 @@ impl<N: Name> Model for LockedBook<N> {
 
     ghost view = { λ d. d.seat.view };
 
-    ghost invariant = { λ d. IsLockedBook N.board N.limit d.book d.blocks.items d.seat };
+    ghost invariant = { λ d. IsLockedBook N.board N.limit d.book d.blocks.items d.left d.seat };
 }
 
 impl<N: Name> LockedBook<N> {
@@ -65,6 +68,7 @@ impl<N: Name> LockedBook<N> {
         LockedBook {
             book,
             blocks: Vec::new(alloc),
+            left: None,
             seat,
             of: PhantomData,
         }
@@ -153,7 +157,7 @@ impl<N: Name> LockedBook<N> {
     /// ```
     /// let copied = locked_book.copy(alloc, locked_shard.position()); // the next edits that the shard has left
     /// ```
-    pub fn copy(&mut self, alloc: Global, position: u64) -> Option<Copied>
+    pub fn copy(&mut self, alloc: Global, position: u64) -> Option<SharedEdits>
         requires { position ≤ length self.old.journal }
         ensures locked_book { self.new ≡ self.old }
         ensures edits { IfSome result (λ edits. edits ≡ take (length edits) (drop position (edits_of self.old.journal))) }
@@ -169,8 +173,61 @@ impl<N: Name> LockedBook<N> {
         Some(copied)
     }
 
+    /// Copies of all edits from this position on, which share the operations. There are none where none is left, or memory is refused.
+    ///
+    /// They are copied once for all shards that ask one after the other, unless one asks from further back.
+    ///
+    /// # Examples
+    ///
+    /// ```
+    /// let left = locked_book.copy_left(alloc, locked_shard.position()); // all that the shard has left
+    /// ```
+    pub fn copy_left(&mut self, alloc: Global, position: u64) -> Option<SharedEdits>
+        requires { position ≤ length self.old.journal }
+        ensures locked_book { self.new ≡ self.old }
+        ensures edits { IfSome result (λ edits. edits ≡ drop position (edits_of self.old.journal)) }
+        ensures some { IfSome result (λ edits. 0 < length edits) }
+    {
+        if let Some(left) = self.left_from(position) {
+            return Some(left);
+        }
+        let block = self.whole_from(alloc, position)?;
+        let left = block.copied_from(position)?;
+        self.left = Some(block);
+        Some(left)
+    }
+
+    /// What was left for another shard has from this position on, if that is all.
+    fn left_from(&self, position: u64) -> Option<SharedEdits>
+        ensures edits { IfSome result (λ edits. edits ≡ drop position (edits_of self.now.journal)) }
+        ensures some { IfSome result (λ edits. 0 < length edits) }
+    {
+        let Some(block) = &self.left else {
+            return None;
+        };
+        if block.end() != self.book.journal().len() as u64 {
+            return None;
+        }
+        block.copied_from(position)
+    }
+
+    /// A new block of all edits from this position on. There is none where memory is refused for it.
+    fn whole_from(&self, alloc: Global, position: u64) -> Option<Block>
+        requires { position ≤ length self.now.journal }
+        ensures block { IfSome result (λ block. IsPartOf (edits_of self.now.journal) block) }
+        ensures first { IfSome result (λ block. block.first ≡ position) }
+        ensures whole { IfSome result (λ block. block.first + length block.edits ≡ length self.now.journal) }
+    {
+        let left = &self.book.journal()[position as usize..];
+        let edits = copies(alloc, left);
+        if edits.len() < left.len() {
+            return None;
+        }
+        Block::new(position, edits).ok()
+    }
+
     /// What a kept block has from this position on.
-    fn kept_from(&self, position: u64) -> Option<Copied>
+    fn kept_from(&self, position: u64) -> Option<SharedEdits>
         ensures edits { IfSome result (λ edits. edits ≡ take (length edits) (drop position (edits_of self.now.journal))) }
         ensures some { IfSome result (λ edits. 0 < length edits) }
         ensures most { IfSome result (λ edits. length edits ≤ MOST_AT_ONCE) }

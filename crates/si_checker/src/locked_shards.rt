@@ -13,8 +13,8 @@ use crate::Name;
 use crate::locked_books::LockedBook;
 use crate::reports::{ReportFault, ShardReport};
 use si_model::laws::accepted_begins;
-use si_model::{Edit, Finding, MOST_EDITS, OutOfMemory};
-use si_shard::{KeyFault, MOST_SHARDS, Shard};
+use si_model::{Finding, MOST_EDITS, OutOfMemory};
+use si_shard::{KeyFault, MOST_SHARDS, Shard, SharedEdits};
 use si_words::laws::{edits_begin, edits_keep_length};
 use si_words::{Pass, ShardSeat, Words};
 use std::alloc::Global;
@@ -134,15 +134,15 @@ impl<N: Name> LockedShard<N> {
     /// ```
     /// locked_shard.pull(&words, &mut locked_book);
     /// let copied = locked_book.copy(alloc, locked_shard.position())?;
-    /// locked_shard.apply(&words, copied.as_slice()); // the book isn't needed for it
+    /// locked_shard.apply(&words, copied); // the book isn't needed for it
     /// ```
-    pub fn apply(&mut self, words: &Words, edits: &[Edit])
+    pub fn apply(&mut self, words: &Words, edits: SharedEdits)
         requires words { words.now ≡ N.board }
-        requires next { edits.now ≡ take (length edits.now) (drop self.old.seat.done (edits_of self.old.seat.due)) }
+        requires next { edits ≡ take (length edits) (drop self.old.seat.done (edits_of self.old.seat.due)) }
         ensures seat { self.new.seat ≡ with_done self.new.seat.done self.old.seat }
         ensures onward { self.old.seat.done ≤ self.new.seat.done }
-        ensures within { self.new.seat.done ≤ self.old.seat.done + length edits.now }
-        ensures whole { self.new.spoiled ≡ false → (self.new.seat.done ≡ self.old.seat.done + length edits.now) × (self.old.spoiled ≡ false) }
+        ensures within { self.new.seat.done ≤ self.old.seat.done + length edits }
+        ensures whole { self.new.spoiled ≡ false → (self.new.seat.done ≡ self.old.seat.done + length edits) × (self.old.spoiled ≡ false) }
     {
         accepted_begins();
         self.shard.apply_first(edits);
@@ -157,10 +157,11 @@ impl<N: Name> LockedShard<N> {
     /// # Examples
     ///
     /// ```
-    /// locked_shard.settle(&words, &mut locked_book)?; // the shard has applied the whole journal
+    /// locked_shard.settle(alloc, &words, &mut locked_book)?; // the shard has applied the whole journal
     /// ```
     pub fn settle(
         &mut self,
+        alloc: Global,
         words: &Words,
         locked_book: &mut LockedBook<N>,
     ) -> Result<(), ReportFault>
@@ -172,7 +173,11 @@ impl<N: Name> LockedShard<N> {
         ensures spoiled { OnErr result (self.new ≡ record self.old { seat = with_due locked_book.old.journal self.old.seat; spoiled = true }) }
     {
         self.pull(words, locked_book);
-        if self.shard.catch_up(locked_book.journal()).is_err() {
+        let applied = match locked_book.copy_left(alloc, self.shard.position()) {
+            Some(left) => self.shard.apply_whole(left),
+            None => self.shard.catch_up(locked_book.journal()),
+        };
+        if applied.is_err() {
             return Err(ReportFault::Spoiled(self.seat.number()));
         }
         words.publish(&mut self.seat, self.shard.position());
@@ -184,7 +189,7 @@ impl<N: Name> LockedShard<N> {
     /// # Examples
     ///
     /// ```
-    /// locked_shard.settle(&words, &mut locked_book)?;
+    /// locked_shard.settle(alloc, &words, &mut locked_book)?;
     /// locked_shard.add_findings(&mut all)?; // behind those of other shards
     /// ```
     pub fn add_findings(&self, found: &mut Vec<Finding>) -> Result<(), ReportFault>

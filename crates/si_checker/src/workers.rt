@@ -1,12 +1,15 @@
 //! What workers do: each shard's edits are applied in batches, with the book's lock held for no more than their copies.
-ghost use Rattle.std.specs.Prelude.{◌≡◌, ◌<◌};
+ghost use Rattle.std.specs.Prelude.{◌≡◌, ◌<◌, length, take, drop};
+ghost use Rattle.si_words.specs.Entries.{edits_of};
 ghost use Rattle.si_words.specs.Views.{with_count, with_marks};
 ghost use Rattle.si_checker.specs.Workers.{EndsWork, TellsPosition};
 
 use crate::checkers::Checker;
 use crate::gates::{Gate, Place};
+use crate::locked_shards::LockedShard;
 use crate::names::Name;
 use si_model::Number;
+use si_shard::{MOST_SHARDS, SharedEdits};
 use si_words::Pass;
 use std::sync::Wait;
 use std::thread;
@@ -14,6 +17,10 @@ use std::time::Duration;
 
 /// How long a worker rests once it has applied all that there was, in microseconds: what comes meanwhile is applied together.
 const REST_MICROS: u64 = 200;
+
+/// So long it rests for each shard that there is, where that is more: it takes as much to wake each of many workers as each of a few,
+/// but each has less to do then.
+const REST_MICROS_A_SHARD: u64 = 50;
 
 /// How long it rests at most, in microseconds. Each rest in which nothing came doubles the next one up to here.
 const MOST_REST_MICROS: u64 = 3_200;
@@ -96,11 +103,26 @@ impl<N: Name> Checker<N> {
         let Some(copied) = copied else {
             return Worked::NoMemory;
         };
+        self.apply_next(k, gate, locked_shard, copied)
+    }
+
+    /// The shard applies the edits, which come next for it, and publishes how far it came.
+    fn apply_next<G: Gate>(
+        &self,
+        k: usize,
+        gate: &G,
+        locked_shard: &mut LockedShard<N>,
+        edits: SharedEdits,
+    ) -> Worked
+        requires { edits ≡ take (length edits) (drop locked_shard.old.seat.done (edits_of locked_shard.old.seat.due)) }
+        ensures { TellsPosition result }
+    {
+        let before = locked_shard.position();
         gate.at(Place::Apply {
             shard: k,
             number: Number(before + 1),
         });
-        locked_shard.apply(&self.words, copied.as_slice());
+        locked_shard.apply(&self.words, edits);
         let position = locked_shard.position();
         if position == before {
             return Worked::Spoiled;
@@ -128,7 +150,7 @@ impl<N: Name> Checker<N> {
             match self.work_on(rt, k, gate, &mut issued) {
                 Worked::Applied(position) => {
                     if position >= issued {
-                        self.rest(rt, REST_MICROS);
+                        self.rest(rt, self.least_rest());
                     }
                 }
                 Worked::Idle => self.wait_for_work(rt, k),
@@ -145,7 +167,7 @@ impl<N: Name> Checker<N> {
     fn wait_for_work<R: Wait>(&self, rt: &R, k: usize)
         requires { k < N.board.shards }
     {
-        let mut micros = REST_MICROS;
+        let mut micros = self.least_rest();
         for _ in rt.forever() {
             self.rest(rt, micros);
             if self.has_work(rt, k) {
@@ -153,6 +175,11 @@ impl<N: Name> Checker<N> {
             }
             micros = longer(micros);
         }
+    }
+
+    /// How long a worker rests first.
+    fn least_rest(&self) -> u64 {
+        REST_MICROS.max(REST_MICROS_A_SHARD * self.shards().min(MOST_SHARDS) as u64)
     }
 
     /// Sleeps so long, or until the checker was closed or a caller waits for the workers.

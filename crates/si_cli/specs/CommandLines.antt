@@ -11,7 +11,8 @@ use Rattle.clap.specs.Words.{all_of, fault_of, first_of, new_app, new_rule, one_
 use Rattle.si_model.specs.declared.edits.TheConstants.{MOST_EDITS}
 use Rattle.si_shard.specs.declared.shards.TheConstants.{MOST_SHARDS}
 use Rattle.si_cli.specs.declared.command_lines.TheConstants.{MOST_EVERY}
-use Rattle.si_run.specs.declared.options.Options.{Options}
+use Rattle.si_run.specs.Outputs.{Terms}
+use Rattle.si_run.specs.Runs.{terms_by}
 use Rattle.si_run.specs.declared.options.TheConstants.{USUAL_SHARDS}
 use Rattle.si_cli.specs.declared.settings.TheConstants.{MOST_FILES}
 use Rattle.si_cli.specs.declared.settings.Settings.{Settings}
@@ -111,15 +112,14 @@ explain_given rows = flag_given (codes "explain") rows
 abbrev pub files_given : List Row → List Text
 files_given rows = unwrap_or (all_of (codes "FILE") rows) []
 
--- the options that the words ask for, with what holds where they ask for nothing
-abbrev pub options_given : List Row → Options
-options_given rows = record {
-  shards = shards_given rows;
+-- what the words say of the text, with what holds where they say nothing
+abbrev pub terms_of : List Row → Terms
+terms_of rows = record {
+  limit = MOST_EDITS;
   every = every_given rows;
   only_new = only_new_given rows;
   explain = explain_given rows;
   expected = expected_given rows;
-  limit = MOST_EDITS;
 }
 
 -- reports come after a number of items in that range, if they come on the way
@@ -132,9 +132,10 @@ IsExpectedInRange expected = IfSome expected (λ n. n ≤ MOST_EDITS)
 
 -- what settings say of the rows
 pub record IsGiven (rows : List Row) (settings : Settings) : Type 0 where
-  pub options : settings.options ≡ options_given rows
+  pub terms : terms_by settings.options ≡ terms_of rows
+  pub spread : settings.options.shards ≡ shards_given rows
   pub shards : (1 ≤ settings.options.shards) × (settings.options.shards ≤ MOST_SHARDS)
-  pub every : IsEveryInRange settings.options.every
+  pub every : IsEveryInRange (every_given rows)
   pub together : is_new_alone rows ≡ false
   pub expected : IsExpectedInRange settings.options.expected
   pub files : map (λ file. file.now) settings.files.items ≡ files_given rows

@@ -11,7 +11,7 @@ use Rattle.si_cli.specs.declared.settings.SettingsFault.TheVariants as unsettled
 use Rattle.si_run.specs.declared.statuses.ExitStatus.{ExitStatus}
 use Rattle.si_run.specs.declared.faults.RunFault.{RunFault}
 use Rattle.si_run.specs.declared.faults.RunFault.TheVariants as fault
-use Rattle.si_cli.specs.CommandLines.{AreTooManyFiles, every_given, expected_given, explain_given, files_given, is_new_alone, only_new_given, rows_given, sicheck_app}
+use Rattle.si_cli.specs.CommandLines.{AreTooManyFiles, files_given, is_new_alone, rows_given, sicheck_app, terms_of}
 use Rattle.si_run.specs.Outputs.{Terms, exit_code}
 use Rattle.si_run.specs.Runs.{AppendsBeginning, BeginsText, IsTrueDeviceFault, WritesText}
 use Rattle.si_text.specs.Devices.{Input, Lent, Output}
@@ -134,13 +134,7 @@ EndsUnsettled unsettled.TooManyFiles out err result = IsUntouched out × Fails e
 
 -- what the words say of the text
 abbrev pub terms_given : List Text → Terms
-terms_given words = record {
-  limit = MOST_EDITS;
-  every = every_given (rows_given words);
-  only_new = only_new_given (rows_given words);
-  explain = explain_given (rows_given words);
-  expected = expected_given (rows_given words);
-}
+terms_given words = terms_of (rows_given words)
 
 -- `--new` comes with `--every`, and few enough files are named
 abbrev pub AreSettled : List Text → Type 0

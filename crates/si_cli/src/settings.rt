@@ -2,7 +2,8 @@
 
 ghost use Rattle.std.specs.Prelude.{◌≡◌, ◌≤◌, ◌&&◌, ℕ, map, false, is_none, IfOk};
 ghost use Rattle.clap.specs.Words.{found_of, rows_of};
-ghost use Rattle.si_cli.specs.CommandLines.{IsToldBy, IsReadOf, NumberFits, NumbersFit, files_given, every_given, expected_given, options_given, flag_given, number_given, shards_given};
+ghost use Rattle.si_cli.specs.CommandLines.{IsToldBy, IsReadOf, NumberFits, NumbersFit, files_given, every_given, expected_given, flag_given, number_given, shards_given, terms_of};
+ghost use Rattle.si_run.specs.Runs.{every_by, terms_by};
 
 use crate::Options;
 use crate::command_lines::{EVERY, EXPECT, EXPLAIN, FILE, NEW, SHARDS, parse};
@@ -13,6 +14,7 @@ use si_shard::MOST_SHARDS;
 use std::alloc::{AllocError, Global};
 use std::convert::AsStr;
 use std::fmt;
+use std::num::NonZeroU64;
 
 /// The most files that are read.
 pub const MOST_FILES: usize = 8;
@@ -131,11 +133,14 @@ fn shards_of(check: &ArgMatches<'_>) -> usize
 }
 
 /// The number of the option `--every`.
-fn every_of(check: &ArgMatches<'_>) -> Option<u64>
+fn every_of(check: &ArgMatches<'_>) -> Option<NonZeroU64>
     requires { NumbersFit (rows_of (found_of check.now)) }
-    ensures { result ≡ every_given (rows_of (found_of check.now)) }
+    ensures { every_by result ≡ every_given (rows_of (found_of check.now)) }
 {
-    number_of(check, EVERY)
+    match number_of(check, EVERY) {
+        Some(every) => NonZeroU64::new(every),
+        None => None,
+    }
 }
 
 /// The number of the option of that name, which has to lie in a range.
@@ -167,7 +172,8 @@ fn has_flag(check: &ArgMatches<'_>, name: &str) -> bool
 /// The program's options.
 fn options_of(check: &ArgMatches<'_>) -> Options
     requires { NumbersFit (rows_of (found_of check.now)) }
-    ensures given { result ≡ options_given (rows_of (found_of check.now)) }
+    ensures terms { terms_by result ≡ terms_of (rows_of (found_of check.now)) }
+    ensures spread { result.shards ≡ shards_given (rows_of (found_of check.now)) }
     ensures shards { (1 ≤ result.shards) × (result.shards ≤ MOST_SHARDS) }
 {
     Options {

@@ -23,6 +23,7 @@ use si_text::{ByteSink, ByteSource};
 use std::alloc::AllocGlobal;
 use std::fmt::{Debug, Display};
 use std::hash::RandomState;
+use std::num::NonZeroU64;
 use std::process::Abort;
 use std::random::RandomSource;
 use std::slice;
@@ -166,7 +167,11 @@ fn check_with(rt: &impl Host, options: Options, input: &str, output: &str, statu
 
 /// The same, with reports after each so many lines.
 fn check(rt: &impl Host, every: Option<u64>, input: &str, output: &str, status: ExitStatus) {
-    check_with(rt, Options { every, ..PLAIN }, input, output, status);
+    let options = Options {
+        every: every.and_then(NonZeroU64::new),
+        ..PLAIN
+    };
+    check_with(rt, options, input, output, status);
 }
 
 /// What the program answers on these words over these devices.

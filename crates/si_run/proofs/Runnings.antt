@@ -4,7 +4,7 @@ use Rattle.std.proofs.lemmas.List.{map_push}
 use Rattle.si_text.specs.Inputs.{Item, with_first, lines_of, is_line_feed, is_blank, item_of, numbered, items_after, items_of, Yields}
 use Rattle.si_text.specs.Lines.{edit_of}
 use Rattle.si_text.specs.LineBuffers.{bytes_held, bytes_to_come, IsFresh, IsSpent, CountsBytes}
-use Rattle.si_text.specs.declared.line_buffers.LineBuffer.{LineBuffer}
+use Rattle.si_text.specs.declared.read_lines.LineBuffer.{LineBuffer}
 use Rattle.si_intake.specs.declared.items.Item.{Item as Told}
 use Rattle.si_intake.specs.Ends.{Putting}
 use Rattle.si_intake.specs.Items.{has_last}

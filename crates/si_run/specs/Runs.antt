@@ -1,6 +1,8 @@
 -- What a run does to its devices.
 use Rattle.std.specs.Prelude.{◌≡◌, ◌≢◌, ◌⊎◌, ℕ, ◌-◌, ◌^◌, ◌<◌, ◌≤◌, ◌++◌, Bool, true, false, List, [], ◌∷◌, length, map, slice_index_or, Option, Some, None, ⊤}
 use Rattle.std.specs.Option.{option_map}
+use Rattle.std.specs.declared.num.NonZeroU64.{NonZeroU64}
+use Rattle.std.specs.Int.NonZero.{non_zero_u64_get}
 use Rattle.std.specs.Io.KnownBytes.{Appends}
 use Rattle.si_text.specs.Devices.{Lent, Output}
 use Rattle.si_text.specs.Inputs.{items_of}
@@ -23,9 +25,13 @@ pub record IsRunnable (options : Options) : Type 0 where
   pub some_edits : 1 ≤ options.limit
   pub most_edits : options.limit ≤ MOST_EDITS
 
+-- after how many decided items each report on the way comes, as a number
+abbrev pub every_by : Option NonZeroU64 → Option ℕ
+every_by every = option_map non_zero_u64_get every
+
 -- what the options say of the text: nothing of the shards, so their number changes none
 abbrev pub terms_by : Options → Terms
-terms_by options = record { limit = options.limit; every = options.every; only_new = options.only_new; explain = options.explain; expected = options.expected }
+terms_by options = record { limit = options.limit; every = every_by options.every; only_new = options.only_new; explain = options.explain; expected = options.expected }
 
 -- ---- one input
 

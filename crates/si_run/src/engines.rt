@@ -10,7 +10,7 @@ ghost use Rattle.si_text.specs.Texts.{shortage_lines};
 ghost use Rattle.si_words.specs.Seats.{seated};
 ghost use Rattle.si_words.specs.Views.{new_pass};
 ghost use Rattle.si_run.specs.declared.faults.RunFault.TheVariants.{Memory};
-ghost use Rattle.si_run.specs.Runs.{terms_by};
+ghost use Rattle.si_run.specs.Runs.{every_by, terms_by};
 ghost use Rattle.si_run.specs.Takings.{IsLeftAt};
 ghost use Rattle.si_run.specs.Outputs.{behind_report, changes_at, counted, decision_by, is_due, is_short_of, item_text, journal_after, progress_after, reason_after, refusal_line, report_at, report_due, short_line, sourced, start, status_at, violations_at, whole_report_at};
 
@@ -25,6 +25,7 @@ use si_text::{
 use si_words::laws::{edits_append, lone_pass_issues_all};
 use std::alloc::{AllocError, Global};
 use std::marker::{Model, PhantomData};
+use std::num::NonZeroU64;
 use std::sync::Wait;
 
 /// What became of an item that was decided.
@@ -42,7 +43,7 @@ pub enum Decision {
 pub struct Engine<N: Name> {
     alloc: Global,
     pass: Pass,
-    every: Option<u64>,
+    every: Option<NonZeroU64>,
     only_new: bool,
     explain: bool,
     expected: Option<u64>,
@@ -55,10 +56,11 @@ pub struct Engine<N: Name> {
 
 impl<N: Name> Model for Engine<N> {
     ghost use Rattle.si_run.specs.Engines.{EngineState, IsEngine, engine_state};
+    ghost use Rattle.si_run.specs.Runs.{every_by};
 
     ghost Value = { EngineState };
 
-    ghost view = { λ e. engine_state (record { limit = N.limit; every = e.every; only_new = e.only_new; explain = e.explain; expected = e.expected }) e.pass.view e.decided e.refused e.told.items };
+    ghost view = { λ e. engine_state (record { limit = N.limit; every = every_by e.every; only_new = e.only_new; explain = e.explain; expected = e.expected }) e.pass.view e.decided e.refused e.told.items };
 
     ghost invariant = { λ e. IsEngine N.board e.pass e.decided e.refused e.told.items };
 }
@@ -346,12 +348,11 @@ impl<N: Name> Engine<N> {
     }
 }
 
-fn is_due(every: Option<u64>, decided: u64) -> bool
-    ensures { result ≡ is_due every decided }
+fn is_due(every: Option<NonZeroU64>, decided: u64) -> bool
+    ensures { result ≡ is_due (every_by every) decided }
 {
     match every {
+        Some(every) => decided % every.get() == 0,
         None => false,
-        Some(0) => decided == 0,
-        Some(every) => decided % every == 0,
     }
 }

@@ -1,5 +1,7 @@
 //! What a caller chooses of a run.
 
+use std::num::NonZeroU64;
+
 /// How many shards there are where nothing asks for another number.
 pub const USUAL_SHARDS: usize = 4;
 
@@ -8,8 +10,8 @@ pub const USUAL_SHARDS: usize = 4;
 pub struct Options {
     /// How many shards the findings are kept in, 1 to 16. It changes no text.
     pub shards: usize,
-    /// After how many decided items each report on the way comes, at least 1; none comes where it isn't given.
-    pub every: Option<u64>,
+    /// After how many decided items each report on the way comes; none comes where it isn't given.
+    pub every: Option<NonZeroU64>,
     /// Whether a report on the way tells only which violations came or went since the one before.
     pub only_new: bool,
     /// Whether a finding that has evidence is followed by it.

@@ -1,6 +1,5 @@
 -- What an edit is on the keys of a shard, made on each of them by itself, key by key.
-use Rattle.std.proofs.Common.{◌≡◌, ◌⊎◌, ◌∙◌, ◌<◌, ◌≤◌, inl, inr, ℕ, ◌+◌, Bool, true, false, List, [], ◌∷◌, ◌++◌, length, slice_get, Some, refl, sym, ap, subst, arith, IfOk, Ok, Err}
-use Rattle.std.specs.declared.result.Result.{Result}
+use Rattle.std.proofs.Common.{◌≡◌, ◌⊎◌, ◌∙◌, ◌<◌, ◌≤◌, inl, inr, ℕ, ◌+◌, Bool, true, false, List, [], ◌∷◌, ◌++◌, length, slice_get, Option, Some, None, refl, sym, ap, subst, arith}
 use Rattle.std.specs.List.{Contains}
 use Rattle.std.proofs.lemmas.Option.{slice_get_within}
 use Rattle.si_lists.proofs.Members.{contains_get, get_contains}
@@ -20,16 +19,16 @@ use Rattle.si_shard.specs.declared.key_changes.Change.TheVariants as change
 use Rattle.si_shard.specs.declared.shard_ids.ShardId.{ShardId}
 use Rattle.si_shard.specs.declared.key_states.KeyStates.{KeyStates}
 use Rattle.si_shard.specs.declared.key_changes.TxnHead.{TxnHead}
-use Rattle.si_shard.specs.AppliedEdits.{IsAccessChange, change_by}
-use Rattle.si_shard.specs.KeyChanges.{LeadsTo}
+use Rattle.si_shard.specs.AppliedEdits.{IsAccessChange, TxnBefore, change_by}
+use Rattle.si_shard.specs.KeyChanges.{CanChange}
 use Rattle.si_shard.specs.KeyStates.{IsChangedAt, IsMadeAt, IsOn, StaysAt}
 use Rattle.si_shard.specs.ShardIds.{is_ours}
-use Rattle.si_shard.specs.SingleEdits.{AreByKey, CanBeMadeBy, IsKeyAt, IsMadeBy, IsPlaced, IsTold, KeyPlace}
+use Rattle.si_shard.specs.SingleEdits.{AreByKey, CanBeMadeBy, IsKeyAt, IsMadeBy, IsPlaced, KeyPlace}
 use Rattle.si_shard.proofs.ByKey.{AreHeld, all_held, before_or_at, held_more, none_held, one_key, still}
 
 -- what the edit is where a key of the shard is accessed can be made there
 abbrev pub CanBeAccessed : ShardId → List Op → TxnHead → Edit → KeyStates → Type 0
-CanBeAccessed id ops h e ks = (x : List ℕ) (c : Change) → is_ours id x ≡ true → IsAccessChange ops h e x c → (Q R : OnKey) × IsOn ks x Q × LeadsTo (c ∷ []) Q R
+CanBeAccessed id ops h e ks = (x : List ℕ) (c : Change) → is_ours id x ≡ true → IsAccessChange (Some (h, ops)) e x c → (Q : OnKey) × IsOn ks x Q × CanChange c Q
 
 module _ (id : ShardId) (ops : List Op) (h : TxnHead) (e : Edit) (list : List KeyPlace) (by : AreByKey id ops list) where
   -- an operation on the key is among the first i of the list
@@ -39,7 +38,7 @@ module _ (id : ShardId) (ops : List Op) (h : TxnHead) (e : Edit) (list : List Ke
   -- what was made of the first i: each key's change, but of the key of the next one, whose accesses so far are these
   pub record AreMade (i : ℕ) (hand : List Placed) (old new : KeyStates) : Type 0 where
     pub keys : (x : List ℕ) → (StaysAt x old new × (HasCome i x → IsKeyAt list i x))
-        ⊎ (IsMadeAt x (change_by h e (accesses x ops) ∷ []) old new × HasCome i x × (IsKeyAt list i x → ⊥))
+        ⊎ (IsMadeAt x (change_by h e (accesses x ops)) old new × HasCome i x × (IsKeyAt list i x → ⊥))
     pub held : (x : List ℕ) → IsKeyAt list i x → AreHeld id ops list by x i hand
 
   pub none_made : (ks : KeyStates) → AreMade 0 [] ks ks
@@ -89,13 +88,13 @@ module _ (id : ShardId) (ops : List Op) (h : TxnHead) (e : Edit) (list : List Ke
 
     abbrev Now : List ℕ → KeyStates → Type 0
     Now y new = (StaysAt y old new × (HasCome (i + 1) y → IsKeyAt list (i + 1) y))
-        ⊎ (IsMadeAt y (change_by h e (accesses y ops) ∷ []) old new × HasCome (i + 1) y × (IsKeyAt list (i + 1) y → ⊥))
+        ⊎ (IsMadeAt y (change_by h e (accesses y ops)) old new × HasCome (i + 1) y × (IsKeyAt list (i + 1) y → ⊥))
 
     -- what is so of another key stays so
     other : (y : List ℕ) → (y ≡ x → ⊥) → (new : KeyStates) → StaysAt y mid new → Now y new
     other y differs new stays = elim (w.keys y) [
       | inl k ↦ inl ((λ Q on. stays Q (k.0 Q on)), (λ c. absurd (differs (one_key id ops list by i y x (k.1 (earlier y differs c)) here))))
-      | inr k ↦ inr ((λ Q R on leads. stays R (k.0 Q R on leads)), longer y k.1, gone y differs (longer y k.1))
+      | inr k ↦ inr ((λ Q on can. stays _ (k.0 Q on can)), longer y k.1, gone y differs (longer y k.1))
     ]
 
     -- ---- where the next one is on the key too
@@ -120,19 +119,19 @@ module _ (id : ShardId) (ops : List Op) (h : TxnHead) (e : Edit) (list : List Ke
       accessed = subst (λ l. Contains l (record { place = d.2; access = access_of p })) all_here (push_last hand (record { place = d.2; access = access_of p }))
 
       -- its change can be made
-      pub can_make_here : CanBeAccessed id ops h e old → (Q R : OnKey) × IsOn mid x Q × LeadsTo (change_by h e more ∷ []) Q R
+      pub can_make_here : CanBeAccessed id ops h e old → (Q : OnKey) × IsOn mid x Q × CanChange (change_by h e more) Q
       can_make_here can =
           let k = can x (change_by h e more) ours (record { place = d.2; access = access_of p }, accessed, ap (change_by h e) all_here) in
-          (k.0, k.1, fresh k.0 k.2, k.3)
+          (k.0, fresh k.0 k.1, k.2)
 
-      pub made_on : (new : KeyStates) → IsChangedAt x (change_by h e more ∷ []) mid new → AreMade (i + 1) [] old new
+      pub made_on : (new : KeyStates) → IsChangedAt x (change_by h e more) mid new → AreMade (i + 1) [] old new
       made_on new changed = record {
         keys = λ y. by_key y (same_key y x) refl;
         held = λ y key. none_held id ops list by y (i + 1) (λ j l has. by_next y key (j, l, has) (same_key y x) refl);
       }
         where
           at_key : Now x new
-          at_key = inr ((λ Q R on leads. changed.made Q R (fresh Q on) (subst (λ ys. LeadsTo (change_by h e ys ∷ []) Q R) (sym all_here) leads)), (i, omega arith, here), last)
+          at_key = inr (subst (λ ys. IsMadeAt x (change_by h e ys) old new) all_here (λ Q on. changed.made Q (fresh Q on)), (i, omega arith, here), last)
 
           by_key : (y : List ℕ) (b : Bool) → same_key y x ≡ b → Now y new
           by_key y true s = subst (λ z. Now z new) (sym (same_key_is y x s)) at_key
@@ -161,71 +160,44 @@ module _ (id : ShardId) (ops : List Op) (h : TxnHead) (e : Edit) (list : List Ke
         let k = placed j d at in
         (subst (λ y. is_ours id y ≡ true) key k.ours, (record { place = d.2; access = access_of k.op }, (accesses_are x ops (record { place = d.2; access = access_of k.op })).1 (k.op, k.at, k.key ∙ key, refl)))
 
-    changed : (x : List ℕ) (c : Change) → is_ours id x ≡ true → IsAccessChange ops h e x c → IsMadeAt x (c ∷ []) old new
+    changed : (x : List ℕ) (c : Change) → is_ours id x ≡ true → IsAccessChange (Some (h, ops)) e x c → IsMadeAt x c old new
     changed x c ours (a, there, is) = elim (w.keys x) [
       | inl k ↦ absurd (none_next x (k.1 (came x a ours there)))
-      | inr k ↦ subst (λ d. IsMadeAt x (d ∷ []) old new) (sym is) k.0
+      | inr k ↦ subst (λ d. IsMadeAt x d old new) (sym is) k.0
     ]
 
-    others : (x : List ℕ) → (is_ours id x ≡ true → (c : Change) → IsAccessChange ops h e x c → ⊥) → StaysAt x old new
+    others : (x : List ℕ) → (is_ours id x ≡ true → (c : Change) → IsAccessChange (Some (h, ops)) e x c → ⊥) → StaysAt x old new
     others x none = elim (w.keys x) [
       | inl k ↦ k.0
       | inr k ↦ (let r = is_accessed x k.1 in absurd (none r.0 (change_by h e (accesses x ops)) (r.1.0, r.1.1, refl)))
     ]
 
-  -- ---- whether it is anything
-
-  nothing : length list ≡ 0 → (x : List ℕ) (c : Change) → is_ours id x ≡ true → IsAccessChange ops h e x c → ⊥
-  nothing empty x c ours (a, there, is) =
-      let k = (accesses_are x ops a).0 there in
-      let m = (by.exact x a.place).1 (record { op = k.0; at = k.1; key = k.2; ours = ours }) in
-      let at = contains_get list m.0 m.1 in
-      absurd (omega (arith, empty, slice_get_within list at.0 m.0 at.1))
-
-  something : 0 < length list → (x : List ℕ) × (c : Change) × (is_ours id x ≡ true) × IsAccessChange ops h e x c
-  something some = (let f = first list some in of_entry f.0 f.1)
-    where
-      first : (l : List KeyPlace) → 0 < length l → (d : KeyPlace) × (slice_get l 0 ≡ Some d)
-      first [] some = absurd (omega (arith, some))
-      first (d ∷ l) some = (d, refl)
-
-      of_entry : (d : KeyPlace) → slice_get list 0 ≡ Some d → (x : List ℕ) × (c : Change) × (is_ours id x ≡ true) × IsAccessChange ops h e x c
-      of_entry d at =
-          let k = placed 0 d at in
-          let a : Placed = record { place = d.2; access = access_of k.op } in
-          (d.1.now, change_by h e (accesses d.1.now ops), k.ours, (a, (accesses_are d.1.now ops a).1 (k.op, k.at, k.key, refl), refl))
-
 -- all was made of an edit that sets no key up
 module _ (id : ShardId) (ops : List Op) (h : TxnHead) (list : List KeyPlace) (by : AreByKey id ops list) where
-  pub made_all : (e : Edit) → ((x : List ℕ) (v : Value) → e ≡ edit.SetUp x v → ⊥) → (i : ℕ) → length list ≤ i → (hand : List Placed) (old new : KeyStates) → AreMade id ops h e list by i hand old new → IsMadeBy id ops h e old new
+  pub made_all : (e : Edit) → ((x : List ℕ) (v : Value) → e ≡ edit.SetUp x v → ⊥) → (i : ℕ) → length list ≤ i → (hand : List Placed) (old new : KeyStates) → AreMade id ops h e list by i hand old new → IsMadeBy id (Some (h, ops)) e old new
   made_all (edit.Arrive T) other i end hand old new w = record { changed = changed id ops h (edit.Arrive T) list by i end hand old new w; others = others id ops h (edit.Arrive T) list by i end hand old new w }
   made_all (edit.Resolve u o) other i end hand old new w = record { changed = changed id ops h (edit.Resolve u o) list by i end hand old new w; others = others id ops h (edit.Resolve u o) list by i end hand old new w }
   made_all (edit.Withdraw u) other i end hand old new w = record { changed = changed id ops h (edit.Withdraw u) list by i end hand old new w; others = others id ops h (edit.Withdraw u) list by i end hand old new w }
   made_all (edit.SetUp x v) other i end hand old new w = absurd (other x v refl)
 
-  pub told_made : (e : Edit) → ((x : List ℕ) (v : Value) → e ≡ edit.SetUp x v → ⊥) → (touches : Bool) → (touches ≡ false → length list ≡ 0) → (touches ≡ true → 0 < length list) → IsTold id ops h e touches
-  told_made (edit.Arrive T) other touches none some = record { nothing = λ q. nothing id ops h (edit.Arrive T) list by (none q); something = λ q. something id ops h (edit.Arrive T) list by (some q) }
-  told_made (edit.Resolve u o) other touches none some = record { nothing = λ q. nothing id ops h (edit.Resolve u o) list by (none q); something = λ q. something id ops h (edit.Resolve u o) list by (some q) }
-  told_made (edit.Withdraw u) other touches none some = record { nothing = λ q. nothing id ops h (edit.Withdraw u) list by (none q); something = λ q. something id ops h (edit.Withdraw u) list by (some q) }
-  told_made (edit.SetUp x v) other touches none some = absurd (other x v refl)
-
 -- what such an edit is where a key is accessed can be made there
-pub can_access : (id : ShardId) (ops : List Op) (h : TxnHead) (e : Edit) (keys : KeyStates) → ((x : List ℕ) (v : Value) → e ≡ edit.SetUp x v → ⊥) → CanBeMadeBy id ops h e keys → CanBeAccessed id ops h e keys
+pub can_access : (id : ShardId) (ops : List Op) (h : TxnHead) (e : Edit) (keys : KeyStates) → ((x : List ℕ) (v : Value) → e ≡ edit.SetUp x v → ⊥) → CanBeMadeBy id (Some (h, ops)) e keys → CanBeAccessed id ops h e keys
 can_access id ops h (edit.Arrive T) keys other can = can
 can_access id ops h (edit.Resolve u o) keys other can = can
 can_access id ops h (edit.Withdraw u) keys other can = can
 can_access id ops h (edit.SetUp x v) keys other can = absurd (other x v refl)
 
+-- an edit of no transaction that is known is nothing, unless it sets a key up
+pub none_known : (id : ShardId) (e : Edit) (keys : KeyStates) → ((x : List ℕ) (v : Value) → e ≡ edit.SetUp x v → ⊥) → IsMadeBy id None e keys keys
+none_known id (edit.Arrive T) keys other = record { changed = λ x c o k. absurd k; others = λ x none Q on. on }
+none_known id (edit.Resolve u o) keys other = record { changed = λ x c o k. absurd k; others = λ x none Q on. on }
+none_known id (edit.Withdraw u) keys other = record { changed = λ x c o k. absurd k; others = λ x none Q on. on }
+none_known id (edit.SetUp x v) keys other = absurd (other x v refl)
+
 -- ---- a set-up
 
-pub set_up_made : (id : ShardId) (ops : List Op) (h : TxnHead) (y : List ℕ) (v : Value) (old new : KeyStates) → is_ours id y ≡ true → IsChangedAt y (change.SetUp v ∷ []) old new → IsMadeBy id ops h (edit.SetUp y v) old new
-set_up_made id ops h y v old new ours changed = record {
-  changed = λ x c o k. subst (λ d. IsMadeAt x (d ∷ []) old new) (sym k.1) (subst (λ z. IsMadeAt z (change.SetUp v ∷ []) old new) (sym k.0) changed.made);
+pub set_up_made : (id : ShardId) (t : Option TxnBefore) (y : List ℕ) (v : Value) (old new : KeyStates) → is_ours id y ≡ true → IsChangedAt y (change.SetUp v) old new → IsMadeBy id t (edit.SetUp y v) old new
+set_up_made id t y v old new ours changed = record {
+  changed = λ x c o k. subst (λ d. IsMadeAt x d old new) (sym k.1) (subst (λ z. IsMadeAt z (change.SetUp v) old new) (sym k.0) changed.made);
   others = λ x none. changed.others x (λ f. none (ap (is_ours id) f ∙ ours) (change.SetUp v) (f, refl));
 }
-
--- what is so of a set-up, whatever the operations, is so of the edit that is one
-pub as_set_up : {E : Type 0} (r : Result Bool E) (id : ShardId) (ops : List Op) (h : TxnHead) (e : Edit) (y : List ℕ) (v : Value) → e ≡ edit.SetUp y v
-    → IfOk r (λ t. (ops : List Op) (h : TxnHead) → IsTold id ops h (edit.SetUp y v) t) → IfOk r (IsTold id ops h e)
-as_set_up (Ok t) id ops h e y v is k = subst (λ d. IsTold id ops h d t) (sym is) (k ops h)
-as_set_up (Err x) id ops h e y v is k = tt

@@ -2,15 +2,12 @@ pub mod OnKeys
 pub mod Beginnings
 pub mod ArrivalPlaces
 pub mod KeyChanges
-pub mod Concerning
 pub mod Crossing
-pub mod PresentOn
-pub mod Keeps
 pub mod EachKey
 pub mod AppliedEach
 pub mod ShardFindings
-pub mod Coming
 pub mod ShardsTogether
 pub mod Changing
 pub mod ByKey
 pub mod Listing
+pub mod Pieces

@@ -18,7 +18,7 @@ use Rattle.si_judge.proofs.Bare.{empty_bare, nothing_found}
 use Rattle.si_judge.proofs.Following.{nothing_of_history}
 use Rattle.si_shard.specs.declared.key_changes.Change.{Change}
 use Rattle.si_shard.specs.declared.key_states.KeyStates.{KeyStates}
-use Rattle.si_shard.specs.KeyChanges.{LeadsTo}
+use Rattle.si_shard.specs.KeyChanges.{CanChange, changed_on}
 use Rattle.si_shard.specs.KeyStates.{HasFinding, IsChangedAt, IsChangedIn, IsLeft, IsMadeAt, IsOn, IsOnKey, IsToldAt, ShowsAt, StaysAt}
 
 -- ---- where nothing is kept
@@ -47,8 +47,8 @@ of_history x (Some s) Q shows = shows.1.indexes.history
 abbrev pub standing : Bool → Kept → Option Kept
 standing is_bare s = cond is_bare None (Some s)
 
-module _ (x : List ℕ) (cs : List Change) (old new : KeyStates) (s : Kept) (is_bare has_findings : Bool)
-    (key : s.key ≡ x) (shows : (Q R : OnKey) → ShowsAt x (get same_key old.states x) Q → LeadsTo cs Q R → Shows cases R s) (left : IsLeft is_bare has_findings s)
+module _ (x : List ℕ) (c : Change) (old new : KeyStates) (s : Kept) (is_bare has_findings : Bool)
+    (key : s.key ≡ x) (shows : (Q : OnKey) → ShowsAt x (get same_key old.states x) Q → CanChange c Q → Shows cases (changed_on c Q) s) (left : IsLeft is_bare has_findings s)
     (states : (y : List ℕ) → get same_key new.states y ≡ cond (same_key x y) (standing is_bare s) (get same_key old.states y))
     (found : (y : List ℕ) → contains (slice_cmp nat_cmp) new.found y ≡ cond (same_key x y) has_findings (contains (slice_cmp nat_cmp) old.found y)) where
   stands : get same_key new.states x ≡ standing is_bare s
@@ -61,9 +61,10 @@ module _ (x : List ℕ) (cs : List Change) (old new : KeyStates) (s : Kept) (is_
   shown R r true e = (r.indexes.history, (left.bare R r).0 e)
   shown R r false e = (key, r)
 
-  made : IsMadeAt x cs old new
-  made Q R on leads =
-      let r = shows Q R on.shows leads in
+  made : IsMadeAt x c old new
+  made Q on can =
+      let R = changed_on c Q in
+      let r = shows Q on.shows can in
       record {
         shows = subst (λ o. ShowsAt x o R) (sym stands) (shown R r is_bare refl);
         found = subst (λ b. (b ≡ true) ↔ HasFinding x R) (sym told) (subst (λ y. (has_findings ≡ true) ↔ HasFinding y R) key (left.found R r));
@@ -77,7 +78,7 @@ module _ (x : List ℕ) (cs : List Change) (old new : KeyStates) (s : Kept) (is_
       by false at = subst (λ o. IsOnKey y o (contains (slice_cmp nat_cmp) new.found y) Q) (sym (states y ∙ ap (λ b. cond b (standing is_bare s) (get same_key old.states y)) at))
           (subst (λ f. IsOnKey y (get same_key old.states y) f Q) (sym (found y ∙ ap (λ b. cond b has_findings (contains (slice_cmp nat_cmp) old.found y)) at)) on)
 
-  pub changed_after : IsChangedAt x cs old new
+  pub changed_after : IsChangedAt x c old new
   changed_after = record { made = made; others = others }
 
 -- the key is told so, and each other as before
@@ -107,15 +108,15 @@ told_before x s Q test had shown tells same =
     ((λ e. told.0 (sym same ∙ e)), (λ h. same ∙ told.1 h))
 
 -- what the calls of one change give: what is kept was changed, and it stayed or was dropped
-module _ (x : List ℕ) (cs : List Change) (old new : KeyStates) (is_bare has_findings : Bool)
+module _ (x : List ℕ) (c : Change) (old new : KeyStates) (is_bare has_findings : Bool)
     (found_by : IsToldAt x has_findings old.found new.found) where
-  pub changed_kept : IsChangedIn x cs is_bare has_findings old.states new.states → is_bare ≡ false → IsChangedAt x cs old new
-  changed_kept made e = changed_after x cs old new made.kept is_bare has_findings made.key made.shows made.left
+  pub changed_kept : IsChangedIn x c is_bare has_findings old.states new.states → is_bare ≡ false → IsChangedAt x c old new
+  changed_kept made e = changed_after x c old new made.kept is_bare has_findings made.key made.shows made.left
       (λ y. made.states.0 y ∙ ap (λ b. cond (same_key x y) (standing b made.kept) (get same_key old.states y)) (sym e)) found_by
 
-  pub changed_dropped : (mid : HashMap (List ℕ) Kept KeyHash) → IsChangedIn x cs is_bare has_findings old.states mid → is_bare ≡ true
-      → ((y : List ℕ) → get same_key new.states y ≡ cond (same_key x y) None (get same_key mid y)) → IsChangedAt x cs old new
-  changed_dropped mid made e dropped = changed_after x cs old new made.kept is_bare has_findings made.key made.shows made.left (λ y. by y (same_key x y) refl) found_by
+  pub changed_dropped : (mid : HashMap (List ℕ) Kept KeyHash) → IsChangedIn x c is_bare has_findings old.states mid → is_bare ≡ true
+      → ((y : List ℕ) → get same_key new.states y ≡ cond (same_key x y) None (get same_key mid y)) → IsChangedAt x c old new
+  changed_dropped mid made e dropped = changed_after x c old new made.kept is_bare has_findings made.key made.shows made.left (λ y. by y (same_key x y) refl) found_by
     where
       by : (y : List ℕ) (b : Bool) → same_key x y ≡ b → get same_key new.states y ≡ cond (same_key x y) (standing is_bare made.kept) (get same_key old.states y)
       by y true at = dropped y ∙ ap (λ b. cond b None (get same_key mid y)) at ∙ ap (λ b. standing b made.kept) (sym e)

@@ -17,7 +17,7 @@ use Rattle.si_model.specs.declared.parts.OnKey.{OnKey}
 use Rattle.si_model.specs.declared.findings.Finding.{Finding}
 use Rattle.si_model.specs.declared.edits.Edit.{Edit}
 use Rattle.si_model.specs.Operations.{same_key}
-use Rattle.si_model.specs.Parts.{Present, on_key}
+use Rattle.si_model.specs.Parts.{on_key}
 use Rattle.si_model.specs.Order.{finding_cmp, fields}
 use Rattle.si_model.specs.Findings.{cases, findings, findings_on}
 use Rattle.si_model.specs.History.{IsOfHistory}
@@ -33,10 +33,8 @@ use Rattle.si_shard.specs.declared.applied_edits.Applied.{Applied}
 use Rattle.si_shard.specs.ShardIds.{is_ours}
 use Rattle.si_shard.specs.AppliedEdits.{AreApplied}
 use Rattle.si_shard.specs.KeyStates.{AreOn, IsOn, findings_at}
-use Rattle.si_shard.specs.Keeping.{AreKept}
 use Rattle.si_shard.specs.Shards.{findings_in}
 use Rattle.si_shard.proofs.OnKeys.{none_empty, of_history}
-use Rattle.si_shard.proofs.PresentOn.{on_key_same}
 
 -- ---- lists of findings one after the other
 
@@ -114,23 +112,3 @@ module _ (id : ShardId) (edits : List Edit) (a : Applied) (accepted : IsAccepted
       (flat_sorted At at_key (λ x. (key_findings_exact cases (on_shard id edits x) (exact x) x).ascends) a.keys.found.keys ordered)
       (IsStrictlySortedBy-filter finding_cmp (λ f. is_ours id f.key) (findings (present edits)) (findings_exact (present edits) (present_history edits accepted)).ascends)
       (λ f. (one_way f, other_way f))
-
--- ---- the findings of the kept edits
-
--- where the same is on the shard's keys the same is found there
-found_there : (id : ShardId) (P Q : Present) → ((x : List ℕ) → is_ours id x ≡ true → on_key x P ≡ on_key x Q) → (f : Finding) → Contains (findings_in id P) f → Contains (findings_in id Q) f
-found_there id P Q same f c =
-    let among = Contains-from_filter (λ g. is_ours id g.key) (findings P) f c in
-    let same_found = keys_are_apart P f.key ∙ ap (findings_on cases f.key) (same f.key among.1) ∙ sym (keys_are_apart Q f.key) in
-    let at = subst (λ fs. Contains fs f) same_found (Contains-filter (λ g. same_key g.key f.key) (findings P) f among.0 (same_key_from f.key f.key refl)) in
-    Contains-filter (λ g. is_ours id g.key) (findings Q) f (Contains-from_filter (λ g. same_key g.key f.key) (findings Q) f at).0 among.1
-
-pub kept_findings : (id : ShardId) (stored kept : List Edit) → IsAccepted stored → AreKept id stored kept → findings_in id (present kept) ≡ findings_in id (present stored)
-kept_findings id stored kept accepted sound =
-    unique_list (findings_in id (present kept)) (findings_in id (present stored))
-    (IsStrictlySortedBy-filter finding_cmp (λ f. is_ours id f.key) (findings (present kept)) (findings_exact (present kept) (present_history kept sound.accepted)).ascends)
-    (IsStrictlySortedBy-filter finding_cmp (λ f. is_ours id f.key) (findings (present stored)) (findings_exact (present stored) (present_history stored accepted)).ascends)
-    (λ f. (found_there id (present kept) (present stored) same f, found_there id (present stored) (present kept) (λ x ours. sym (same x ours)) f))
-  where
-    same : (x : List ℕ) → is_ours id x ≡ true → on_key x (present kept) ≡ on_key x (present stored)
-    same x ours = ap (on_key x) sound.leave ∙ on_key_same id x ours (present stored)

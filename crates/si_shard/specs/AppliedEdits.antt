@@ -1,12 +1,10 @@
 -- What stored edits made of the keys of one shard. All of it is this project's choice.
-use Rattle.std.specs.Prelude.{◌≡◌, ℕ, true, false, List, [], Some, None, Option, slice_get}
+use Rattle.std.specs.Prelude.{◌≡◌, ℕ, true, false, List, Some, None, Option, slice_get}
 use Rattle.std.specs.List.{Contains}
 use Rattle.si_model.specs.declared.operations.Op.{Op}
 use Rattle.si_model.specs.declared.parts.Part.{Part}
 use Rattle.si_model.specs.declared.parts.Placed.{Placed}
 use Rattle.si_model.specs.declared.transactions.Status.{Status}
-use Rattle.si_model.specs.declared.transactions.Status.TheVariants as status
-use Rattle.si_model.specs.declared.transactions.Txn.{Txn}
 use Rattle.si_model.specs.declared.edits.Edit.{Edit}
 use Rattle.si_model.specs.declared.edits.Edit.TheVariants as edit
 use Rattle.si_model.specs.Parts.{accesses, on_key}
@@ -16,74 +14,53 @@ use Rattle.si_shard.specs.declared.shard_ids.ShardId.{ShardId}
 use Rattle.si_shard.specs.declared.applied_edits.Applied.{Applied}
 use Rattle.si_shard.specs.declared.arrivals.Arrival.{Arrival}
 use Rattle.si_shard.specs.declared.key_changes.TxnHead.{TxnHead}
+use Rattle.si_shard.specs.declared.key_changes.KnownTxn.{KnownTxn}
 use Rattle.si_shard.specs.declared.key_changes.Change.{Change}
 use Rattle.si_shard.specs.declared.key_changes.Change.TheVariants as change
 use Rattle.si_shard.specs.Arrivals.{AreKnown}
 use Rattle.si_shard.specs.ShardIds.{is_ours}
 use Rattle.si_shard.specs.KeyStates.{IsOn}
 
--- T does something on a key of the shard
-abbrev pub TouchesShard : ShardId → Txn → Type 0
-TouchesShard id T = (x : List ℕ) × (a : Placed) × (is_ours id x ≡ true) × Contains (accesses x T.ops) a
-
 -- what the edits made of the shard: on each of its keys is what is present there, and on other keys nothing; the index of arrivals is
 -- that of a beginning
 pub record AreApplied (id : ShardId) (edits : List Edit) (a : Applied) : Type 0 where
   pub ours : (x : List ℕ) → is_ours id x ≡ true → IsOn a.keys x (on_key x (present edits))
   pub others : (x : List ℕ) → is_ours id x ≡ false → IsOn a.keys x empty_key
-  pub arrivals : AreKnown edits a.arrivals
+  pub arrivals : AreKnown id edits a.arrivals
 
 -- ---- one edit
 
--- the operations of a transaction that arrives
-abbrev pub ops_in : Edit → List Op
-ops_in (edit.Arrive T) = T.ops
-ops_in (edit.Resolve u o) = []
-ops_in (edit.Withdraw u) = []
-ops_in (edit.SetUp x v) = []
+-- a transaction as it is before an edit: all but its operations, and these
+abbrev pub TxnBefore : Type 0
+TxnBefore = TxnHead × List Op
 
-abbrev pub ops_in_some : Option Edit → List Op
-ops_in_some None = []
-ops_in_some (Some e) = ops_in e
+-- what the program knows so of a transaction, if there is one
+abbrev pub known : Option KnownTxn → Option TxnBefore
+known None = None
+known (Some t) = Some (t.head, t.ops.now)
 
--- the operations of that arrival
-abbrev pub ops_at : List Edit → Option Arrival → List Op
-ops_at edits None = []
-ops_at edits (Some a) = ops_in_some (slice_get edits a.place)
+-- the transaction that arrives by the edit, with that status
+abbrev pub txn_in : Status → Edit → Option TxnBefore
+txn_in s (edit.Arrive T) = Some (record { id = T.id; start = T.start; status = s }, T.ops)
+txn_in s (edit.Resolve u o) = None
+txn_in s (edit.Withdraw u) = None
+txn_in s (edit.SetUp x v) = None
 
--- the operations of the edit's transaction, whose arrival is looked for among the kept edits
-abbrev pub ops_for : (ℕ → Option Arrival) → List Edit → Edit → List Op
-ops_for at edits (edit.Arrive T) = T.ops
-ops_for at edits (edit.Resolve u o) = ops_at edits (at u.0)
-ops_for at edits (edit.Withdraw u) = ops_at edits (at u.0)
-ops_for at edits (edit.SetUp x v) = []
-
--- what stands where there is no transaction
-abbrev pub no_head : TxnHead
-no_head = record { id = record { 0 = 0 }; start = record { 0 = 0 }; status = status.Aborted }
-
--- a transaction that arrives, with that status, but for its operations
-abbrev pub head_in : Status → Edit → TxnHead
-head_in s (edit.Arrive T) = record { id = T.id; start = T.start; status = s }
-head_in s (edit.Resolve u o) = no_head
-head_in s (edit.Withdraw u) = no_head
-head_in s (edit.SetUp x v) = no_head
-
-abbrev pub head_in_some : Status → Option Edit → TxnHead
-head_in_some s None = no_head
-head_in_some s (Some e) = head_in s e
+abbrev pub txn_in_some : Status → Option Edit → Option TxnBefore
+txn_in_some s None = None
+txn_in_some s (Some e) = txn_in s e
 
 -- the transaction of that arrival
-abbrev pub head_at : List Edit → Option Arrival → TxnHead
-head_at edits None = no_head
-head_at edits (Some a) = head_in_some a.status (slice_get edits a.place)
+abbrev pub txn_at : List Edit → Option Arrival → Option TxnBefore
+txn_at edits None = None
+txn_at edits (Some a) = txn_in_some a.status (slice_get edits a.place)
 
--- the edit's transaction, whose arrival is looked for among the kept edits
-abbrev pub head_for : (ℕ → Option Arrival) → List Edit → Edit → TxnHead
-head_for at edits (edit.Arrive T) = record { id = T.id; start = T.start; status = T.status }
-head_for at edits (edit.Resolve u o) = head_at edits (at u.0)
-head_for at edits (edit.Withdraw u) = head_at edits (at u.0)
-head_for at edits (edit.SetUp x v) = no_head
+-- the edit's transaction, if there is one, whose arrival is looked for among the stored edits
+abbrev pub txn_for : (ℕ → Option Arrival) → List Edit → Edit → Option TxnBefore
+txn_for at edits (edit.Arrive T) = Some (record { id = T.id; start = T.start; status = T.status }, T.ops)
+txn_for at edits (edit.Resolve u o) = txn_at edits (at u.0)
+txn_for at edits (edit.Withdraw u) = txn_at edits (at u.0)
+txn_for at edits (edit.SetUp x v) = None
 
 -- what the transaction does on a key that it accesses so
 abbrev pub part_by : TxnHead → List Placed → Part
@@ -96,13 +73,14 @@ change_by h (edit.Resolve u o) ys = change.Resolve (part_by h ys) o
 change_by h (edit.Withdraw u) ys = change.Withdraw (part_by h ys)
 change_by h (edit.SetUp x v) ys = change.SetUp v
 
--- the transaction h with these operations does something on the key x, and this is what the edit is there
-abbrev pub IsAccessChange : List Op → TxnHead → Edit → List ℕ → Change → Type 0
-IsAccessChange ops h e x c = (a : Placed) × Contains (accesses x ops) a × (c ≡ change_by h e (accesses x ops))
+-- the transaction, if there is one, does something on the key x, and this is what the edit is there
+abbrev pub IsAccessChange : Option TxnBefore → Edit → List ℕ → Change → Type 0
+IsAccessChange None e x c = ⊥
+IsAccessChange (Some t) e x c = (a : Placed) × Contains (accesses x t.1) a × (c ≡ change_by t.0 e (accesses x t.1))
 
--- what the edit, whose transaction is h with these operations, is on the key x
-abbrev pub IsChangeOn : List Op → TxnHead → Edit → List ℕ → Change → Type 0
-IsChangeOn ops h (edit.Arrive T) x c = IsAccessChange ops h (edit.Arrive T) x c
-IsChangeOn ops h (edit.Resolve u o) x c = IsAccessChange ops h (edit.Resolve u o) x c
-IsChangeOn ops h (edit.Withdraw u) x c = IsAccessChange ops h (edit.Withdraw u) x c
-IsChangeOn ops h (edit.SetUp y v) x c = (x ≡ y) × (c ≡ change.SetUp v)
+-- what the edit, whose transaction this is, is on the key x
+abbrev pub IsChangeOn : Option TxnBefore → Edit → List ℕ → Change → Type 0
+IsChangeOn t (edit.Arrive T) x c = IsAccessChange t (edit.Arrive T) x c
+IsChangeOn t (edit.Resolve u o) x c = IsAccessChange t (edit.Resolve u o) x c
+IsChangeOn t (edit.Withdraw u) x c = IsAccessChange t (edit.Withdraw u) x c
+IsChangeOn t (edit.SetUp y v) x c = (x ≡ y) × (c ≡ change.SetUp v)

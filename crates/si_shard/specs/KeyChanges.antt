@@ -1,5 +1,5 @@
 -- What an edit is on one key. All of it is this project's choice.
-use Rattle.std.specs.Prelude.{◌≡◌, List, [], ◌∷◌, None, ⊤}
+use Rattle.std.specs.Prelude.{◌≡◌, None, ⊤}
 use Rattle.std.specs.List.{Contains}
 use Rattle.si_model.specs.declared.parts.OnKey.{OnKey}
 use Rattle.si_model.specs.Findings.{cases}
@@ -32,10 +32,3 @@ pub record CanChange (c : Change) (Q : OnKey) : Type 0 where
 pub record IsChanged (c : Change) (old new : Kept) : Type 0 where
   pub key : new.key ≡ old.key
   pub shows : (Q : OnKey) → Shows cases Q old → CanChange c Q → Shows cases (changed_on c Q) new
-
--- ---- changes one after the other
-
--- the changes can be made on a key on which Q is, one after the other, and leave R there
-abbrev pub LeadsTo : List Change → OnKey → OnKey → Type 0
-LeadsTo [] Q R = Q ≡ R
-LeadsTo (c ∷ cs) Q R = CanChange c Q × LeadsTo cs (changed_on c Q) R

@@ -13,7 +13,7 @@ use Rattle.si_model.specs.History.{IsOfHistory}
 use Rattle.si_judge.specs.Kept.{IsBare, Kept, Shows}
 use Rattle.si_shard.specs.declared.key_changes.Change.{Change}
 use Rattle.si_shard.specs.declared.key_states.KeyStates.{KeyStates}
-use Rattle.si_shard.specs.KeyChanges.{LeadsTo}
+use Rattle.si_shard.specs.KeyChanges.{CanChange, changed_on}
 
 -- what is kept of the key x shows Q, or nothing is kept and Q is bare
 abbrev pub ShowsAt : List ℕ → Option Kept → OnKey → Type 0
@@ -49,10 +49,10 @@ pub record IsLeft (is_bare has_findings : Bool) (s : Kept) : Type 0 where
   pub found : (Q : OnKey) → Shows cases Q s → (has_findings ≡ true) ↔ HasFinding s.key Q
 
 -- what is kept of the key x was changed so, or begun, and is left so
-pub record IsChangedIn {S : Type 0} (x : List ℕ) (cs : List Change) (is_bare has_findings : Bool) (old new : HashMap (List ℕ) Kept S) : Type 0 where
+pub record IsChangedIn {S : Type 0} (x : List ℕ) (c : Change) (is_bare has_findings : Bool) (old new : HashMap (List ℕ) Kept S) : Type 0 where
   pub kept : Kept
   pub key : kept.key ≡ x
-  pub shows : (Q R : OnKey) → ShowsAt x (get same_key old x) Q → LeadsTo cs Q R → Shows cases R kept
+  pub shows : (Q : OnKey) → ShowsAt x (get same_key old x) Q → CanChange c Q → Shows cases (changed_on c Q) kept
   pub left : IsLeft is_bare has_findings kept
   pub states : Updates same_key old new x (Some kept)
 
@@ -60,15 +60,15 @@ pub record IsChangedIn {S : Type 0} (x : List ℕ) (cs : List Change) (is_bare h
 abbrev pub IsToldAt : List ℕ → Bool → BTreeSet (List ℕ) → BTreeSet (List ℕ) → Type 0
 IsToldAt x b old new = (y : List ℕ) → contains (slice_cmp nat_cmp) new y ≡ cond (same_key x y) b (contains (slice_cmp nat_cmp) old y)
 
--- where Q may be on the key x, that may be there to which the changes lead
-abbrev pub IsMadeAt : List ℕ → List Change → KeyStates → KeyStates → Type 0
-IsMadeAt x cs old new = (Q R : OnKey) → IsOn old x Q → LeadsTo cs Q R → IsOn new x R
+-- where Q may be on the key x and the change can be made there, that may be there which it makes of Q
+abbrev pub IsMadeAt : List ℕ → Change → KeyStates → KeyStates → Type 0
+IsMadeAt x c old new = (Q : OnKey) → IsOn old x Q → CanChange c Q → IsOn new x (changed_on c Q)
 
 -- what may be on the key x may be there still
 abbrev pub StaysAt : List ℕ → KeyStates → KeyStates → Type 0
 StaysAt x old new = (Q : OnKey) → IsOn old x Q → IsOn new x Q
 
 -- the key x was changed so, and no other
-pub record IsChangedAt (x : List ℕ) (cs : List Change) (old new : KeyStates) : Type 0 where
-  pub made : IsMadeAt x cs old new
+pub record IsChangedAt (x : List ℕ) (c : Change) (old new : KeyStates) : Type 0 where
+  pub made : IsMadeAt x c old new
   pub others : (y : List ℕ) → y ≢ x → StaysAt y old new

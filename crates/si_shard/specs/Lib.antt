@@ -3,8 +3,8 @@ pub mod ShardIds
 pub mod Arrivals
 pub mod AppliedEdits
 pub mod KeyChanges
-pub mod Keeping
 pub mod KeyStates
 pub mod Shards
+pub mod StoredEdits
 pub mod SingleEdits
 pub mod Laws

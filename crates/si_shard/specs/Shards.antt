@@ -10,7 +10,6 @@ use Rattle.si_shard.specs.declared.shard_ids.ShardId.{ShardId}
 use Rattle.si_shard.specs.declared.applied_edits.Applied.{Applied}
 use Rattle.si_shard.specs.ShardIds.{is_ours}
 use Rattle.si_shard.specs.AppliedEdits.{AreApplied}
-use Rattle.si_shard.specs.Keeping.{AreKept}
 
 -- the findings of what is present that are on keys of the shard, in order
 abbrev pub findings_in : ShardId → Present → List Finding
@@ -25,12 +24,11 @@ pub record ShardState : Type 0 where
   -- whether memory was refused to an edit
   pub spoiled : Bool
 
--- what a shard knows: edits that are accepted, those of them that it keeps, and unless it is spoiled what these make of its keys
-pub record IsShard (id : ShardId) (stored kept : List Edit) (applied : Applied) (spoiled : Bool) : Type 0 where
+-- what a shard knows: edits that are accepted, and unless it is spoiled what these make of its keys
+pub record IsShard (id : ShardId) (stored : List Edit) (applied : Applied) (spoiled : Bool) : Type 0 where
   pub within : id.shard < id.shards
   pub accepted : IsAccepted stored
-  pub keeps : AreKept id stored kept
-  pub whole : spoiled ≡ false → AreApplied id kept applied
+  pub whole : spoiled ≡ false → AreApplied id stored applied
 
 -- the shard has stored the first n of these edits behind what it had
 pub record StoresFirst (n : ℕ) (edits : List Edit) (old new : ShardState) : Type 0 where

@@ -1,5 +1,5 @@
 -- What an edit is on the keys of a shard, made on each of them by itself. All of it is this project's choice.
-use Rattle.std.specs.Prelude.{◌≡◌, ◌↔◌, ℕ, Bool, Some, slice_get, true, false, List, [], ◌∷◌}
+use Rattle.std.specs.Prelude.{◌≡◌, ◌↔◌, ℕ, Option, Some, slice_get, true, List}
 use Rattle.std.specs.List.{Contains}
 use Rattle.std.specs.List.Sorted.{IsStrictlySortedBy}
 use Rattle.std.specs.declared.cmp.Ordering.{Ordering}
@@ -14,20 +14,19 @@ use Rattle.si_model.specs.Operations.{key_of}
 use Rattle.si_shard.specs.declared.shard_ids.ShardId.{ShardId}
 use Rattle.si_shard.specs.declared.key_changes.Change.{Change}
 use Rattle.si_shard.specs.declared.key_states.KeyStates.{KeyStates}
-use Rattle.si_shard.specs.declared.key_changes.TxnHead.{TxnHead}
 use Rattle.si_shard.specs.ShardIds.{is_ours}
-use Rattle.si_shard.specs.AppliedEdits.{IsChangeOn}
-use Rattle.si_shard.specs.KeyChanges.{LeadsTo}
+use Rattle.si_shard.specs.AppliedEdits.{IsChangeOn, TxnBefore}
+use Rattle.si_shard.specs.KeyChanges.{CanChange}
 use Rattle.si_shard.specs.KeyStates.{IsMadeAt, IsOn, StaysAt}
 
 -- what the edit is on a key of the shard can be made there
-abbrev pub CanBeMadeBy : ShardId → List Op → TxnHead → Edit → KeyStates → Type 0
-CanBeMadeBy id ops h e ks = (x : List ℕ) (c : Change) → is_ours id x ≡ true → IsChangeOn ops h e x c → (Q R : OnKey) × IsOn ks x Q × LeadsTo (c ∷ []) Q R
+abbrev pub CanBeMadeBy : ShardId → Option TxnBefore → Edit → KeyStates → Type 0
+CanBeMadeBy id t e ks = (x : List ℕ) (c : Change) → is_ours id x ≡ true → IsChangeOn t e x c → (Q : OnKey) × IsOn ks x Q × CanChange c Q
 
 -- what the edit is on a key of the shard was made there, and nothing else
-pub record IsMadeBy (id : ShardId) (ops : List Op) (h : TxnHead) (e : Edit) (old new : KeyStates) : Type 0 where
-  pub changed : (x : List ℕ) (c : Change) → is_ours id x ≡ true → IsChangeOn ops h e x c → IsMadeAt x (c ∷ []) old new
-  pub others : (x : List ℕ) → (is_ours id x ≡ true → (c : Change) → IsChangeOn ops h e x c → ⊥) → StaysAt x old new
+pub record IsMadeBy (id : ShardId) (t : Option TxnBefore) (e : Edit) (old new : KeyStates) : Type 0 where
+  pub changed : (x : List ℕ) (c : Change) → is_ours id x ≡ true → IsChangeOn t e x c → IsMadeAt x c old new
+  pub others : (x : List ℕ) → (is_ours id x ≡ true → (c : Change) → IsChangeOn t e x c → ⊥) → StaysAt x old new
 
 -- ---- the operations in the order of their keys
 
@@ -59,18 +58,3 @@ pub record AreByKey (id : ShardId) (ops : List Op) (list : List KeyPlace) : Type
   pub sorted : IsStrictlySortedBy key_place_cmp list
   pub exact : (x : List ℕ) (i : ℕ) → ((e : KeyPlace) × Contains list e × (e.1.now ≡ x) × (e.2 ≡ i)) ↔ IsPlaced id ops x i
   pub hashed : AreHashed list
-
--- ---- whether it is anything there
-
--- the edit, whose transaction is h with these operations, is nothing on the keys of the shard
-abbrev pub IsNothing : ShardId → List Op → TxnHead → Edit → Type 0
-IsNothing id ops h e = (x : List ℕ) (c : Change) → is_ours id x ≡ true → IsChangeOn ops h e x c → ⊥
-
--- the edit is something on one of the keys of the shard
-abbrev pub IsSomething : ShardId → List Op → TxnHead → Edit → Type 0
-IsSomething id ops h e = (x : List ℕ) × (c : Change) × (is_ours id x ≡ true) × IsChangeOn ops h e x c
-
--- it's told whether the edit is anything on the keys of the shard
-pub record IsTold (id : ShardId) (ops : List Op) (h : TxnHead) (e : Edit) (touches : Bool) : Type 0 where
-  pub nothing : touches ≡ false → IsNothing id ops h e
-  pub something : touches ≡ true → IsSomething id ops h e

@@ -1,22 +1,21 @@
-//! What the kept edits of one shard made of its keys.
+//! What the stored edits made of the keys of one shard.
 
-ghost use Rattle.std.specs.Prelude.{◌≡◌, ◌<◌, ◌≤◌, ℕ, List, [], ◌∷◌, ◌++◌, OnOk, IfOk, length};
+ghost use Rattle.std.specs.Prelude.{◌≡◌, ◌+◌, ◌<◌, ◌≤◌, ℕ, List, [], ◌∷◌, ◌++◌, OnOk, IfOk, length, take};
 ghost use Rattle.std.specs.HashMap.{get};
 ghost use Rattle.std.specs.Prelude.{nat_eq};
 ghost use Rattle.si_model.specs.Journals.{IsAccepted, present};
-ghost use Rattle.si_shard.specs.AppliedEdits.{AreApplied, head_for, head_in, no_head, ops_for, ops_in};
+ghost use Rattle.si_shard.specs.AppliedEdits.{AreApplied, known, txn_for, txn_in};
 ghost use Rattle.si_shard.specs.Arrivals.{IsReadyFor};
-ghost use Rattle.si_shard.specs.Keeping.{AreKept, BeginsWith, Concerns, IsTaken, kept_after};
 ghost use Rattle.si_shard.specs.Shards.{findings_in};
 
 use crate::aheads::{Ahead, MOST_AHEAD};
 use crate::arrivals::Arrivals;
-use crate::key_changes::TxnHead;
+use crate::key_changes::{KnownTxn, TxnHead};
 use crate::key_states::KeyStates;
 use crate::shard_ids::ShardId;
 use crate::single_edits::make_each;
 use crate::stored_edits::Stored;
-use si_model::{Edit, Finding, Op, OutOfMemory, Stamp, Status, TxnId};
+use si_model::{Edit, Finding, Op, OutOfMemory, Status};
 use std::alloc::Global;
 use std::hash::RandomState;
 
@@ -48,114 +47,102 @@ impl Applied {
         }
     }
 
-    /// Applies the edit, which comes after the kept ones, and answers whether it is anything on the shard's keys.
-    pub fn apply(&mut self, kept: &[Edit], edit: &Edit, id: ShardId) -> Result<bool, OutOfMemory>
+    /// Applies the stored edits from that place on, behind those that are applied, until memory is refused to one of them. Answers where
+    /// it came to: behind the last one if all are applied, and else at the one to which memory was refused.
+    pub fn apply_from(&mut self, stored: &Stored, from: usize, id: ShardId) -> usize
         requires shards { 0 < id.shards }
-        requires accepted { IsAccepted kept.now }
-        requires applied { AreApplied id kept.now self.old }
-        requires next { Concerns id (present kept.now) edit.now → IsAccepted (kept.now ++ edit.now ∷ []) }
-        ensures { IfOk result (λ touches. IsTaken id kept.now edit.now touches (λ edits. AreApplied id edits self.new)) }
+        requires within { from ≤ length stored.now }
+        requires applied { AreApplied id (take from stored.now) self.old }
+        requires accepted { IsAccepted stored.now }
+        ensures onward { from ≤ result }
+        ensures within { result ≤ length stored.now }
+        ensures whole { result ≡ length stored.now → AreApplied id stored.now self.new }
     {
-        self.arrivals.prepare(kept, edit)?;
-        self.apply_prepared(kept, edit, id)
+        for place in from..stored.len() {
+            self.look_from(stored, from, place, id);
+            if self.apply(stored, place, id).is_err() {
+                return place;
+            }
+        }
+        stored.len()
     }
 
-    /// Applies the edit, whose arrival is known if it asks for one.
+    /// Applies the stored edit at that place, where those before it are applied.
+    fn apply(&mut self, stored: &Stored, place: usize, id: ShardId) -> Result<(), OutOfMemory>
+        requires shards { 0 < id.shards }
+        requires within { place < length stored.now }
+        requires applied { AreApplied id (take place stored.now) self.old }
+        requires accepted { IsAccepted stored.now }
+        ensures { OnOk result (AreApplied id (take (place + 1) stored.now) self.new) }
+    {
+        let edit = stored.get(place);
+        self.arrivals.prepare(stored, place, edit, id)?;
+        self.apply_prepared(stored, place, edit, id)
+    }
+
+    /// Applies the edit behind the first so many, where its arrival is known if it asks for one.
     fn apply_prepared(
         &mut self,
-        kept: &[Edit],
+        stored: &Stored,
+        first: usize,
         edit: &Edit,
-        id: ShardId,
-    ) -> Result<bool, OutOfMemory>
-        requires shards { 0 < id.shards }
-        requires accepted { IsAccepted kept.now }
-        requires applied { AreApplied id kept.now self.old }
-        requires next { Concerns id (present kept.now) edit.now → IsAccepted (kept.now ++ edit.now ∷ []) }
-        requires ready { IsReadyFor edit.now kept.now (get nat_eq self.old.arrivals.by_id) }
-        ensures { IfOk result (λ touches. IsTaken id kept.now edit.now touches (λ edits. AreApplied id edits self.new)) }
-    {
-        let ops = self.ops_of(kept, edit);
-        let head = self.head_of(kept, edit);
-        let touches = make_each(
-            self.alloc,
-            &mut self.keys,
-            &mut self.ahead,
-            ops,
-            head,
-            edit,
-            id,
-        )?;
-        Ok(touches)
-    }
-
-    /// Applies the edits, which come after the stored ones, and keeps copies of those that are anything on the shard's keys. Where
-    /// memory was refused a part of them may be kept.
-    pub fn apply_all(
-        &mut self,
-        kept: &mut Vec<Edit>,
-        _stored: &Stored,
-        edits: &[Edit],
         id: ShardId,
     ) -> Result<(), OutOfMemory>
         requires shards { 0 < id.shards }
-        requires kept { AreKept id _stored.now kept.old.items }
-        requires applied { AreApplied id kept.old.items self.old }
-        requires accepted { IsAccepted (_stored.now ++ edits.now) }
-        ensures kept { OnOk result (AreKept id (_stored.now ++ edits.now) kept.new.items) }
-        ensures applied { OnOk result (AreApplied id kept.new.items self.new) }
-        ensures begins { BeginsWith kept.old.items kept.new.items }
+        requires within { first ≤ length stored.now }
+        requires applied { AreApplied id (take first stored.now) self.old }
+        requires accepted { IsAccepted (take first stored.now ++ edit.now ∷ []) }
+        requires ready { IsReadyFor id edit.now (take first stored.now) (get nat_eq self.old.arrivals.by_id) }
+        ensures { OnOk result (AreApplied id (take first stored.now ++ edit.now ∷ []) self.new) }
     {
-        for (index, edit) in edits.iter().enumerate() {
-            self.look_from(kept.as_slice(), edits, index, id);
-            let touches = self.apply(kept.as_slice(), edit, id)?;
-            keep(kept, edit, touches)?;
-        }
-        Ok(())
+        let txn = self.txn_of(stored, first, edit);
+        make_each(self.alloc, &mut self.keys, &mut self.ahead, txn, edit, id)
     }
 
-    /// Applies the kept edits, where nothing was applied before.
-    pub fn apply_kept(&mut self, kept: &[Edit], id: ShardId) -> Result<(), OutOfMemory>
+    /// Looks ahead once for so many edits of those from the first place on, before the one at the second is applied.
+    fn look_from(&mut self, stored: &Stored, from: usize, place: usize, id: ShardId)
         requires shards { 0 < id.shards }
-        requires applied { AreApplied id [] self.old }
-        requires accepted { IsAccepted kept.now }
-        ensures { OnOk result (AreApplied id kept.now self.new) }
+        requires onward { from ≤ place }
+        requires within { place ≤ length stored.now }
+        ensures { self.new ≡ record self.old { ahead = self.new.ahead } }
     {
-        for place in 0..kept.len() {
-            self.apply(&kept[..place], &kept[place], id)?;
+        let next = (stored.len() - place).min(MOST_TOGETHER);
+        // One alone is read when it is applied.
+        if next < 2 || (place - from) % MOST_TOGETHER != 0 {
+            return;
         }
-        Ok(())
+        self.look_ahead(stored, place, place + next, id);
     }
 
     /// Reads what is kept of the keys of these edits, all at once, so that a processor has it near when they are applied. A transaction
     /// of many operations reads its own keys ahead, and a resolution whose arrival isn't known yet leads to no key.
-    pub fn look_ahead(&mut self, kept: &[Edit], edits: &[Edit], id: ShardId)
-        requires { 0 < id.shards }
+    fn look_ahead(&mut self, stored: &Stored, from: usize, end: usize, id: ShardId)
+        requires shards { 0 < id.shards }
+        requires onward { from ≤ end }
+        requires within { end ≤ length stored.now }
         ensures { self.new ≡ record self.old { ahead = self.new.ahead } }
     {
-        for edit in edits {
-            let ops = self.ops_of(kept, edit);
-            if ops.len() <= MOST_AHEAD {
-                for op in ops {
-                    if id.has(op.key()) {
-                        self.ahead.add(&self.keys, op.key());
-                    }
-                }
+        for place in from..end {
+            if let Some(txn) = self.txn_of(stored, from, stored.get(place)) {
+                self.look_at(txn.ops, id);
             }
         }
         self.ahead.look(&self.keys);
     }
 
-    /// Looks ahead at the next edits from that place on, once for so many.
-    fn look_from(&mut self, kept: &[Edit], edits: &[Edit], from: usize, id: ShardId)
-        requires shards { 0 < id.shards }
-        requires within { from ≤ length edits.now }
+    /// The keys of the operations that are the shard's will be looked at, if there aren't too many.
+    fn look_at(&mut self, ops: &[Op], id: ShardId)
+        requires { 0 < id.shards }
         ensures { self.new ≡ record self.old { ahead = self.new.ahead } }
     {
-        if from % MOST_TOGETHER != 0 {
+        if ops.len() > MOST_AHEAD {
             return;
         }
-        let left = &edits[from..];
-        self.look_ahead(kept, &left[..left.len().min(MOST_TOGETHER)], id);
+        for op in ops {
+            if id.has(op.key()) {
+                self.ahead.add(&self.keys, op.key());
+            }
+        }
     }
 
     /// The findings on the shard's keys, in order.
@@ -168,83 +155,42 @@ impl Applied {
         Ok(found)
     }
 
-    /// The operations of the edit's transaction. A resolution and a withdrawal have those of the known arrival, if there is one.
-    fn ops_of<'a>(&self, kept: &'a [Edit], edit: &'a Edit) -> &'a [Op]
-        ensures { result.now ≡ ops_for (get nat_eq self.now.arrivals.by_id) kept.now edit.now }
-    {
-        let (Edit::Resolve(id, _) | Edit::Withdraw(id)) = edit else {
-            return ops_in(edit);
-        };
-        match self.arrivals.find(*id) {
-            Some(arrival) => match kept.get(arrival.place) {
-                Some(arrived) => ops_in(arrived),
-                None => &[],
-            },
-            None => &[],
-        }
-    }
-
-    /// The edit's transaction before the edit. A resolution and a withdrawal have that of the known arrival, if there is one.
-    fn head_of(&self, kept: &[Edit], edit: &Edit) -> TxnHead
-        ensures { result ≡ head_for (get nat_eq self.now.arrivals.by_id) kept.now edit.now }
+    /// The edit's transaction before the edit, which comes behind the first so many. A resolution and a withdrawal have that of the known
+    /// arrival, if there is one, and a set-up has none.
+    fn txn_of<'a>(&self, stored: &'a Stored, first: usize, edit: &'a Edit) -> Option<KnownTxn<'a>>
+        requires { first ≤ length stored.now }
+        ensures { known result ≡ txn_for (get nat_eq self.now.arrivals.by_id) (take first stored.now) edit.now }
     {
         match edit {
-            Edit::Arrive(txn) => head_in(txn.status, edit),
-            Edit::SetUp(..) => no_head(),
+            Edit::Arrive(txn) => txn_in(txn.status, edit),
+            Edit::SetUp(..) => None,
             Edit::Resolve(id, _) | Edit::Withdraw(id) => match self.arrivals.find(*id) {
-                Some(arrival) => match kept.get(arrival.place) {
-                    Some(arrived) => head_in(arrival.status, arrived),
-                    None => no_head(),
+                Some(arrival) => match stored.get_among(first, arrival.place) {
+                    Some(arrived) => txn_in(arrival.status, arrived),
+                    None => None,
                 },
-                None => no_head(),
+                None => None,
             },
         }
     }
 }
 
-/// A transaction that arrives, with that status.
-fn head_in(status: Status, edit: &Edit) -> TxnHead
-    ensures { result ≡ head_in status edit.now }
+/// The transaction that arrives by the edit, with that status.
+fn txn_in(status: Status, edit: &Edit) -> Option<KnownTxn<'_>>
+    ensures { known result ≡ txn_in status edit.now }
 {
     match edit {
-        Edit::Arrive(txn) => TxnHead {
-            id: txn.id,
-            start: txn.start,
-            status,
-        },
-        _ => no_head(),
+        Edit::Arrive(txn) => {
+            let head = TxnHead {
+                id: txn.id,
+                start: txn.start,
+                status,
+            };
+            Some(KnownTxn {
+                head,
+                ops: txn.ops.as_slice(),
+            })
+        }
+        _ => None,
     }
-}
-
-/// What stands where there is no transaction.
-fn no_head() -> TxnHead
-    ensures { result ≡ no_head }
-{
-    TxnHead {
-        id: TxnId(0),
-        start: Stamp(0),
-        status: Status::Aborted,
-    }
-}
-
-/// The operations of a transaction that arrives.
-fn ops_in(edit: &Edit) -> &[Op]
-    ensures { result.now ≡ ops_in edit.now }
-{
-    match edit {
-        Edit::Arrive(txn) => txn.ops.as_slice(),
-        _ => &[],
-    }
-}
-
-/// Keeps a copy of the edit, which shares the operations, where it touches the shard's keys.
-pub fn keep(kept: &mut Vec<Edit>, edit: &Edit, touches: bool) -> Result<(), OutOfMemory>
-    ensures kept { OnOk result (kept.new.items ≡ kept_after touches kept.old.items edit.now) }
-    ensures begins { BeginsWith kept.old.items kept.new.items }
-{
-    if touches {
-        kept.push(edit.try_clone()?)?;
-        return Ok(());
-    }
-    Ok(())
 }

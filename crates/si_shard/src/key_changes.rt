@@ -9,7 +9,7 @@ ghost use Rattle.si_shard.specs.KeyChanges.{CanChange, IsChanged};
 
 use si_judge::{Cases, KeyFindings};
 use si_model::parts::Accesses;
-use si_model::{Edit, OutOfMemory, Outcome, Part, Stamp, Status, TxnId, Value};
+use si_model::{Edit, Op, OutOfMemory, Outcome, Part, Stamp, Status, TxnId, Value};
 
 /// A transaction but for its operations.
 #[derive(Clone, Copy)]
@@ -17,6 +17,13 @@ pub struct TxnHead {
     pub id: TxnId,
     pub start: Stamp,
     pub status: Status,
+}
+
+/// A transaction as it is before an edit, with its operations.
+#[derive(Clone, Copy)]
+pub struct KnownTxn<'a> {
+    pub head: TxnHead,
+    pub ops: &'a [Op],
 }
 
 /// What an edit is on one key that it touches. A resolution and a withdrawal have the part as it is before them.

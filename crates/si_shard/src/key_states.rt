@@ -1,6 +1,6 @@
 //! What is kept of many keys, and the keys on which something is found.
 
-ghost use Rattle.std.specs.Prelude.{◌≡◌, ◌↔◌, ℕ, List, [], ◌∷◌, OnOk, IfOk, ◌++◌, true};
+ghost use Rattle.std.specs.Prelude.{◌≡◌, ◌↔◌, ℕ, List, OnOk, IfOk, ◌++◌, true};
 ghost use Rattle.std.specs.HashMap.{get};
 ghost use Rattle.std.specs.BTreeSet.{IsOrdered, contains};
 ghost use Rattle.std.specs.Ordering.{nat_cmp};
@@ -11,7 +11,7 @@ ghost use Rattle.si_model.specs.Operations.{same_key};
 ghost use Rattle.si_model.specs.Findings.{cases, findings_on};
 ghost use Rattle.si_judge.specs.Following.{empty_key};
 ghost use Rattle.si_judge.specs.Kept.{Shows};
-ghost use Rattle.si_shard.specs.KeyChanges.{LeadsTo};
+ghost use Rattle.si_shard.specs.KeyChanges.{CanChange};
 ghost use Rattle.si_shard.specs.KeyStates.{AreOn, HasFinding, IsChangedAt, IsChangedIn, IsLeft, IsOn, IsToldAt, ShowsAt, findings_at};
 
 use crate::key_changes::{Change, make_change};
@@ -56,8 +56,8 @@ impl KeyStates {
 
     /// Makes one change of the key.
     pub fn change(&mut self, key: &Key, change: Change) -> Result<(), OutOfMemory>
-        requires { (Q : OnKey) × (R : OnKey) × IsOn self.old key.now Q × LeadsTo (change ∷ []) Q R }
-        ensures { OnOk result (IsChangedAt key.now (change ∷ []) self.old self.new) }
+        requires { (Q : OnKey) × IsOn self.old key.now Q × CanChange change Q }
+        ensures { OnOk result (IsChangedAt key.now change self.old self.new) }
     {
         let left = change_in(self.alloc, &mut self.states, key, change)?;
         keep_found(&mut self.found, key, left)?;
@@ -119,8 +119,8 @@ fn change_in(
     key: &Key,
     change: Change,
 ) -> Result<AfterChange, OutOfMemory>
-    requires { (Q : OnKey) × (R : OnKey) × ShowsAt key.now (get same_key states.old key.now) Q × LeadsTo (change ∷ []) Q R }
-    ensures changed { IfOk result (λ left. IsChangedIn key.now (change ∷ []) left.is_bare left.has_findings states.old states.new) }
+    requires { (Q : OnKey) × ShowsAt key.now (get same_key states.old key.now) Q × CanChange change Q }
+    ensures changed { IfOk result (λ left. IsChangedIn key.now change left.is_bare left.has_findings states.old states.new) }
     ensures had { IfOk result (λ left. (Q : OnKey) → ShowsAt key.now (get same_key states.old key.now) Q → (left.had_findings ≡ true) ↔ HasFinding key.now Q) }
 {
     if let Some(kept) = states.get_mut(key) {

@@ -10,10 +10,13 @@ mod arrivals;
 mod key_changes;
 mod key_states;
 pub mod laws;
+mod merging;
 mod shard_ids;
 pub mod shards;
+mod shared_edits;
 mod single_edits;
 mod stored_edits;
 
 pub use shards::{MOST_SHARDS, Shard, put_all_in_order};
+pub use shared_edits::SharedEdits;
 pub use si_judge::KeyFault;

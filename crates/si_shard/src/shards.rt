@@ -1,44 +1,42 @@
-//! A shard: the edits that it was given, those of them that it keeps, and what these make of its keys, or that it is spoiled. What one edit
-//! is on the keys stands in `applied_edits.rt`.
+//! A shard: the edits that it was given, and what these make of its keys, or that it is spoiled. What one edit is on the keys stands in
+//! `applied_edits.rt`.
 
-ghost use Rattle.std.specs.Prelude.{◌≡◌, ◌↔◌, ℕ, ◌+◌, ◌<◌, ◌≤◌, true, false, [], ◌∷◌, ◌++◌, drop, length, Err, IfOk, OnOk, OnErr};
+ghost use Rattle.std.specs.Prelude.{◌≡◌, ◌↔◌, ℕ, ◌+◌, ◌<◌, ◌≤◌, true, false, [], ◌∷◌, ◌++◌, drop, length, take, Err, IfOk, OnOk, OnErr};
 ghost use Rattle.si_model.specs.Findings.{findings};
 ghost use Rattle.si_model.specs.History.{IsHistory};
 ghost use Rattle.si_model.specs.Journals.{IsAccepted, present};
 ghost use Rattle.si_model.specs.Parts.{Present};
 ghost use Rattle.si_judge.specs.declared.states.KeyFault.TheVariants as fault;
 ghost use Rattle.si_shard.specs.AppliedEdits.{AreApplied};
-ghost use Rattle.si_shard.specs.Keeping.{AreKept, BeginsWith};
 ghost use Rattle.si_shard.specs.Laws.{findings_below};
 ghost use Rattle.si_shard.specs.Shards.{StoresFirst, findings_in};
 
-use crate::applied_edits::{Applied, keep};
+use crate::applied_edits::Applied;
 use crate::laws::findings_are_of_shards;
+use crate::merging::merge_in_order;
 use crate::shard_ids::ShardId;
+use crate::shared_edits::SharedEdits;
 use crate::stored_edits::Stored;
 use si_judge::KeyFault;
-use si_model::laws::{accepted_begins, order_is_strict};
-use si_model::sorting::put_in_order;
+use si_model::laws::order_is_strict;
 use si_model::{Edit, Finding, Number, OutOfMemory};
-use std::alloc::Global;
+use std::alloc::{AllocError, Global};
 use std::hash::RandomState;
 use std::marker::Model;
-use std::snapshot::Snapshot;
 
 /// The most shards that keys may be spread over.
 pub const MOST_SHARDS: usize = 16;
 
-/// One shard: of the accepted edits, in the order of their numbers, those that are anything on the shard's keys, and the findings there.
+/// One shard: the accepted edits, in the order of their numbers, and the findings on the shard's keys.
 ///
-/// Contracts see which shard it is, all edits, which are its stored ones, and whether it is spoiled.
+/// Contracts see which shard it is, the edits, which are its stored ones, and whether it is spoiled.
 #[derive(Drop)]
 pub struct Shard {
     alloc: Global,
     hash: RandomState,
     id: ShardId,
+    // Those that are nothing on the shard's keys too: a rebuild begins from all of them.
     stored: Stored,
-    // The stored edits that are anything on the shard's keys, from which a rebuild begins.
-    kept: Vec<Edit>,
     // What these made of the shard's keys, unless it is spoiled.
     applied: Applied,
     // True from the beginning of an edit until it is whole, and so until a rebuild once memory was refused to an edit.
@@ -52,7 +50,7 @@ impl Model for Shard {
 
     ghost view = { λ s. record { id = s.id; stored = s.stored; spoiled = s.spoiled } };
 
-    ghost invariant = { λ s. IsShard s.id s.stored s.kept.items s.applied s.spoiled };
+    ghost invariant = { λ s. IsShard s.id s.stored s.applied s.spoiled };
 }
 
 impl Shard {
@@ -69,18 +67,9 @@ impl Shard {
             hash,
             id: ShardId { shard, shards },
             stored: Stored::new(alloc),
-            kept: Vec::new(alloc),
             applied: Applied::new(alloc, hash),
             spoiled: false,
         }
-    }
-
-    /// Reads what the shard keeps of the keys of these edits, so that it is near when they are applied. Nothing changes.
-    pub fn look_ahead(&mut self, edits: &[Edit])
-        ensures { self.new ≡ self.old }
-    {
-        self.applied
-            .look_ahead(self.kept.as_slice(), edits, self.id);
     }
 
     /// Stores the edit, which has the number after the last one stored, and mends the findings on the shard's keys.
@@ -94,56 +83,45 @@ impl Shard {
         ensures spoiled { (result ≡ Err fault.Spoiled) ↔ (self.old.spoiled ≡ true) }
         ensures wanting { OnErr result (self.new ≡ record self.old { spoiled = true }) }
     {
-        self.apply_shared(&edit)
-    }
-
-    /// Stores the edits, which have the numbers after the last one stored, one after the other until memory is refused to one of them:
-    /// then those before it stay stored, and the shard is spoiled. One that was spoiled before stores none.
-    pub fn apply_first(&mut self, edits: &[Edit])
-        requires accepted { IsAccepted (self.old.stored ++ edits.now) }
-        ensures { (n : ℕ) × StoresFirst n edits.now self.old self.new }
-    {
-        accepted_begins();
-        self.look_ahead(edits);
-        for edit in edits {
-            if self.apply_shared(edit).is_err() {
-                return;
-            }
-        }
-    }
-
-    /// As [`Shard::apply`], of an edit that others have too.
-    fn apply_shared(&mut self, edit: &Edit) -> Result<(), KeyFault>
-        requires accepted { IsAccepted (self.old.stored ++ edit.now ∷ []) }
-        ensures ok { OnOk result (self.new ≡ record self.old { stored = self.old.stored ++ edit.now ∷ [] }) }
-        ensures spoiled { (result ≡ Err fault.Spoiled) ↔ (self.old.spoiled ≡ true) }
-        ensures wanting { OnErr result (self.new ≡ record self.old { spoiled = true }) }
-    {
         if self.spoiled {
             return Err(KeyFault::Spoiled);
         }
         self.spoiled = true;
-        let kept = self.kept.len();
-        if take_in(
-            &mut self.applied,
-            &mut self.kept,
-            &mut self.stored,
-            edit,
-            self.id,
-        )
-        .is_err()
-        {
-            self.kept.truncate(kept);
-            return Err(KeyFault::OutOfMemory);
-        }
+        let before = self.stored.len();
+        self.stored.push(edit)?;
+        apply_behind(&mut self.applied, &mut self.stored, before, self.id)?;
         self.spoiled = false;
         Ok(())
     }
 
+    /// Stores the edits, which have the numbers after the last one stored, one after the other until memory is refused to one of them:
+    /// then those before it stay stored, and the shard is spoiled. One that was spoiled before stores none.
+    ///
+    /// They are not copied, and so other shards may store the same.
+    pub fn apply_first(&mut self, edits: SharedEdits)
+        requires accepted { IsAccepted (self.old.stored ++ edits) }
+        ensures { (n : ℕ) × StoresFirst n edits self.old self.new }
+    {
+        if self.spoiled || edits.len() == 0 {
+            return;
+        }
+        self.spoiled = true;
+        let before = self.stored.len();
+        if self.stored.add(edits).is_err() {
+            return;
+        }
+        let end = self.applied.apply_from(&self.stored, before, self.id);
+        if end < self.stored.len() {
+            self.stored.truncate(end);
+            return;
+        }
+        self.spoiled = false;
+    }
+
     /// Stores the edits, which have the numbers after the last one stored, and mends the findings on the shard's keys.
     ///
-    /// It makes of the shard what [`Shard::apply`] makes of it edit by edit. [`KeyFault::Spoiled`] is answered as there; [`KeyFault::OutOfMemory`] leaves the edits that were stored before,
-    /// and the shard is spoiled from then on.
+    /// It makes of the shard what [`Shard::apply`] makes of it edit by edit. [`KeyFault::Spoiled`] is answered as there;
+    /// [`KeyFault::OutOfMemory`] leaves the edits that were stored before, and the shard is spoiled from then on.
     pub fn apply_all(&mut self, edits: &[Edit]) -> Result<(), KeyFault>
         requires accepted { IsAccepted (self.old.stored ++ edits.now) }
         ensures ok { OnOk result (self.new ≡ record self.old { stored = self.old.stored ++ edits.now }) }
@@ -154,19 +132,27 @@ impl Shard {
             return Err(KeyFault::Spoiled);
         }
         self.spoiled = true;
-        let before = self.kept.len();
-        if take_in_all(
-            &mut self.applied,
-            &mut self.kept,
-            &mut self.stored,
-            edits,
-            self.id,
-        )
-        .is_err()
-        {
-            self.kept.truncate(before);
-            return Err(KeyFault::OutOfMemory);
+        let before = self.stored.len();
+        self.stored.push_all(edits)?;
+        apply_behind(&mut self.applied, &mut self.stored, before, self.id)?;
+        self.spoiled = false;
+        Ok(())
+    }
+
+    /// As [`Shard::apply_all`], of edits that aren't copied, and so other shards may store too.
+    pub fn apply_whole(&mut self, edits: SharedEdits) -> Result<(), KeyFault>
+        requires accepted { IsAccepted (self.old.stored ++ edits) }
+        ensures ok { OnOk result (self.new ≡ record self.old { stored = self.old.stored ++ edits }) }
+        ensures spoiled { (result ≡ Err fault.Spoiled) ↔ (self.old.spoiled ≡ true) }
+        ensures wanting { OnErr result (self.new ≡ record self.old { spoiled = true }) }
+    {
+        if self.spoiled {
+            return Err(KeyFault::Spoiled);
         }
+        self.spoiled = true;
+        let before = self.stored.len();
+        self.stored.add(edits)?;
+        apply_behind(&mut self.applied, &mut self.stored, before, self.id)?;
         self.spoiled = false;
         Ok(())
     }
@@ -217,14 +203,14 @@ impl Shard {
         Ok(())
     }
 
-    /// Makes all that is known of the keys anew from the kept edits, and so ends a spoiled state.
+    /// Makes all that is known of the keys anew from the stored edits, and so ends a spoiled state.
     ///
     /// Where memory is refused everything stays as it was.
     pub fn rebuild(&mut self) -> Result<(), OutOfMemory>
         ensures ok { OnOk result (self.new ≡ record self.old { spoiled = false }) }
         ensures err { OnErr result (self.new ≡ self.old) }
     {
-        self.applied = applied_from(self.alloc, self.hash, self.kept.as_slice(), self.id)?;
+        self.applied = applied_from(self.alloc, self.hash, &self.stored, self.id)?;
         self.spoiled = false;
         Ok(())
     }
@@ -233,7 +219,7 @@ impl Shard {
     pub fn position(&self) -> u64
         ensures { result ≡ length self.now.stored }
     {
-        self.stored.count()
+        self.stored.len() as u64
     }
 
     /// Whether memory was refused to an edit, and no rebuild came since.
@@ -250,74 +236,28 @@ pub fn put_all_in_order(found: &mut Vec<Finding>)
 {
     findings_are_of_shards();
     order_is_strict();
-    put_in_order(found);
+    merge_in_order(found);
 }
 
-/// Applies the edit, stores it, and keeps it where it is anything on the shard's keys. Where memory was refused it may be kept.
-fn take_in(
+/// Applies the edits behind the first so many. Where memory was refused to one of them they are all let go.
+fn apply_behind(
     applied: &mut Applied,
-    kept: &mut Vec<Edit>,
     stored: &mut Stored,
-    edit: &Edit,
+    first: usize,
     id: ShardId,
 ) -> Result<(), OutOfMemory>
     requires shards { 0 < id.shards }
-    requires kept { AreKept id stored.old kept.old.items }
-    requires applied { AreApplied id kept.old.items applied.old }
-    requires accepted { IsAccepted (stored.old ++ edit.now ∷ []) }
-    ensures stored { OnOk result (stored.new ≡ stored.old ++ edit.now ∷ []) }
-    ensures kept { OnOk result (AreKept id stored.new kept.new.items) }
-    ensures applied { OnOk result (AreApplied id kept.new.items applied.new) }
-    ensures refused { OnErr result (stored.new ≡ stored.old) }
-    ensures begins { BeginsWith kept.old.items kept.new.items }
+    requires within { first ≤ length stored.old }
+    requires applied { AreApplied id (take first stored.old) applied.old }
+    requires accepted { IsAccepted stored.old }
+    ensures stored { OnOk result (stored.new ≡ stored.old) }
+    ensures applied { OnOk result (AreApplied id stored.new applied.new) }
+    ensures refused { OnErr result (stored.new ≡ take first stored.old) }
 {
-    apply_and_keep(applied, kept, stored, edit, id)?;
-    stored.push(Snapshot::of(edit))?;
-    Ok(())
-}
-
-/// Applies the edit, which comes after the stored ones, and keeps it where it is anything on the shard's keys.
-fn apply_and_keep(
-    applied: &mut Applied,
-    kept: &mut Vec<Edit>,
-    _stored: &Stored,
-    edit: &Edit,
-    id: ShardId,
-) -> Result<(), OutOfMemory>
-    requires shards { 0 < id.shards }
-    requires kept { AreKept id _stored.now kept.old.items }
-    requires applied { AreApplied id kept.old.items applied.old }
-    requires accepted { IsAccepted (_stored.now ++ edit.now ∷ []) }
-    ensures kept { OnOk result (AreKept id (_stored.now ++ edit.now ∷ []) kept.new.items) }
-    ensures applied { OnOk result (AreApplied id kept.new.items applied.new) }
-    ensures begins { BeginsWith kept.old.items kept.new.items }
-{
-    let touches = applied.apply(kept.as_slice(), edit, id)?;
-    keep(kept, edit, touches)?;
-    Ok(())
-}
-
-/// Applies the edits, stores them, and keeps those that are anything on the shard's keys. Where memory was refused a part of them may
-/// be kept.
-fn take_in_all(
-    applied: &mut Applied,
-    kept: &mut Vec<Edit>,
-    stored: &mut Stored,
-    edits: &[Edit],
-    id: ShardId,
-) -> Result<(), OutOfMemory>
-    requires shards { 0 < id.shards }
-    requires kept { AreKept id stored.old kept.old.items }
-    requires applied { AreApplied id kept.old.items applied.old }
-    requires accepted { IsAccepted (stored.old ++ edits.now) }
-    ensures stored { OnOk result (stored.new ≡ stored.old ++ edits.now) }
-    ensures kept { OnOk result (AreKept id stored.new kept.new.items) }
-    ensures applied { OnOk result (AreApplied id kept.new.items applied.new) }
-    ensures refused { OnErr result (stored.new ≡ stored.old) }
-    ensures begins { BeginsWith kept.old.items kept.new.items }
-{
-    applied.apply_all(kept, stored, edits, id)?;
-    stored.push_all(edits)?;
+    if applied.apply_from(stored, first, id) < stored.len() {
+        stored.truncate(first);
+        return Err(AllocError);
+    }
     Ok(())
 }
 
@@ -325,14 +265,16 @@ fn take_in_all(
 fn applied_from(
     alloc: Global,
     hash: RandomState,
-    kept: &[Edit],
+    stored: &Stored,
     id: ShardId,
 ) -> Result<Applied, OutOfMemory>
     requires shards { 0 < id.shards }
-    requires accepted { IsAccepted kept.now }
-    ensures { IfOk result (AreApplied id kept.now) }
+    requires accepted { IsAccepted stored.now }
+    ensures { IfOk result (AreApplied id stored.now) }
 {
     let mut applied = Applied::new(alloc, hash);
-    applied.apply_kept(kept, id)?;
+    if applied.apply_from(stored, 0, id) < stored.len() {
+        return Err(AllocError);
+    }
     Ok(applied)
 }

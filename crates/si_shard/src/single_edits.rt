@@ -1,15 +1,16 @@
 //! Edits that go straight to the keys of their transactions.
 
-ghost use Rattle.std.specs.Prelude.{◌≡◌, ◌↔◌, ◌<◌, ◌≤◌, ◌==◌, ◌&&◌, ℕ, List, IsTrue, IfOk, OnOk, Some, length, slice_get};
+ghost use Rattle.std.specs.Prelude.{◌≡◌, ◌↔◌, ◌<◌, ◌≤◌, ◌==◌, ◌&&◌, ℕ, List, IsTrue, IfOk, OnOk, Some, Option, length, slice_get};
 ghost use Rattle.si_model.specs.declared.edits.Edit.TheVariants as variant;
 ghost use Rattle.si_model.specs.declared.numbers.Value.{Value as Written};
 ghost use Rattle.si_model.specs.declared.operations.Op.{Op as Operation};
 ghost use Rattle.si_model.specs.KeyTexts.{shard_hash};
 ghost use Rattle.si_model.specs.Operations.{access_of, same_key};
-ghost use Rattle.si_shard.specs.SingleEdits.{AreByKey, AreHashed, CanBeMadeBy, IsKeyAt, IsMadeBy, IsTold};
+ghost use Rattle.si_shard.specs.AppliedEdits.{TxnBefore, known};
+ghost use Rattle.si_shard.specs.SingleEdits.{AreByKey, AreHashed, CanBeMadeBy, IsKeyAt, IsMadeBy};
 
 use crate::aheads::{Ahead, MOST_AHEAD};
-use crate::key_changes::{Change, TxnHead, change_by};
+use crate::key_changes::{Change, KnownTxn, TxnHead, change_by};
 use crate::key_states::KeyStates;
 use crate::shard_ids::ShardId;
 use si_model::parts::Accesses;
@@ -20,26 +21,26 @@ use std::mem;
 /// The hash that picks a key's shard, which tells most keys apart, the key, and the place of an operation on it.
 pub type KeyPlace<'a> = (u32, &'a Key, usize);
 
-/// Makes what the edit is on each key of the shard, where its transaction is this one with these operations. Answers whether it is
-/// anything there.
+/// Makes what the edit is on each key of the shard, whose transaction is this one, if it has one.
 pub fn make_each(
     alloc: Global,
     keys: &mut KeyStates,
     ahead: &mut Ahead,
-    ops: &[Op],
-    head: TxnHead,
+    txn: Option<KnownTxn<'_>>,
     edit: &Edit,
     id: ShardId,
-) -> Result<bool, OutOfMemory>
+) -> Result<(), OutOfMemory>
     requires shards { 0 < id.shards }
-    requires can { CanBeMadeBy id ops.now head edit.now keys.old }
-    ensures made { OnOk result (IsMadeBy id ops.now head edit.now keys.old keys.new) }
-    ensures touches { IfOk result (IsTold id ops.now head edit.now) }
+    requires can { CanBeMadeBy id (known txn) edit.now keys.old }
+    ensures { OnOk result (IsMadeBy id (known txn.entry) edit.now keys.old keys.new) }
 {
     if let Edit::SetUp(key, value) = edit {
         return make_set_up(keys, key, *value, id);
     }
-    make_accessed(alloc, keys, ahead, ops, head, edit, id)
+    match txn {
+        Some(txn) => make_accessed(alloc, keys, ahead, txn.ops, txn.head, edit, id),
+        None => Ok(()),
+    }
 }
 
 fn make_set_up(
@@ -47,17 +48,15 @@ fn make_set_up(
     key: &Key,
     value: Value,
     id: ShardId,
-) -> Result<bool, OutOfMemory>
+) -> Result<(), OutOfMemory>
     requires shards { 0 < id.shards }
-    requires can { (ops : List Op) (head : TxnHead) → CanBeMadeBy id ops head (variant.SetUp key.now value) keys.old }
-    ensures made { OnOk result ((ops : List Op) (head : TxnHead) → IsMadeBy id ops head (variant.SetUp key.now value) keys.old keys.new) }
-    ensures touches { IfOk result (λ touches. (ops : List Op) (head : TxnHead) → IsTold id ops head (variant.SetUp key.now value) touches) }
+    requires can { (t : Option TxnBefore) → CanBeMadeBy id t (variant.SetUp key.now value) keys.old }
+    ensures { OnOk result ((t : Option TxnBefore) → IsMadeBy id t (variant.SetUp key.now value) keys.old keys.new) }
 {
-    let ours = id.has(key);
-    if ours {
+    if id.has(key) {
         keys.change(key, Change::SetUp(value))?;
     }
-    Ok(ours)
+    Ok(())
 }
 
 fn make_accessed(
@@ -68,12 +67,11 @@ fn make_accessed(
     head: TxnHead,
     edit: &Edit,
     id: ShardId,
-) -> Result<bool, OutOfMemory>
+) -> Result<(), OutOfMemory>
     requires shards { 0 < id.shards }
     requires other { (x : List ℕ) (v : Written) → edit.now ≡ variant.SetUp x v → ⊥ }
-    requires can { CanBeMadeBy id ops.now head edit.now keys.old }
-    ensures made { OnOk result (IsMadeBy id ops.now head edit.now keys.old keys.new) }
-    ensures touches { IfOk result (IsTold id ops.now head edit.now) }
+    requires can { CanBeMadeBy id (Some (head, ops.now)) edit.now keys.old }
+    ensures { OnOk result (IsMadeBy id (Some (head, ops.now)) edit.now keys.old keys.new) }
 {
     let list = by_key(alloc, ops, id)?;
     let mut accesses = Accesses::new(alloc);
@@ -89,7 +87,7 @@ fn make_accessed(
             keys.change(key, change_by(head, edit, all))?;
         }
     }
-    Ok(!list.is_empty())
+    Ok(())
 }
 
 /// The operations on the shard's keys, in the order of the keys by their hashes and texts, and those on one key in the order of the

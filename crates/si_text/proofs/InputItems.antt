@@ -4,7 +4,7 @@ use Rattle.std.proofs.lemmas.Bool.{cases_lt}
 use Rattle.std.proofs.lemmas.Bool.Decides.{nat_tests}
 use Rattle.std.proofs.lemmas.List.{take_all, take_min, length-take, take-append-drop}
 use Rattle.std.proofs.Math.Seq.{take-append-add}
-use Rattle.si_text.specs.declared.readings.TheConstants.{MOST_LINE_BYTES}
+use Rattle.si_text.specs.declared.read_edits.TheConstants.{MOST_LINE_BYTES}
 use Rattle.si_text.specs.Inputs.{Item, is_line_feed, has_line_feed, with_first, lines_of, is_blank, item_of, numbered, items_after}
 use Rattle.si_text.specs.Lines.{edit_of}
 use Rattle.si_text.specs.declared.faults.LineFault.TheVariants.{TooLong}

@@ -13,7 +13,7 @@ use Rattle.si_text.specs.declared.faults.Field.{Field}
 use Rattle.si_text.specs.declared.faults.Field.TheVariants as fields
 use Rattle.si_text.specs.declared.faults.LineFault.{LineFault}
 use Rattle.si_text.specs.declared.faults.LineFault.TheVariants.{TooLong, NotJson, NotObject, BadKind, BadField, BadStatus, TooManyOps, BadOp, OutOfMemory}
-use Rattle.si_text.specs.declared.readings.TheConstants.{MOST_LINE_BYTES}
+use Rattle.si_text.specs.declared.read_edits.TheConstants.{MOST_LINE_BYTES}
 use Rattle.si_text.proofs.StepwiseLines.{step, choice, some_same, none_some, text_back, no_text}
 use Rattle.si_text.proofs.Ruled.{said, NoneBelow, from_first, short_enough, is_json, is_object, has_kind, same_place}
 use Rattle.si_text.proofs.KindConditions.{Right, same_text, apart_words, same_items, arrival_right, resolution_right, withdrawal_right, set_up_right}

@@ -21,7 +21,7 @@ use Rattle.si_text.specs.Telling.{op_values, TellsStatus, Tells, KeepsLimits}
 use Rattle.si_text.specs.declared.faults.Field.TheVariants as fields
 use Rattle.si_text.specs.declared.faults.LineFault.{LineFault}
 use Rattle.si_text.specs.declared.faults.LineFault.TheVariants.{NotJson, BadKind, BadField, BadStatus, TooManyOps}
-use Rattle.si_text.specs.declared.readings.TheConstants.{MOST_LINE_BYTES}
+use Rattle.si_text.specs.declared.read_edits.TheConstants.{MOST_LINE_BYTES}
 use Rattle.si_text.proofs.StepwiseLines.{step, choice, number_back, text_back, array_back, key_back}
 use Rattle.si_text.proofs.OpConditions.{OpRight, op_right}
 

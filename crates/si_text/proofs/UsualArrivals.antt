@@ -14,7 +14,7 @@ use Rattle.si_text.specs.Conditions.{HasNumber, HasArray, IsOf}
 use Rattle.si_text.specs.Lines.{edit_of}
 use Rattle.si_text.specs.Telling.{op_values, TellsStatus}
 use Rattle.si_text.specs.UsualArrivals.{TakesNumber, TakesStatus, TakesTxn}
-use Rattle.si_text.specs.declared.readings.TheConstants.{MOST_LINE_BYTES}
+use Rattle.si_text.specs.declared.read_edits.TheConstants.{MOST_LINE_BYTES}
 use Rattle.si_text.proofs.WrittenLines.{read_back}
 use Rattle.si_text.proofs.UsualTokens.{items_begin, all_fit}
 use Rattle.si_text.proofs.LineValues.{value_of_utf8}

@@ -24,7 +24,7 @@ use Rattle.si_text.specs.Telling.{op_values, TellsStatus, Tells, KeepsLimits}
 use Rattle.si_text.specs.declared.faults.Field.TheVariants as fields
 use Rattle.si_text.specs.declared.faults.LineFault.{LineFault}
 use Rattle.si_text.specs.declared.faults.LineFault.TheVariants.{TooLong, NotJson, NotObject, BadKind, BadField, TooManyOps, BadOp}
-use Rattle.si_text.specs.declared.readings.TheConstants.{MOST_LINE_BYTES}
+use Rattle.si_text.specs.declared.read_edits.TheConstants.{MOST_LINE_BYTES}
 use Rattle.si_text.proofs.StepwiseLines.{key_there}
 
 -- a step goes on with what is there

@@ -14,7 +14,7 @@ use Rattle.si_text.specs.declared.faults.Field.{Field}
 use Rattle.si_text.specs.declared.faults.Field.TheVariants.{Id, Start, Status, Commit, Ops, Key, Value}
 use Rattle.si_text.specs.declared.faults.LineFault.{LineFault}
 use Rattle.si_text.specs.declared.faults.LineFault.TheVariants.{TooLong, NotJson, NotObject, BadKind, BadField, BadStatus, TooManyOps, BadOp, OutOfMemory}
-use Rattle.si_text.specs.declared.readings.TheConstants.{MOST_LINE_BYTES}
+use Rattle.si_text.specs.declared.read_edits.TheConstants.{MOST_LINE_BYTES}
 
 abbrev pub Not : Type 0 → Type 0
 Not P = P → ⊥

@@ -4,7 +4,7 @@ use Rattle.std.specs.List.{list_any, list_all}
 use Rattle.si_model.specs.declared.edits.Edit.{Edit}
 use Rattle.si_text.specs.Lines.{edit_of}
 use Rattle.si_text.specs.declared.faults.LineFault.{LineFault}
-use Rattle.si_text.specs.declared.readings.TheConstants.{MOST_LINE_BYTES}
+use Rattle.si_text.specs.declared.read_edits.TheConstants.{MOST_LINE_BYTES}
 
 -- a line that isn't blank: its number, and its edit or its fault
 abbrev pub Item : Type 0

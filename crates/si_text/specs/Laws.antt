@@ -6,7 +6,7 @@ use Rattle.si_text.specs.Conditions.{Not, Applies, IsLeastFault, IsSaid}
 use Rattle.si_text.specs.Lines.{value_of, edit_of}
 use Rattle.si_text.specs.Telling.{Tells, KeepsLimits}
 use Rattle.si_text.specs.declared.faults.LineFault.{LineFault}
-use Rattle.si_text.specs.declared.readings.TheConstants.{MOST_LINE_BYTES}
+use Rattle.si_text.specs.declared.read_edits.TheConstants.{MOST_LINE_BYTES}
 
 -- the fault of a line is the one of least number whose condition holds
 abbrev pub LeastFaultIsTold : Type 0

@@ -2,7 +2,7 @@
 use Rattle.std.specs.Prelude.{⊤, ◌+◌, ◌≤◌, length, Some, None, ◌≡◌, ℕ, ◌-◌, ◌^◌, ◌⊎◌, List, [], ◌++◌, Option}
 use Rattle.std.specs.Io.KnownBytes.{prepend_known}
 use Rattle.si_text.specs.Inputs.{Item, items_after}
-use Rattle.si_text.specs.declared.line_buffers.LineBuffer.{LineBuffer}
+use Rattle.si_text.specs.declared.read_lines.LineBuffer.{LineBuffer}
 
 -- how many lines have ended
 abbrev pub lines_ended : LineBuffer → ℕ

@@ -20,7 +20,7 @@ use Rattle.si_text.specs.declared.faults.Field.{Field}
 use Rattle.si_text.specs.declared.faults.Field.TheVariants as fields
 use Rattle.si_text.specs.declared.faults.LineFault.{LineFault}
 use Rattle.si_text.specs.declared.faults.LineFault.TheVariants.{TooLong, NotJson, NotObject, BadKind, BadField, BadStatus, TooManyOps, BadOp, OutOfMemory}
-use Rattle.si_text.specs.declared.readings.TheConstants.{MOST_LINE_BYTES}
+use Rattle.si_text.specs.declared.read_edits.TheConstants.{MOST_LINE_BYTES}
 
 infixl 10 ◌>>=◌
 -- the next step with what was read, or the first fault

@@ -4,6 +4,10 @@
 //! printed is exactly the text of its definition. It stands on `si_model` for the types and evidence, on `memchr` for
 //! the ends of lines, on `serde_json` for JSON, on `json` and `fast_float` for the tokens of usual lines, on `indexmap` for keys
 //! that came before and on `itoa` for numbers.
+//!
+//! A line comes in by stages, each in a file of its own: bytes that a device gave at once (`read_pieces`), a whole line of them
+//! (`read_lines`), what it holds (`read_items`), and its edit (`read_edits`). The edit is read by tokens where the line is an arrival
+//! in the usual form (`usual_arrivals`, `usual_tokens`), and else from its JSON value (`json_members`, `json_operations`).
 #![tactic(auto)]
 
 mod appending;
@@ -11,21 +15,21 @@ pub mod changes;
 pub mod devices;
 pub mod explaining;
 pub mod faults;
+mod json_members;
+mod json_operations;
 pub mod known_keys;
 pub mod laws;
-pub mod line_buffers;
-pub mod line_items;
-mod members;
 pub mod memory;
-mod operations;
-mod pieces;
 pub mod printing;
-pub mod readings;
+pub mod read_edits;
+pub mod read_items;
+pub mod read_lines;
+mod read_pieces;
 pub mod reasons;
 pub mod shortages;
 pub mod streams;
-mod tokens;
 mod usual_arrivals;
+mod usual_tokens;
 pub mod verdicts;
 
 pub use changes::{keep_violations, print_changes};
@@ -33,10 +37,10 @@ pub use devices::{ByteSink, ByteSource, DeviceFailed};
 pub use explaining::print_evidence;
 pub use faults::{Field, LineFault};
 pub use known_keys::KnownKeys;
-pub use line_buffers::{InputFault, LineBuffer};
-pub use line_items::LineItem;
 pub use printing::{print_finding, print_last_report, print_refusal, print_report, print_summary};
-pub use readings::read_edit;
+pub use read_edits::read_edit;
+pub use read_items::LineItem;
+pub use read_lines::{InputFault, LineBuffer};
 pub use reasons::Reason;
 pub use shortages::Shortage;
 pub use streams::{StdSink, StdSource};

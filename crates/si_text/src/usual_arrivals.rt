@@ -11,8 +11,8 @@ ghost use Rattle.si_text.specs.Lines.{edit_of};
 ghost use Rattle.si_text.specs.UsualArrivals.{TakesTxn, TakesStatus, TakesOps, TakesItems, TakesOp, IsOp, IsReturned};
 
 use crate::known_keys::SharedKeys;
-use crate::readings::MOST_LINE_BYTES;
-use crate::tokens::{plain_number, take_name, take_number, take_text};
+use crate::read_edits::MOST_LINE_BYTES;
+use crate::usual_tokens::{plain_number, take_name, take_number, take_text};
 use json::{Reader, Scratch, Token};
 use si_model::operations::MOST_OPS;
 use si_model::{Edit, Key, Op, Ops, Stamp, Status, Txn, TxnId, Value};

@@ -3,6 +3,7 @@
 use super::{Host, Options, PLAIN, check, check_with};
 use si_cli::ExitStatus;
 use si_cli::ExitStatus::{Clean, Open, Violation};
+use std::num::NonZeroU64;
 
 /// A run over the input, of which so many transactions are expected, writes the output and has that status: by bytes one at a time, and
 /// all at once with any number of shards.
@@ -119,7 +120,7 @@ fn the_last_report_alone_tells_it(rt: HostRuntime) {
     let output =
         "transactions=1 findings=0 refused=0 verdict=clean\nstale key=\"x\" txn=2 op=0 read=initial missed=1\n  G-SI(b) 2-rw->1 1-st->2\ntransactions=2 findings=1 refused=0 verdict=violation\nstale key=\"x\" txn=2 op=0 read=initial missed=1\n  G-SI(b) 2-rw->1 1-st->2\ntransactions=3 findings=1 refused=0 verdict=violation\nstale key=\"x\" txn=2 op=0 read=initial missed=1\n  G-SI(b) 2-rw->1 1-st->2\nshort committed=2 expected=9 indoubt=1 ids=3\ntransactions=3 findings=1 refused=0 verdict=violation\n";
     let options = Options {
-        every: Some(1),
+        every: NonZeroU64::new(1),
         explain: true,
         expected: Some(9),
         ..PLAIN

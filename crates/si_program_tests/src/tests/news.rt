@@ -3,12 +3,13 @@
 use super::{Host, Options, PLAIN, check_with};
 use si_cli::ExitStatus;
 use si_cli::ExitStatus::{Clean, Open, Violation};
+use std::num::NonZeroU64;
 
 /// A run over the input, with reports after each so many lines that tell only what changed, writes the output and has that status: by bytes
 /// one at a time, and all at once with any number of shards.
 fn tells(rt: &impl Host, every: u64, input: &str, output: &str, status: ExitStatus) {
     let options = Options {
-        every: Some(every),
+        every: NonZeroU64::new(every),
         only_new: true,
         ..PLAIN
     };
@@ -42,7 +43,7 @@ fn evidence_follows_what_is_new(rt: HostRuntime) {
     let output =
         "transactions=1 findings=0 refused=0 verdict=clean\nstale key=\"x\" txn=2 op=0 read=initial missed=1\n  G-SI(b) 2-rw->1 1-st->2\ntransactions=2 findings=1 refused=0 verdict=violation\ngone stale key=\"x\" txn=2 op=0 read=initial missed=1\ntransactions=1 findings=0 refused=0 verdict=clean\nstale key=\"x\" txn=2 op=0 read=initial missed=1\n  G-SI(b) 2-rw->1 1-st->2\ntransactions=2 findings=1 refused=0 verdict=violation\ntransactions=3 findings=1 refused=0 verdict=violation\nstale key=\"x\" txn=2 op=0 read=initial missed=1\n  G-SI(b) 2-rw->1 1-st->2\ntransactions=3 findings=1 refused=0 verdict=violation\n";
     let options = Options {
-        every: Some(1),
+        every: NonZeroU64::new(1),
         only_new: true,
         explain: true,
         ..PLAIN
@@ -123,7 +124,7 @@ fn with_an_expectation(rt: HostRuntime) {
     let output =
         "transactions=1 findings=0 refused=0 verdict=clean\nstale key=\"x\" txn=2 op=0 read=initial missed=1\ntransactions=2 findings=1 refused=0 verdict=violation\ntransactions=3 findings=1 refused=0 verdict=violation\nstale key=\"x\" txn=2 op=0 read=initial missed=1\nshort committed=2 expected=2 indoubt=1 ids=3\ntransactions=3 findings=1 refused=0 verdict=violation\n";
     let options = Options {
-        every: Some(1),
+        every: NonZeroU64::new(1),
         only_new: true,
         expected: Some(2),
         ..PLAIN

@@ -12,6 +12,7 @@ use si_cli::{
 };
 use si_text::ByteSource;
 use si_text::memory::{FailingSink, FailingSource, MemorySink, MemorySource};
+use std::num::NonZeroU64;
 
 const LOST_UPDATE: &str =
     "{\"do\":\"txn\",\"id\":1,\"start\":1,\"status\":\"committed\",\"commit\":5,\"ops\":[[\"r\",\"x\",null],[\"w\",\"x\",1]]}\n{\"do\":\"txn\",\"id\":2,\"start\":2,\"status\":\"committed\",\"commit\":6,\"ops\":[[\"r\",\"x\",null],[\"w\",\"x\",2]]}";
@@ -99,7 +100,7 @@ fn command_lines(rt: HostRuntime) {
 }
 
 /// After how many lines a report comes.
-fn every_told(rt: &impl Host, every: Option<u64>) -> String {
+fn every_told(rt: &impl Host, every: Option<NonZeroU64>) -> String {
     let every = match every {
         None => String::from_str(rt.alloc(), "-"),
         Some(every) => format!(in rt.alloc(); "{every}"),

@@ -2,6 +2,7 @@
 
 use super::*;
 use ExitStatus::{Clean, Open, Violation};
+use std::num::NonZeroU64;
 
 #[test]
 fn readers_with_one_stamp(rt: HostRuntime) {
@@ -27,7 +28,7 @@ fn a_key_that_is_set_up_late(rt: HostRuntime) {
     let output =
         "unknown key=\"x\" txn=1 op=0 read=5\ntransactions=2 findings=1 refused=0 verdict=open\nunknown key=\"x\" txn=2 op=0 read=initial\ntransactions=3 findings=1 refused=0 verdict=open\nrefused source=0 line=6 code=19 reason=set-up-twice\nunknown key=\"x\" txn=2 op=0 read=initial\nstale key=\"x\" txn=4 op=0 read=5 missed=3\n  G-SI(b) 4-rw->3 3-st->4\ntransactions=4 findings=2 refused=1 verdict=violation\nunknown key=\"x\" txn=2 op=0 read=initial\nstale key=\"x\" txn=4 op=0 read=5 missed=3\n  G-SI(b) 4-rw->3 3-st->4\ntransactions=4 findings=2 refused=1 verdict=violation\n";
     let options = Options {
-        every: Some(2),
+        every: NonZeroU64::new(2),
         explain: true,
         ..PLAIN
     };

@@ -5,6 +5,7 @@ use super::{Host, PLAIN};
 use si_run::Options;
 use si_scripts::chance::Dice;
 use std::fmt::Display;
+use std::num::NonZeroU64;
 
 /// How many runs there are.
 const ROUNDS: u64 = 40;
@@ -115,13 +116,9 @@ fn texts_by(rt: &impl Host, dice: &mut Dice) -> Vec<String> {
 
 /// Options of any kind.
 fn options_by(dice: &mut Dice) -> Options {
-    let every = match dice.below(4) {
-        0 => None,
-        every => Some(every),
-    };
     Options {
         shards: dice.below(16) as usize + 1,
-        every,
+        every: NonZeroU64::new(dice.below(4)),
         explain: dice.below(2) == 0,
         only_new: dice.below(2) == 0,
         expected: expected_by(dice),

@@ -3,6 +3,7 @@
 use super::{DOUBT, Host, PLAIN, RESOLUTION, are_same, ended_gated, is_resolved_or_not};
 use si_model::Number;
 use si_run::{ExitStatus, Gate, Options, Place};
+use std::num::NonZeroU64;
 use std::sync::atomic::{AtomicU64, Ordering};
 use std::thread;
 
@@ -139,7 +140,7 @@ fn workers_run_beside_reports_on_the_way(rt: HostRuntime) {
     let gate = OnePublished(Told::new());
     let options = Options {
         shards: 1,
-        every: Some(2),
+        every: NonZeroU64::new(2),
         ..PLAIN
     };
     is_clean(&rt, options, &gate, TWICE);

@@ -3,6 +3,7 @@
 use super::super::repeated;
 use super::{DOUBT, Host, PLAIN, RESOLUTION, RunEnd, are_same, ended, is_resolved_or_not};
 use si_run::{ExitStatus, Options, RunFault};
+use std::num::NonZeroU64;
 
 /// A transaction that writes.
 const ONE: &str =
@@ -90,7 +91,7 @@ fn two_sources_are_short(rt: HostRuntime) {
 #[test]
 fn what_changed_in_two_sources(rt: HostRuntime) {
     let options = Options {
-        every: Some(2),
+        every: NonZeroU64::new(2),
         only_new: true,
         explain: true,
         ..PLAIN

@@ -1,6 +1,6 @@
 use Rattle.std.proofs.Common.{◌≡◌, false}
 use Rattle.si_text.specs.LineBuffers.{bytes_to_come, IsFresh, CountsBytes}
-use Rattle.si_text.specs.declared.line_buffers.LineBuffer.{LineBuffer}
+use Rattle.si_text.specs.declared.read_lines.LineBuffer.{LineBuffer}
 use Rattle.si_run.proofs.Runnings.{IsReading}
 use Rattle.si_run.proofs.sources.put_read.Given as goal
 

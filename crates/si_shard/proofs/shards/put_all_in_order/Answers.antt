@@ -4,4 +4,4 @@ use Rattle.si_shard.proofs.shards.put_all_in_order.Goals as goal
 
 pub returns : goal.returns
 returns c = λ shards P some history all.
-    c.put_in_order.ensures ∙ ap (in_order finding_cmp) all ∙ c.findings_are_of_shards.ensures shards P some history
+    c.merge_in_order.ensures ∙ ap (in_order finding_cmp) all ∙ c.findings_are_of_shards.ensures shards P some history

@@ -1,4 +1,4 @@
-use Rattle.std.proofs.Common.{◌≡◌, ◌∙◌, ◌<◌, ◌≤◌, ◌+◌, ℕ, true, List, [], ◌∷◌, ◌++◌, length, slice_get, slice_index_or, Some, not, rules, ap, sym, subst}
+use Rattle.std.proofs.Common.{◌≡◌, ◌∙◌, ◌<◌, ◌≤◌, ◌+◌, ℕ, true, List, [], ◌∷◌, ◌++◌, length, slice_get, slice_index_or, Some, ap, sym, subst}
 use Rattle.std.proofs.lemmas.Option.{slice_get_read, slice_get_within}
 use Rattle.si_model.specs.declared.operations.Op.{Op}
 use Rattle.si_model.specs.declared.parts.OnKey.{OnKey}
@@ -6,10 +6,10 @@ use Rattle.si_model.specs.declared.parts.Placed.{Placed}
 use Rattle.si_model.specs.declared.parts.Access.{Access}
 use Rattle.si_model.specs.Operations.{access_of}
 use Rattle.si_shard.specs.AppliedEdits.{change_by}
-use Rattle.si_shard.specs.KeyChanges.{LeadsTo}
+use Rattle.si_shard.specs.KeyChanges.{CanChange}
 use Rattle.si_shard.specs.KeyStates.{IsChangedAt, IsOn}
 use Rattle.si_shard.specs.SingleEdits.{AreHashed, IsKeyAt, KeyPlace}
-use Rattle.si_shard.proofs.EachKey.{AreMade, can_access, can_make_here, made_all, made_on, made_past, none_made, placed, told_made}
+use Rattle.si_shard.proofs.EachKey.{AreMade, can_access, can_make_here, made_all, made_on, made_past, none_made, placed}
 use Rattle.si_shard.proofs.single_edits.make_accessed.Goals as goal
 use Rattle.si_shard.proofs.single_edits.make_accessed.Goals.{then-not-is_at+in_ok-change, else-not-is_at}
 
@@ -50,7 +50,7 @@ change-requires c =
     let at = at_index list c.deref.result.now c.len-index-end.result i d c.deref.ensures.value (c.deref.ensures.len ∙ sym c.len-index-end.ensures) c.loop-index-test.true c.index.ensures in
     let all = pushed c.push.new.self c.replace-all.result c.loop-index.accesses d.2 c.access_at.result p c.replace-all.ensures.value c.in_ok-push.ensures.ok c.access_at.ensures.2 in
     let last : IsKeyAt list (i + 1) d.1.now → ⊥ = λ k. (let yes : c.is_at.result ≡ true = c.is_at.ensures.1 (subst (λ l. IsKeyAt l (i + 1) d.1.now) (sym c.deref-in-loop-index.ensures.value) k) in let no = c.if-not-is_at.true in cc) in
-    subst (λ g. (Q R : OnKey) × IsOn c.loop-index.keys d.1.now Q × LeadsTo (g ∷ []) Q R) (sym (c.change_by.ensures ∙ ap (change_by h e) all))
+    subst (λ g. (Q : OnKey) × IsOn c.loop-index.keys d.1.now Q × CanChange g Q) (sym (c.change_by.ensures ∙ ap (change_by h e) all))
     (can_make_here id ops h e list w.0 i d at p c.access_at.ensures.1 c.loop-index.accesses c.args.keys.now c.loop-index.keys w.1 last (can_access id ops h e c.args.keys.now c.requires.other c.requires.can))
 
 pub loop-index-preserved : goal.loop-index-preserved
@@ -77,7 +77,7 @@ loop-index-preserved c =
             subst (λ ys. AreMade id ops h e list w.0 (i + 1) ys old c.if-not-is_at.keys) (sym (x.accesses-is ∙ x.replace-all.ensures.after ∙ x.new.ensures))
                 (subst (AreMade id ops h e list w.0 (i + 1) [] old) (sym x.keys-is)
                 (made_on id ops h e list w.0 i d at p c.access_at.ensures.1 hand old mid w.1 last x.change.new.self
-                (subst (λ g. IsChangedAt d.1.now (g ∷ []) mid x.change.new.self) (x.change_by.ensures ∙ ap (change_by h e) all) x.in_ok-change.ensures))),
+                (subst (λ g. IsChangedAt d.1.now g mid x.change.new.self) (x.change_by.ensures ∙ ap (change_by h e) all) x.in_ok-change.ensures))),
           )
       | else-not-is_at x ↦
           let next : IsKeyAt list (i + 1) d.1.now = subst (λ l. IsKeyAt l (i + 1) d.1.now) c.deref-in-loop-index.ensures.value (c.is_at.ensures.0 (let yes = x.if-not-is_at.false in cc)) in
@@ -89,16 +89,11 @@ loop-index-preserved c =
           )
     ]
 
-pub returns-clause-made : goal.returns-clause-made
-returns-clause-made c =
+pub returns : goal.returns
+returns c =
     let w = c.loop-index.invariant in
     let end : length c.in_ok-list.list.items ≤ c.loop-index.index = subst (λ n. n ≤ c.loop-index.index) (c.len-index-end.ensures ∙ c.in_ok-list.list.ok.0) c.loop-index-test.false in
     made_all c.args.id c.args.ops.now c.args.head c.in_ok-list.list.items w.0 c.args.edit.now c.requires.other c.loop-index.index end c.loop-index.accesses c.args.keys.now c.loop-index.keys w.1
-
-pub returns-clause-touches : goal.returns-clause-touches
-returns-clause-touches c =
-    told_made c.args.id c.args.ops.now c.args.head c.in_ok-list.list.items c.loop-index.invariant.0 c.args.edit.now c.requires.other (not c.is_empty.result)
-    (λ no. (let is = c.is_empty.ensures in search rules)) (λ yes. (let is = c.is_empty.ensures in search rules))
 
 pub is_at-requires : goal.is_at-requires
 is_at-requires c = subst AreHashed (sym c.deref-in-loop-index.ensures.value) c.loop-index.invariant.0.hashed

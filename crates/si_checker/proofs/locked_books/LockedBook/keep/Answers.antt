@@ -16,12 +16,12 @@ invariant_of-self g c =
     let block = c.args.block in
     let first = c.self.inside in
     let here = c.if-len-ge-MOST_BLOCKS.self-inside in
-    let P : Inside g.row.N.Denot → Type 0 = λ d. IsLockedBook board limit d.book d.blocks.items d.seat × IsBlockOf (edits_of d.seat.view.journal) block in
+    let P : Inside g.row.N.Denot → Type 0 = λ d. IsLockedBook board limit d.book d.blocks.items d.left d.seat × IsBlockOf (edits_of d.seat.view.journal) block in
     let part = subst (λ (v : BookView). IsBlockOf (edits_of v.journal) block) (sym c.self.view_is) c.requires in
     let before : P here = elim c.if-len-ge-MOST_BLOCKS.branch [
       | then-len-ge-MOST_BLOCKS w ↦
-          let less = subst (λ l. IsLockedBook board limit first.book l first.seat) (sym w.remove.ensures.items) (without_oldest board limit first.book first.blocks.items first.seat c.self.invariant) in
+          let less = subst (λ l. IsLockedBook board limit first.book l first.left first.seat) (sym w.remove.ensures.items) (without_oldest board limit first.book first.blocks.items first.left first.seat c.self.invariant) in
           subst P (sym w.self-inside-is) (less, part)
       | else-len-ge-MOST_BLOCKS w ↦ subst P (sym w.self-inside-is) (c.self.invariant, part)
     ] in
-    with_block board limit here.book here.blocks.items here.seat before.0 c.push.new.self.items block (is_ok c.push.result) before.1 c.push.ensures.items
+    with_block board limit here.book here.blocks.items here.left here.seat before.0 c.push.new.self.items block (is_ok c.push.result) before.1 c.push.ensures.items

@@ -15,6 +15,6 @@ returns-in-Some-clause-edits g c =
     let all = subst (All (IsBlockOf journal)) (sym c.deref-block-items.ensures.value) c.self.invariant.parts in
     let is = subst (IsBlockOf journal) (sym c.block-item.is) (all c.loop-block.block-index block c.loop-block-test.true) in
     let said = c.in-Some.ensures in
-    let here = edits_from journal block p is said.begins said.some in
+    let here = edits_from journal block p is.part said.begins said.some in
     subst (λ (v : BookView). copied ≡ take (length copied) (drop p (edits_of v.journal))) c.self.view_is
     (subst (λ (l : List Edit). l ≡ take (length l) (drop p journal)) (sym said.edits) here)

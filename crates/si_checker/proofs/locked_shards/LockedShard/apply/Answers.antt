@@ -12,7 +12,7 @@ pub apply_first-requires : goal.apply_first-requires
 apply_first-requires g c = record {
   accepted =
       let seat = c.self.inside.seat.view in
-      let edits = c.args.edits.now in
+      let edits = c.args.edits in
       let next = subst (λ (b : LockedShardState). edits ≡ take (length edits) (drop b.seat.done (edits_of b.seat.due))) (sym c.self.view_is) c.requires.next in
       subst (λ (l : List Edit). IsAccepted (l ++ edits)) (sym c.self.invariant.stored)
       (further_accepted (edits_of seat.due) edits seat.done (length edits) next refl c.accepted_begins.ensures c.self.invariant.accepted);
@@ -21,7 +21,7 @@ apply_first-requires g c = record {
 pub invariant_of-self : goal.invariant_of-self
 invariant_of-self g c =
     let seat = c.self.inside.seat in
-    let edits = c.args.edits.now in
+    let edits = c.args.edits in
     let next = subst (λ (b : LockedShardState). edits ≡ take (length edits) (drop b.seat.done (edits_of b.seat.due))) (sym c.self.view_is) c.requires.next in
     let stored = c.apply_first.ensures in
     subst (λ (s : Seated ShardView). IsLockedShard g.N.Name.board c.apply_first.new.self s) (sym c.publish.ensures)

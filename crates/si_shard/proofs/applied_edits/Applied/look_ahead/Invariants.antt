@@ -1,8 +1,5 @@
 use Rattle.std.proofs.Common.{◌≡◌}
 use Rattle.si_shard.proofs.applied_edits.Applied.look_ahead.Given as goal
 
-abbrev pub invariant-loop-op : goal.invariant-loop-op
-invariant-loop-op l = l.self ≡ record l.fn.self { ahead = l.self.ahead }
-
-abbrev pub invariant-loop-edit : goal.invariant-loop-edit
-invariant-loop-edit l = l.self ≡ record l.fn.self { ahead = l.self.ahead }
+abbrev pub invariant-loop-place : goal.invariant-loop-place
+invariant-loop-place l = l.self ≡ record l.fn.self { ahead = l.self.ahead }

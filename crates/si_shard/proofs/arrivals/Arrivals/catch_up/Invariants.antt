@@ -5,4 +5,4 @@ use Rattle.si_shard.specs.Arrivals.{AreArrivals}
 use Rattle.si_shard.proofs.arrivals.Arrivals.catch_up.Given as goal
 
 abbrev pub invariant-loop-place : goal.invariant-loop-place
-invariant-loop-place l = AreArrivals (take l.place l.kept) (present (take l.place l.kept)).txns (get nat_eq l.self.by_id)
+invariant-loop-place l = AreArrivals l.id (take l.place l.stored) (present (take l.place l.stored)).txns (get nat_eq l.self.by_id)

@@ -1,21 +1,39 @@
-use Rattle.std.proofs.Common.{◌≡◌, ◌∙◌, ◌++◌, ◌+◌, ◌<◌, ℕ, List, [], ◌∷◌, length, take, drop, slice_index_or, append_assoc, ap, sym, subst}
-use Rattle.std.proofs.lemmas.List.{take-append-drop, take_more}
-use Rattle.si_model.specs.declared.edits.Edit.{Edit}
+use Rattle.std.proofs.Common.{◌≡◌, ◌∙◌, ◌<◌, ◌-◌, ◌++◌, inl, length, take, rules, ap, subst, sym, arith}
+use Rattle.std.proofs.lemmas.List.{length-append}
 use Rattle.si_model.specs.Journals.{IsAccepted}
-use Rattle.si_model.specs.Laws.{AcceptedBegins}
+use Rattle.si_shard.specs.Shards.{ShardState}
+use Rattle.si_shard.proofs.Beginnings.{beginning_accepted}
+use Rattle.si_shard.proofs.Pieces.{take_behind}
 use Rattle.si_shard.proofs.shards.Shard.apply_first.Goals as goal
 
--- one more of the edits is accepted behind those before it
-next_of : AcceptedBegins → (stored edits : List Edit) (i : ℕ) (e : Edit) → i < length edits → e ≡ slice_index_or edits i e → IsAccepted (stored ++ edits) → IsAccepted ((stored ++ take i edits) ++ e ∷ [])
-next_of begins stored edits i e within is accepted =
-    let one : take i edits ++ e ∷ [] ≡ take (i + 1) edits = ap (λ d. take i edits ++ d ∷ []) is ∙ sym (take_more edits i e within) in
-    let whole : ((stored ++ take i edits) ++ e ∷ []) ++ drop (i + 1) edits ≡ stored ++ edits =
-    ap (λ l. l ++ drop (i + 1) edits) (append_assoc stored (take i edits) (e ∷ []) ∙ ap (λ l. stored ++ l) one) ∙ append_assoc stored (take (i + 1) edits) (drop (i + 1) edits) ∙ ap (λ l. stored ++ l) (take-append-drop (i + 1) edits)
-    in
-    begins ((stored ++ take i edits) ++ e ∷ []) (drop (i + 1) edits) (subst IsAccepted (sym whole) accepted)
+pub invariant_of-self-then-end-len : goal.invariant_of-self-then-end-len
+invariant_of-self-then-end-len c =
+    let shard = c.self.inside in
+    let end = c.apply_from-end.result in
+    let added : c.add.new.self ≡ shard.stored ++ c.args.edits = search rules in
+    let before = ap (λ (s : ShardState). s.stored) c.self.view_is in
+    record {
+      within = c.self.invariant.within;
+      accepted = subst IsAccepted (sym (c.truncate.ensures ∙ ap (take end) (added ∙ ap (λ l. l ++ c.args.edits) before)))
+          (beginning_accepted (c.args.self.now.stored ++ c.args.edits) end c.requires.accepted);
+      whole = λ e. cc;
+    }
 
-pub apply_shared-requires : goal.apply_shared-requires
-apply_shared-requires c = record {
-  accepted = subst (λ l. IsAccepted (l ++ c.edit-item.result ∷ [])) (sym c.loop-edit.invariant.1)
-      (next_of c.accepted_begins.ensures c.args.self.now.stored c.args.edits.now c.loop-edit.edit-index c.edit-item.result c.loop-edit-test.true c.edit-item.is c.requires.accepted);
-}
+pub returns-then-end-len : goal.returns-then-end-len
+returns-then-end-len c =
+    let shard = c.self.inside in
+    let end = c.apply_from-end.result in
+    let first = c.len-before.result in
+    let added : c.add.new.self ≡ shard.stored ++ c.args.edits = search rules in
+    let onward = c.apply_from-end.ensures.onward in
+    let before = ap (λ (s : ShardState). s.stored) c.self.view_is in
+    let left : end - first < length c.args.edits = omega (arith, c.if-end-len.true, c.len-2.ensures, c.len-before.ensures, ap length added, length-append shard.stored c.args.edits) in (
+      end - first,
+      record {
+        id = ap (λ (s : ShardState). s.id) c.self.view_is;
+        within = omega arith;
+        stored = c.truncate.ensures ∙ ap (take end) added ∙ take_behind shard.stored c.args.edits first end c.len-before.ensures onward ∙ ap (λ l. l ++ take (end - first) c.args.edits) before;
+        whole = λ e. cc;
+        spoiled = λ e. inl left;
+      },
+    )
