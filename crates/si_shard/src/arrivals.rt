@@ -20,7 +20,8 @@ pub struct Arrival {
     pub status: Status,
 }
 
-/// An index of the arrivals of present transactions that do something on a key of the shard, which stands for the first so many of the stored edits.
+/// An index of the arrivals of present transactions that do something on a key of the shard. It stands for the first so many of the stored
+/// edits.
 ///
 /// Resolutions and withdrawals alone ask for an arrival, so the index is caught up when one of them comes. It stays empty where none
 /// comes. The first of them costs what is stored, once, as the move of a growing table does; after that each edit is entered once.
@@ -65,12 +66,7 @@ impl Arrivals {
 
     /// Enters those of the first so many edits that aren't known, in order. Room is made for all arrivals at once, so that no smaller tables
     /// are left behind.
-    fn catch_up(
-        &mut self,
-        stored: &Stored,
-        first: usize,
-        id: ShardId,
-    ) -> Result<(), OutOfMemory>
+    fn catch_up(&mut self, stored: &Stored, first: usize, id: ShardId) -> Result<(), OutOfMemory>
         requires shards { 0 < id.shards }
         requires within { first ≤ length stored.now }
         requires known { AreKnown id (take first stored.now) self.old }
@@ -100,14 +96,14 @@ fn enter(
     by_id: &mut HashMap<u64, Arrival, NumberHash>,
     edit: &Edit,
     place: usize,
-    id: ShardId,
+    shard: ShardId,
 ) -> Result<(), OutOfMemory>
-    requires { 0 < id.shards }
-    ensures { OnOk result (SetsArrival id edit.now place (get nat_eq by_id.old) (get nat_eq by_id.new)) }
+    requires { 0 < shard.shards }
+    ensures { OnOk result (SetsArrival shard edit.now place (get nat_eq by_id.old) (get nat_eq by_id.new)) }
 {
     match edit {
         Edit::Arrive(txn) => {
-            if id.is_touched(txn.ops.as_slice()) {
+            if shard.is_touched(txn.ops.as_slice()) {
                 let status = txn.status;
                 by_id.insert(txn.id.0, Arrival { place, status })?;
             }
