@@ -9,7 +9,8 @@ use Rattle.si_words.specs.Entries.{edits_of}
 use Rattle.si_words.specs.Seats.{Board, Seated}
 use Rattle.si_checker.specs.Blocks.{BlockState, IsBlockOf, IsPartOf}
 
--- the book's journal is the edits of the journal that its seat knows, which is accepted and within the limit, and the kept blocks and what was left for shards are parts of it
+-- the book's journal is the edits of the journal that its seat knows, which is accepted and within the limit, and the kept blocks and what
+-- was left for shards are parts of it
 pub record IsLockedBook (board : Board) (limit : ℕ) (book : BookState) (blocks : List BlockState) (left : Option BlockState) (seat : Seated BookView) : Type 0 where
   pub table : seat.table ≡ board.table
   pub passes : seat.view.passes ≡ board.passes

@@ -47,7 +47,8 @@ impl Block {
         self.end
     }
 
-    /// Its edits from this position on, if it covers that. They are shared and not copied.
+    /// Its edits from this position on, if it covers that. They are shared and not copied; there are none where the count of those who share
+    /// them can't go up.
     pub fn copied_from(&self, position: u64) -> Option<SharedEdits>
         ensures begins { IfSome result (λ edits. self.now.first ≤ position) }
         ensures some { IfSome result (λ edits. position < self.now.first + length self.now.edits) }
