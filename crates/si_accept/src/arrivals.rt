@@ -56,8 +56,8 @@ impl Arrivals {
         Arrivals {
             alloc,
             journal: Vec::new(alloc),
-            places: IndexMap::with_hasher(alloc, NumberHash::new(hash)),
-            resolved: IndexMap::with_hasher(alloc, NumberHash::new(hash)),
+            places: IndexMap::with_hasher(alloc, NumberHash::with_secret(hash)),
+            resolved: IndexMap::with_hasher(alloc, NumberHash::with_secret(hash)),
         }
     }
 

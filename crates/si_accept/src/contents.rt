@@ -75,6 +75,7 @@ impl Holders for Contents {
 }
 
 impl Contents {
+    /// Nothing is present.
     pub fn new(alloc: Global, hash: RandomState) -> Self
         ensures journal { result.journal ≡ [] }
         ensures present { result.present ≡ nothing }

@@ -1,6 +1,6 @@
 //! Numbers for keys, so that an index by keys needs no copy of a key for a look-up, and its entries are small.
 
-ghost use Rattle.std.specs.Prelude.{◌≡◌, [], Some, IfOk, OnOk, OnErr};
+ghost use Rattle.std.specs.Prelude.{◌≡◌, [], Some, IfOk, OnOk, OnErr, length};
 ghost use Rattle.si_accept.specs.KeyNumbers.{number_of, with_key};
 
 use indexmap::IndexSet;
@@ -25,11 +25,12 @@ impl Model for KeyNumbers {
 }
 
 impl KeyNumbers {
+    /// No key has a number.
     pub fn new(alloc: Global, hash: RandomState) -> Self
         ensures { result ≡ [] }
     {
         KeyNumbers {
-            keys: IndexSet::with_hasher(alloc, KeyHash::new(hash)),
+            keys: IndexSet::with_hasher(alloc, KeyHash::with_secret(hash)),
         }
     }
 
@@ -38,6 +39,13 @@ impl KeyNumbers {
         ensures { result ≡ number_of self.now key.now }
     {
         self.keys.get_index_of(key)
+    }
+
+    /// How many keys have numbers.
+    pub fn len(&self) -> usize
+        ensures { result ≡ length self.now }
+    {
+        self.keys.len()
     }
 
     /// The number of the key, which gets one if it has none.

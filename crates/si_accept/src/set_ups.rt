@@ -26,12 +26,13 @@ impl Model for SetUps {
 }
 
 impl SetUps {
+    /// No key is set up.
     pub fn new(alloc: Global, hash: RandomState) -> Self
         ensures { result ≡ [] }
     {
         SetUps {
             alloc,
-            values: IndexMap::with_hasher(alloc, KeyHash::new(hash)),
+            values: IndexMap::with_hasher(alloc, KeyHash::with_secret(hash)),
         }
     }
 

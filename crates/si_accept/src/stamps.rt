@@ -26,6 +26,7 @@ impl Model for Stamps {
 }
 
 impl Stamps {
+    /// No transaction has a stamp.
     pub fn new(alloc: Global) -> Self
         ensures { result ≡ [] }
     {

@@ -27,6 +27,7 @@ pub fn twice_refusal(alloc: Global, hash: RandomState, ops: &[Op]) -> Option<Ref
     }
 }
 
+/// The first write of a value that a write before it has too, found by an index.
 fn indexed_refusal(
     alloc: Global,
     hash: RandomState,

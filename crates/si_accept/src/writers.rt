@@ -1,22 +1,22 @@
 //! An index of written pairs: who writes which pair of key and value.
 
 ghost use Rattle.std.specs.Prelude.{◌≡◌, Some, None, OnOk, OnErr};
-ghost use Rattle.si_accept.specs.Writers.{writer_of, SetsWriter, SetsWriters, SameWriters, AreFree};
+ghost use Rattle.si_accept.specs.Writers.{writer_of, SetsWriter, SetsWriters, SameWriters, AreFree, HasRoom};
 
 use crate::key_numbers::KeyNumbers;
-use si_hashing::NumberHash;
 use si_model::{Key, Op, OutOfMemory, TxnId, Value};
+use si_sorted::SortedMap;
 use std::alloc::Global;
-use std::collections::HashMap;
 use std::hash::RandomState;
 use std::marker::Model;
 
 /// Pairs of key and value with the transactions that write them. Contracts see who writes what an operation writes.
 #[derive(Drop)]
 pub struct Writers {
+    alloc: Global,
     keys: KeyNumbers,
-    // From a key's number and a value to the writer.
-    ids: HashMap<(usize, u64), TxnId, NumberHash>,
+    // Of the key of each number the writers by the values, which mostly rise; one more may stand ready for the next key.
+    ids: Vec<SortedMap<u64, u64>>,
 }
 
 impl Model for Writers {
@@ -24,18 +24,20 @@ impl Model for Writers {
 
     ghost Value = { Written };
 
-    ghost view = { λ w. record { keys = w.keys; ids = w.ids.entries } };
+    ghost view = { λ w. record { keys = w.keys; ids = w.ids.items } };
 
-    ghost invariant = { λ w. AreNumbered (record { keys = w.keys; ids = w.ids.entries }) };
+    ghost invariant = { λ w. AreNumbered (record { keys = w.keys; ids = w.ids.items }) };
 }
 
 impl Writers {
+    /// No value is written.
     pub fn new(alloc: Global, hash: RandomState) -> Self
         ensures { (op : Op) → writer_of result op ≡ None }
     {
         Writers {
+            alloc,
             keys: KeyNumbers::new(alloc, hash),
-            ids: HashMap::with_hasher(alloc, NumberHash::new(hash)),
+            ids: Vec::new(alloc),
         }
     }
 
@@ -54,7 +56,19 @@ impl Writers {
         ensures { result ≡ writer_of self.now (Op.Write key.now value) }
     {
         let number = self.keys.number(key)?;
-        self.ids.get(&(number, value.0)).copied()
+        let id = self.ids[number].get(value.0)?;
+        Some(TxnId(id))
+    }
+
+    /// Makes a place for the writers of one key more.
+    fn make_room(&mut self) -> Result<(), OutOfMemory>
+        ensures ok { OnOk result (HasRoom self.old self.new) }
+        ensures err { OnErr result (self.new ≡ self.old) }
+    {
+        if self.ids.len() == self.keys.len() {
+            self.ids.push(SortedMap::new(self.alloc))?;
+        }
+        Ok(())
     }
 
     /// The transaction writes the pair that the operation writes, from now on.
@@ -63,8 +77,9 @@ impl Writers {
         ensures err { OnErr result (SameWriters self.old self.new) }
     {
         if let Op::Write(key, value) = op {
+            self.make_room()?;
             let number = self.keys.add(key)?;
-            self.ids.insert((number, value.0), id)?;
+            self.ids[number].insert(value.0, id.0)?;
         }
         Ok(())
     }
@@ -75,7 +90,7 @@ impl Writers {
     {
         if let Op::Write(key, value) = op {
             if let Some(number) = self.keys.number(key) {
-                let _former = self.ids.remove(&(number, value.0));
+                let _former = self.ids[number].remove(value.0);
             }
         }
     }

@@ -1,6 +1,7 @@
 -- The kept blocks are parts of the journal, and what they have from a position on is the journal's.
 use Rattle.std.proofs.Common.{◌≡◌, ◌∙◌, ◌<◌, ◌≤◌, ◌+◌, ◌-◌, ℕ, Bool, true, false, if◌then◌else◌, List, [], ◌∷◌, Option, Some, None, IfSome, All, ◌++◌, length, take, drop, sym, ap, subst, arith, length-drop}
 use Rattle.std.specs.List.{remove}
+use Rattle.std.proofs.lemmas.List.Edits.{length-remove}
 use Rattle.std.proofs.lemmas.List.{drop-append-le, drop-drop, drop-take, length-append, take-append-le}
 use Rattle.std.proofs.lemmas.List.Elements.{All-append, All-cons, All-drop, All-nil, All-take, All-weaker}
 use Rattle.si_model.specs.declared.edits.Edit.{Edit}
@@ -38,8 +39,8 @@ module _ (board : Board) (limit : ℕ) (book : BookState) (bs : List BlockState)
   abbrev IsPart : BlockState → Type 0
   IsPart = IsBlockOf (edits_of seat.view.journal)
 
-  with_parts : (new : List BlockState) → All IsPart new → IsLockedBook board limit book new left seat
-  with_parts new parts = record {
+  with_parts : (new : List BlockState) → length new ≤ 16 → All IsPart new → IsLockedBook board limit book new left seat
+  with_parts new few parts = record {
     table = is.table;
     passes = is.passes;
     within = is.within;
@@ -47,23 +48,31 @@ module _ (board : Board) (limit : ℕ) (book : BookState) (bs : List BlockState)
     journal = is.journal;
     accepted = is.accepted;
     room = is.room;
+    few = few;
     parts = parts;
     rest = is.rest;
   }
 
-  -- without the oldest
-  pub without_oldest : IsLockedBook board limit book (remove bs 0) left seat
-  without_oldest = with_parts (remove bs 0) (All-append IsPart (take 0 bs) (drop 1 bs) (All-take IsPart 0 bs is.parts) (All-drop IsPart 1 bs is.parts))
+  -- without the oldest there is room for one more
+  pub room_made : 0 < length bs → length (remove bs 0) < 16
+  room_made some = omega (arith, length-remove bs 0 some, is.few)
+
+  pub without_oldest : 0 < length bs → IsLockedBook board limit book (remove bs 0) left seat
+  without_oldest some = with_parts (remove bs 0) (let few = room_made some in omega (arith, few)) (All-append IsPart (take 0 bs) (drop 1 bs) (All-take IsPart 0 bs is.parts) (All-drop IsPart 1 bs is.parts))
 
   -- with one more, where there was memory for it
-  pub with_block : (new : List BlockState) (b : BlockState) (kept : Bool) → IsPart b → new ≡ (if kept then bs ++ b ∷ [] else bs)
+  pub with_block : (new : List BlockState) (b : BlockState) (kept : Bool) → length bs < 16 → IsPart b → new ≡ (if kept then bs ++ b ∷ [] else bs)
       → IsLockedBook board limit book new left seat
-  with_block new b kept part new_is =
+  with_block new b kept room part new_is =
+      let few = elim kept as (λ k. length (if k then bs ++ b ∷ [] else bs) ≤ 16) [
+        | true ↦ omega (arith, room, length-append bs (b ∷ []))
+        | false ↦ is.few
+      ] in
       let all = elim kept as (λ k. All IsPart (if k then bs ++ b ∷ [] else bs)) [
         | true ↦ All-append IsPart bs (b ∷ []) is.parts (All-cons IsPart b [] part (All-nil IsPart))
         | false ↦ is.parts
       ] in
-      with_parts new (subst (All IsPart) (sym new_is) all)
+      with_parts new (subst (λ l. length l ≤ 16) (sym new_is) few) (subst (All IsPart) (sym new_is) all)
 
 -- ---- the journal grows
 

@@ -1,7 +1,6 @@
 -- Parts of the journal that were copied once. All of it is this project's choice.
 use Rattle.std.specs.Prelude.{◌≡◌, ℕ, ◌+◌, ◌≤◌, List, length, drop, take}
 use Rattle.si_model.specs.declared.edits.Edit.{Edit}
-use Rattle.si_checker.specs.declared.locked_books.TheConstants.{MOST_AT_ONCE}
 
 -- where a block begins in the journal, and its edits
 pub record BlockState : Type 0 where
@@ -16,4 +15,4 @@ pub record IsPartOf (journal : List Edit) (block : BlockState) : Type 0 where
 -- they are no more than are copied at once
 pub record IsBlockOf (journal : List Edit) (block : BlockState) : Type 0 where
   pub part : IsPartOf journal block
-  pub most : length block.edits ≤ MOST_AT_ONCE
+  pub most : length block.edits ≤ 64

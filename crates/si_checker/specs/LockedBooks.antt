@@ -10,7 +10,7 @@ use Rattle.si_words.specs.Seats.{Board, Seated}
 use Rattle.si_checker.specs.Blocks.{BlockState, IsBlockOf, IsPartOf}
 
 -- the book's journal is the edits of the journal that its seat knows, which is accepted and within the limit, and the kept blocks and what
--- was left for shards are parts of it
+-- was left for shards are parts of it; no more blocks are kept than the last 16
 pub record IsLockedBook (board : Board) (limit : ℕ) (book : BookState) (blocks : List BlockState) (left : Option BlockState) (seat : Seated BookView) : Type 0 where
   pub table : seat.table ≡ board.table
   pub passes : seat.view.passes ≡ board.passes
@@ -19,5 +19,6 @@ pub record IsLockedBook (board : Board) (limit : ℕ) (book : BookState) (blocks
   pub journal : book.journal ≡ edits_of seat.view.journal
   pub accepted : IsAccepted (edits_of seat.view.journal)
   pub room : length seat.view.journal ≤ limit
+  pub few : length blocks ≤ 16
   pub parts : All (IsBlockOf (edits_of seat.view.journal)) blocks
   pub rest : IfSome left (IsPartOf (edits_of seat.view.journal))

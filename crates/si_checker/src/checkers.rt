@@ -5,6 +5,7 @@ ghost use Rattle.si_model.specs.Findings.{findings};
 ghost use Rattle.si_model.specs.Form.{IsWellFormed};
 ghost use Rattle.si_model.specs.Journals.{IsAccepted, present, refusal_after};
 ghost use Rattle.si_graph.specs.Phenomena.{IsPlSi};
+ghost use Rattle.si_graph.specs.Snapshots.{IsSnapshot};
 ghost use Rattle.si_accept.specs.Faults.{IsFaultOf};
 ghost use Rattle.si_accept.specs.Statuses.{committed_among, doubtful_among};
 ghost use Rattle.si_shard.specs.Laws.{shard_id};
@@ -22,7 +23,7 @@ use crate::openings::Parts;
 use crate::reports::{Report, ReportFault, SettledFindings, ShardReport, Statuses};
 use crate::{AcceptFault, Name};
 use si_accept::Book;
-use si_graph::laws::emptiness_is_exact;
+use si_graph::laws::{emptiness_is_exact, snapshots_are_clean};
 use si_model::laws::present_is_history;
 use si_model::{Edit, Finding, MOST_EDITS, Number, OutOfMemory};
 use si_shard::put_all_in_order;
@@ -51,13 +52,6 @@ pub struct Checker<N: Name> {
 
 impl<N: Name> Checker<N> {
     /// The checker of these parts, whose board and limit the name tells. It fails where memory is refused.
-    ///
-    /// # Examples
-    ///
-    /// ```
-    /// // In a function that is generic in `N: Name` and is called with `Brand`.
-    /// let checker = Checker::<N>::new(rt.alloc(), parts)?;
-    /// ```
     pub fn new(alloc: Global, parts: Parts) -> Result<Self, OutOfMemory>
         requires board { parts.board ≡ N.board }
         requires limit { parts.limit ≡ N.limit }
@@ -81,14 +75,6 @@ impl<N: Name> Checker<N> {
     }
 
     /// How many shards there are.
-    ///
-    /// # Examples
-    ///
-    /// ```
-    /// for k in 0..checker.shards() {
-    ///     report_of_shard(&checker.shard_report(rt, &mut pass, k)?);
-    /// }
-    /// ```
     pub fn shards(&self) -> usize
         ensures { result ≡ N.board.shards }
     {
@@ -99,17 +85,6 @@ impl<N: Name> Checker<N> {
     ///
     /// Afterwards the pass has seen the journal on which the edit was decided, and nothing else of it changes but, where the edit
     /// was accepted, its own edits by that one.
-    ///
-    /// # Examples
-    ///
-    /// ```
-    /// let edit = read_edit(rt.alloc(), line)?;
-    /// match checker.submit(rt, &mut pass, edit) {
-    ///     Ok(number) => accepted(number),
-    ///     Err(AcceptFault::Refused(reason)) => refused(reason),
-    ///     Err(AcceptFault::OutOfMemory) => out_of_memory(),
-    /// }
-    /// ```
     pub fn submit<R: Wait>(
         &self,
         rt: &R,
@@ -129,13 +104,6 @@ impl<N: Name> Checker<N> {
     /// The findings of the whole journal, which the pass sees, and what is present after it.
     ///
     /// What shards have left to apply is applied here. After a fault what was applied stands, and the pass has seen the journal.
-    ///
-    /// # Examples
-    ///
-    /// ```
-    /// let report = checker.settled_report(rt, &mut pass)?;
-    /// let again = findings_of(report.present.as_slice(), report.initial.as_slice())?; // the same findings
-    /// ```
     pub fn settled_report<R: Wait>(&self, rt: &R, pass: &mut Pass) -> Result<Report, ReportFault>
         requires { pass.old.table ≡ N.board.table }
         ensures fault { (j : ℕ) → IfErr result (λ f. f ≡ fault.Spoiled j → j < N.board.shards) }
@@ -144,6 +112,7 @@ impl<N: Name> Checker<N> {
         ensures initial { IfOk result (λ r. r.initial.items ≡ (present (edits_of pass.new.view.seen)).initial) }
         ensures found { IfOk result (λ r. r.findings.items ≡ findings (present (edits_of pass.new.view.seen))) }
         ensures empty { IfOk result (λ r. (r.findings.items ≡ []) ↔ (IsWellFormed (present (edits_of pass.new.view.seen)) × IsPlSi (present (edits_of pass.new.view.seen)))) }
+        ensures snapshot { IfOk result (λ r. (r.findings.items ≡ []) ↔ IsSnapshot (present (edits_of pass.new.view.seen))) }
         ensures sees { SeesJournal N.board pass.new.view.seen pass.old pass.new }
     {
         let mut guard = self.locked_book.lock(rt);
@@ -165,6 +134,7 @@ impl<N: Name> Checker<N> {
         ensures initial { IfOk result (λ r. r.initial.items ≡ (present (edits_of locked_book.old.journal)).initial) }
         ensures found { IfOk result (λ r. r.findings.items ≡ findings (present (edits_of locked_book.old.journal))) }
         ensures empty { IfOk result (λ r. (r.findings.items ≡ []) ↔ (IsWellFormed (present (edits_of locked_book.old.journal)) × IsPlSi (present (edits_of locked_book.old.journal)))) }
+        ensures snapshot { IfOk result (λ r. (r.findings.items ≡ []) ↔ IsSnapshot (present (edits_of locked_book.old.journal))) }
     {
         let findings = self.settle(rt, locked_book)?;
         Ok(Report {
@@ -179,13 +149,6 @@ impl<N: Name> Checker<N> {
     /// report tells, without the copy of what is present.
     ///
     /// What shards have left to apply is applied here. After a fault what was applied stands, and the pass has seen the journal.
-    ///
-    /// # Examples
-    ///
-    /// ```
-    /// let report = checker.settled_findings(rt, &mut pass)?;
-    /// let verdict = Verdict::of(report.findings.as_slice());
-    /// ```
     pub fn settled_findings<R: Wait>(
         &self,
         rt: &R,
@@ -197,6 +160,7 @@ impl<N: Name> Checker<N> {
         ensures count { IfOk result (λ r. r.transactions ≡ length (present (edits_of pass.new.view.seen)).txns) }
         ensures found { IfOk result (λ r. r.findings.items ≡ findings (present (edits_of pass.new.view.seen))) }
         ensures empty { IfOk result (λ r. (r.findings.items ≡ []) ↔ (IsWellFormed (present (edits_of pass.new.view.seen)) × IsPlSi (present (edits_of pass.new.view.seen)))) }
+        ensures snapshot { IfOk result (λ r. (r.findings.items ≡ []) ↔ IsSnapshot (present (edits_of pass.new.view.seen))) }
         ensures sees { SeesJournal N.board pass.new.view.seen pass.old pass.new }
     {
         let mut guard = self.locked_book.lock(rt);
@@ -218,6 +182,7 @@ impl<N: Name> Checker<N> {
         ensures count { IfOk result (λ r. r.transactions ≡ length (present (edits_of locked_book.old.journal)).txns) }
         ensures found { IfOk result (λ r. r.findings.items ≡ findings (present (edits_of locked_book.old.journal))) }
         ensures empty { IfOk result (λ r. (r.findings.items ≡ []) ↔ (IsWellFormed (present (edits_of locked_book.old.journal)) × IsPlSi (present (edits_of locked_book.old.journal)))) }
+        ensures snapshot { IfOk result (λ r. (r.findings.items ≡ []) ↔ IsSnapshot (present (edits_of locked_book.old.journal))) }
     {
         let findings = self.settle(rt, locked_book)?;
         let number = locked_book.len();
@@ -229,13 +194,6 @@ impl<N: Name> Checker<N> {
     }
 
     /// What became of the transactions that are present after the whole journal, which the pass sees. It walks over all of them.
-    ///
-    /// # Examples
-    ///
-    /// ```
-    /// let statuses = checker.statuses(rt, &mut pass)?;
-    /// let is_whole = statuses.committed >= 1_000 && statuses.in_doubt.is_empty();
-    /// ```
     pub fn statuses<R: Wait>(&self, rt: &R, pass: &mut Pass) -> Result<Statuses, OutOfMemory>
         requires { pass.old.table ≡ N.board.table }
         ensures committed { IfOk result (λ s. s.committed ≡ committed_among (present (edits_of pass.new.view.seen)).txns) }
@@ -258,6 +216,7 @@ impl<N: Name> Checker<N> {
         ensures locked_book { locked_book.new ≡ locked_book.old }
         ensures found { IfOk result (λ found. found.items ≡ findings (present (edits_of locked_book.old.journal))) }
         ensures empty { IfOk result (λ found. (found.items ≡ []) ↔ (IsWellFormed (present (edits_of locked_book.old.journal)) × IsPlSi (present (edits_of locked_book.old.journal)))) }
+        ensures snapshot { IfOk result (λ found. (found.items ≡ []) ↔ IsSnapshot (present (edits_of locked_book.old.journal))) }
     {
         let mut found = Vec::new(self.alloc);
         for k in 0..self.locked_shards.len() {
@@ -266,6 +225,7 @@ impl<N: Name> Checker<N> {
         put_all_in_order(&mut found);
         present_is_history();
         emptiness_is_exact();
+        snapshots_are_clean();
         let _accepted = locked_book.journal();
         Ok(found)
     }
@@ -294,13 +254,6 @@ impl<N: Name> Checker<N> {
     /// The findings on the shard's keys after the edits that it has applied, which the pass then knows it has, and sees.
     ///
     /// After a fault the pass is as before.
-    ///
-    /// # Examples
-    ///
-    /// ```
-    /// let report = checker.shard_report(rt, &mut pass, 0)?;
-    /// let behind = checker.issued(&mut pass) - report.position; // edits that the shard had not applied, or more
-    /// ```
     pub fn shard_report<R: Wait>(
         &self,
         rt: &R,
@@ -329,14 +282,6 @@ impl<N: Name> Checker<N> {
     /// Makes all that the shard knows anew from the edits that it has applied, and so ends a spoiled state.
     ///
     /// If memory is refused, everything stays as it was.
-    ///
-    /// # Examples
-    ///
-    /// ```
-    /// if let Err(ReportFault::Spoiled(k)) = checker.settled_findings(rt, &mut pass) {
-    ///     checker.rebuild(rt, k)?; // once there is memory again
-    /// }
-    /// ```
     pub fn rebuild<R: Wait>(&self, rt: &R, k: usize) -> Result<(), OutOfMemory>
         requires { k < N.board.shards }
     {
@@ -349,12 +294,6 @@ impl<N: Name> Checker<N> {
 
     /// Tells workers that they may end once nothing is left. Edits that are submitted later are still accepted, and a settled
     /// report applies them. The pass stays as it is.
-    ///
-    /// # Examples
-    ///
-    /// ```
-    /// checker.close(rt, &mut pass); // `work` of each shard then ends, once nothing is left
-    /// ```
     pub fn close<R: Wait>(&self, rt: &R, pass: &mut Pass)
         requires { pass.old.table ≡ N.board.table }
         ensures { pass.new ≡ pass.old }
@@ -383,12 +322,6 @@ impl<N: Name> Checker<N> {
     }
 
     /// How many edits were issued. It takes no lock and waits for nobody.
-    ///
-    /// # Examples
-    ///
-    /// ```
-    /// let accepted = checker.issued(&mut pass);
-    /// ```
     pub fn issued(&self, pass: &mut Pass) -> u64
         requires { pass.old.table ≡ N.board.table }
         ensures view { pass.new ≡ record pass.old { view = with_count result pass.old.view } }
@@ -400,12 +333,6 @@ impl<N: Name> Checker<N> {
     }
 
     /// How many edits the shard has applied. It takes no lock and waits for nobody.
-    ///
-    /// # Examples
-    ///
-    /// ```
-    /// let applied = checker.shard_mark(&mut pass, 0);
-    /// ```
     pub fn shard_mark(&self, pass: &mut Pass, k: usize) -> u64
         requires own { pass.old.table ≡ N.board.table }
         requires shard { k < N.board.shards }
@@ -419,12 +346,6 @@ impl<N: Name> Checker<N> {
 
     /// The least mark, after a look at each shard: every shard has applied at least so many edits. It takes no lock and waits for
     /// nobody.
-    ///
-    /// # Examples
-    ///
-    /// ```
-    /// let settled = checker.watermark(&mut pass) == checker.issued(&mut pass);
-    /// ```
     pub fn watermark(&self, pass: &mut Pass) -> u64
         requires { pass.old.table ≡ N.board.table }
         ensures view { pass.new ≡ record pass.old { view = with_marks pass.new.view.marks pass.old.view } }
@@ -437,14 +358,6 @@ impl<N: Name> Checker<N> {
     }
 
     /// Whether the checker is closed. Once a pass has found it closed it finds it so. It takes no lock and waits for nobody.
-    ///
-    /// # Examples
-    ///
-    /// ```
-    /// while !checker.is_closed(&mut pass) {
-    ///     submit_some(&checker, &mut pass);
-    /// }
-    /// ```
     pub fn is_closed(&self, pass: &mut Pass) -> bool
         requires { pass.old.table ≡ N.board.table }
         ensures view { pass.new ≡ record pass.old { view = pass_closed result pass.old.view } }

@@ -21,7 +21,7 @@ use std::alloc::Global;
 use std::marker::{Model, PhantomData};
 use std::snapshot::Snapshot;
 
-/// The most edits that are copied at once.
+/// The most edits that are copied at once. Clauses name this number and the next one themselves, as bounds.
 pub const MOST_AT_ONCE: usize = 64;
 
 /// The most blocks that are kept: a shard that is 16 blocks behind the one that is furthest finds its next edits still.
@@ -52,12 +52,6 @@ impl<N: Name> Model for LockedBook<N> {
 
 impl<N: Name> LockedBook<N> {
     /// A book with an empty journal, and its seat.
-    ///
-    /// # Examples
-    ///
-    /// ```
-    /// let locked_book = LockedBook::new(alloc, Book::new(alloc, hash, limit), seat);
-    /// ```
     pub fn new(alloc: Global, book: Book, seat: BookSeat) -> Self
         requires book { book ≡ record { limit = N.limit; journal = [] } }
         requires seat { seat ≡ seated N.board.table (new_book N.board.passes) }
@@ -77,12 +71,6 @@ impl<N: Name> LockedBook<N> {
     /// Accepts the edit, or tells the first reason against it. Then the pass sees the journal.
     ///
     /// The answer is the edit's number, and it bears the pass. After a fault the journal is as before.
-    ///
-    /// # Examples
-    ///
-    /// ```
-    /// let number = locked_book.submit(&words, &mut pass, edit)?; // the pass has seen the journal, which ends with this edit
-    /// ```
     pub fn submit(
         &mut self,
         words: &Words,
@@ -117,12 +105,6 @@ impl<N: Name> LockedBook<N> {
     }
 
     /// The pass sees the journal.
-    ///
-    /// # Examples
-    ///
-    /// ```
-    /// locked_book.show(&words, &mut pass); // the pass has seen the journal
-    /// ```
     pub fn show(&mut self, words: &Words, pass: &mut Pass)
         requires words { words.now ≡ N.board }
         requires own { pass.old.table ≡ N.board.table }
@@ -134,12 +116,6 @@ impl<N: Name> LockedBook<N> {
     }
 
     /// The words are closed from now on.
-    ///
-    /// # Examples
-    ///
-    /// ```
-    /// locked_book.close(&words); // each look at the words finds them closed
-    /// ```
     pub fn close(&mut self, words: &Words)
         requires { words.now ≡ N.board }
         ensures { self.new ≡ book_closed self.old }
@@ -151,18 +127,12 @@ impl<N: Name> LockedBook<N> {
     /// fewer, or none.
     ///
     /// They are copied once for all shards: whoever asks for what a kept block covers shares that block.
-    ///
-    /// # Examples
-    ///
-    /// ```
-    /// let copied = locked_book.copy(alloc, locked_shard.position()); // the next edits that the shard has left
-    /// ```
     pub fn copy(&mut self, alloc: Global, position: u64) -> Option<SharedEdits>
         requires { position ≤ length self.old.journal }
         ensures locked_book { self.new ≡ self.old }
         ensures edits { IfSome result (λ edits. edits ≡ take (length edits) (drop position (edits_of self.old.journal))) }
         ensures some { IfSome result (λ edits. 0 < length edits) }
-        ensures most { IfSome result (λ edits. length edits ≤ MOST_AT_ONCE) }
+        ensures most { IfSome result (λ edits. length edits ≤ 64) }
     {
         if let Some(copied) = self.kept_from(position) {
             return Some(copied);
@@ -176,12 +146,6 @@ impl<N: Name> LockedBook<N> {
     /// Copies of all edits from this position on, which share the operations. There are none where none is left, or memory is refused.
     ///
     /// They are copied once for all shards that ask one after the other, unless one asks from further back.
-    ///
-    /// # Examples
-    ///
-    /// ```
-    /// let left = locked_book.copy_left(alloc, locked_shard.position()); // all that the shard has left
-    /// ```
     pub fn copy_left(&mut self, alloc: Global, position: u64) -> Option<SharedEdits>
         requires { position ≤ length self.old.journal }
         ensures locked_book { self.new ≡ self.old }
@@ -230,7 +194,7 @@ impl<N: Name> LockedBook<N> {
     fn kept_from(&self, position: u64) -> Option<SharedEdits>
         ensures edits { IfSome result (λ edits. edits ≡ take (length edits) (drop position (edits_of self.now.journal))) }
         ensures some { IfSome result (λ edits. 0 < length edits) }
-        ensures most { IfSome result (λ edits. length edits ≤ MOST_AT_ONCE) }
+        ensures most { IfSome result (λ edits. length edits ≤ 64) }
     {
         for block in &self.blocks {
             if let Some(copied) = block.copied_from(position) {
@@ -267,12 +231,6 @@ impl<N: Name> LockedBook<N> {
     }
 
     /// The accepted edits, in the order of their numbers.
-    ///
-    /// # Examples
-    ///
-    /// ```
-    /// let last = locked_book.journal().last();
-    /// ```
     pub fn journal(&self) -> &[Edit]
         ensures edits { result.now ≡ edits_of self.now.journal }
         ensures accepted { IsAccepted (edits_of self.now.journal) }
@@ -281,12 +239,6 @@ impl<N: Name> LockedBook<N> {
     }
 
     /// How many edits are accepted.
-    ///
-    /// # Examples
-    ///
-    /// ```
-    /// let left = locked_book.len() - locked_shard.position(); // behind `pull`
-    /// ```
     pub fn len(&self) -> u64
         ensures journal { result ≡ length self.now.journal }
         ensures within { result ≤ N.limit }
@@ -295,12 +247,6 @@ impl<N: Name> LockedBook<N> {
     }
 
     /// How many transactions are present.
-    ///
-    /// # Examples
-    ///
-    /// ```
-    /// let transactions = locked_book.transactions(); // those in doubt and those that aborted too
-    /// ```
     pub fn transactions(&self) -> usize
         ensures { result ≡ length (present (edits_of self.now.journal)).txns }
     {
@@ -308,12 +254,6 @@ impl<N: Name> LockedBook<N> {
     }
 
     /// What became of the present transactions.
-    ///
-    /// # Examples
-    ///
-    /// ```
-    /// let Statuses { committed, in_doubt } = locked_book.statuses()?;
-    /// ```
     pub fn statuses(&self) -> Result<Statuses, OutOfMemory>
         ensures committed { IfOk result (λ s. s.committed ≡ committed_among (present (edits_of self.now.journal)).txns) }
         ensures in_doubt { IfOk result (λ s. s.in_doubt.items ≡ doubtful_among (present (edits_of self.now.journal)).txns) }
@@ -325,12 +265,6 @@ impl<N: Name> LockedBook<N> {
     }
 
     /// Copies of the present transactions, in the order of arrival, which share the operations.
-    ///
-    /// # Examples
-    ///
-    /// ```
-    /// let again = findings_of(locked_book.present()?.as_slice(), locked_book.initial()?.as_slice())?; // those of all shards, in order
-    /// ```
     pub fn present(&self) -> Result<Vec<Txn>, OutOfMemory>
         ensures { IfOk result (λ txns. txns.items ≡ (present (edits_of self.now.journal)).txns) }
     {
@@ -338,12 +272,6 @@ impl<N: Name> LockedBook<N> {
     }
 
     /// Copies of the keys that were set up with their values, in the order of arrival.
-    ///
-    /// # Examples
-    ///
-    /// ```
-    /// let values = locked_book.initial()?; // [(x, 7)] after `{"do":"setup","key":"x","value":7}`
-    /// ```
     pub fn initial(&self) -> Result<Vec<(Key, Value)>, OutOfMemory>
         ensures { IfOk result (λ initial. initial.items ≡ (present (edits_of self.now.journal)).initial) }
     {

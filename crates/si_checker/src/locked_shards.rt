@@ -42,12 +42,6 @@ impl<N: Name> Model for LockedShard<N> {
 
 impl<N: Name> LockedShard<N> {
     /// The shard of the seat, among so many. It has stored no edit.
-    ///
-    /// # Examples
-    ///
-    /// ```
-    /// let locked_shard = LockedShard::new(alloc, hash, shards, seat);
-    /// ```
     pub fn new(alloc: Global, hash: RandomState, shards: usize, seat: ShardSeat) -> Self
         requires shards { shards ≡ N.board.shards }
         requires most { shards ≤ MOST_SHARDS }
@@ -64,12 +58,6 @@ impl<N: Name> LockedShard<N> {
     }
 
     /// Which shard it is.
-    ///
-    /// # Examples
-    ///
-    /// ```
-    /// let is_asked = locked_shard.number() == k;
-    /// ```
     pub fn number(&self) -> usize
         ensures number { result ≡ self.now.seat.number }
         ensures within { self.now.seat.number < N.board.shards }
@@ -78,12 +66,6 @@ impl<N: Name> LockedShard<N> {
     }
 
     /// How many edits the shard has applied.
-    ///
-    /// # Examples
-    ///
-    /// ```
-    /// let applied = locked_shard.position();
-    /// ```
     pub fn position(&self) -> u64
         ensures position { result ≡ self.now.seat.done }
         ensures within { result ≤ length self.now.seat.due }
@@ -93,14 +75,6 @@ impl<N: Name> LockedShard<N> {
     }
 
     /// Whether memory was refused to an edit, which is left then, and no rebuild came since.
-    ///
-    /// # Examples
-    ///
-    /// ```
-    /// if locked_shard.is_spoiled() {
-    ///     locked_shard.rebuild(locked_shard.number())?; // once there is memory again
-    /// }
-    /// ```
     pub fn is_spoiled(&self) -> bool
         ensures spoiled { result ≡ self.now.spoiled }
         ensures left { result ≡ true → self.now.seat.done < length self.now.seat.due }
@@ -109,12 +83,6 @@ impl<N: Name> LockedShard<N> {
     }
 
     /// The shard is due the whole journal, which goes on where that ended which it was due before.
-    ///
-    /// # Examples
-    ///
-    /// ```
-    /// locked_shard.pull(&words, &mut locked_book); // the shard is due what the book has
-    /// ```
     pub fn pull(&mut self, words: &Words, locked_book: &mut LockedBook<N>)
         requires { words.now ≡ N.board }
         ensures seat { self.new ≡ record self.old { seat = with_due locked_book.old.journal self.old.seat } }
@@ -127,15 +95,7 @@ impl<N: Name> LockedShard<N> {
 
     /// Applies the edits, which are the next of those that the shard is due, and publishes how far it came.
     ///
-    /// If memory is refused to one of them, those before it stand, and the shard is spoiled. One that was spoiled before stays so.
-    ///
-    /// # Examples
-    ///
-    /// ```
-    /// locked_shard.pull(&words, &mut locked_book);
-    /// let copied = locked_book.copy(alloc, locked_shard.position())?;
-    /// locked_shard.apply(&words, copied); // the book isn't needed for it
-    /// ```
+    /// Where memory is refused some first of them stand, or none, and the shard is spoiled. One that was spoiled before stays so.
     pub fn apply(&mut self, words: &Words, edits: SharedEdits)
         requires words { words.now ≡ N.board }
         requires next { edits ≡ take (length edits) (drop self.old.seat.done (edits_of self.old.seat.due)) }
@@ -153,12 +113,6 @@ impl<N: Name> LockedShard<N> {
     /// The shard is due the whole journal, applies what is left of it and publishes how far it came.
     ///
     /// Where it is spoiled, by this or before, it has applied no more than before.
-    ///
-    /// # Examples
-    ///
-    /// ```
-    /// locked_shard.settle(alloc, &words, &mut locked_book)?; // the shard has applied the whole journal
-    /// ```
     pub fn settle(
         &mut self,
         alloc: Global,
@@ -185,13 +139,6 @@ impl<N: Name> LockedShard<N> {
     }
 
     /// Adds the findings on the shard's keys of what is present after the edits that it has applied.
-    ///
-    /// # Examples
-    ///
-    /// ```
-    /// locked_shard.settle(alloc, &words, &mut locked_book)?;
-    /// locked_shard.add_findings(&mut all)?; // behind those of other shards
-    /// ```
     pub fn add_findings(&self, found: &mut Vec<Finding>) -> Result<(), ReportFault>
         ensures ok { OnOk result (found.new.items ≡ found.old.items ++ findings_in (shard_id self.now.seat.number N.board.shards) (present (stored_by self.now.seat))) }
         ensures spoiled { (k : ℕ) → IfErr result (λ f. f ≡ fault.Spoiled k → (k ≡ self.now.seat.number) × (self.now.spoiled ≡ true)) }
@@ -202,12 +149,6 @@ impl<N: Name> LockedShard<N> {
     }
 
     /// The findings on the shard's keys of what is present after the edits that it has applied, in order.
-    ///
-    /// # Examples
-    ///
-    /// ```
-    /// let found = locked_shard.findings()?; // on the keys of this shard alone
-    /// ```
     pub fn findings(&self) -> Result<Vec<Finding>, ReportFault>
         ensures ok { IfOk result (λ found. found.items ≡ findings_in (shard_id self.now.seat.number N.board.shards) (present (stored_by self.now.seat))) }
         ensures spoiled { (k : ℕ) → IfErr result (λ f. f ≡ fault.Spoiled k → (k ≡ self.now.seat.number) × (self.now.spoiled ≡ true)) }
@@ -221,12 +162,6 @@ impl<N: Name> LockedShard<N> {
 
     /// The pass learns how much the shard has applied, and sees what the shard is due where that is more than it has seen; and the
     /// findings are told. After a fault the pass is as before.
-    ///
-    /// # Examples
-    ///
-    /// ```
-    /// let ShardReport { position, findings } = locked_shard.report(&words, &mut pass)?;
-    /// ```
     pub fn report(&mut self, words: &Words, pass: &mut Pass) -> Result<ShardReport, ReportFault>
         requires words { words.now ≡ N.board }
         requires own { pass.old.table ≡ N.board.table }
@@ -255,12 +190,6 @@ impl<N: Name> LockedShard<N> {
     /// Makes all that the shard of this number knows anew from the edits that it has applied, and so ends a spoiled state.
     ///
     /// If memory is refused, everything stays as it was.
-    ///
-    /// # Examples
-    ///
-    /// ```
-    /// locked_shard.rebuild(k)?; // the shard isn't spoiled any more
-    /// ```
     pub fn rebuild(&mut self, number: usize) -> Result<(), OutOfMemory>
         requires { number ≡ self.old.seat.number }
         ensures ok { OnOk result (self.new ≡ record self.old { spoiled = false }) }
@@ -271,12 +200,6 @@ impl<N: Name> LockedShard<N> {
     }
 
     /// Whether more edits were issued than the shard has applied. It takes no lock of the book.
-    ///
-    /// # Examples
-    ///
-    /// ```
-    /// let has_work = locked_shard.is_behind(&words) || locked_shard.is_closed(&words);
-    /// ```
     pub fn is_behind(&mut self, words: &Words) -> bool
         requires { words.now ≡ N.board }
         ensures { (n : ℕ) × (self.new ≡ record self.old { seat = shard_counted n self.old.seat }) × (IsTrue result ↔ (self.old.seat.done < n)) }
@@ -286,17 +209,11 @@ impl<N: Name> LockedShard<N> {
     }
 
     /// Whether the words are closed. Once they were found so they are found so again.
-    ///
-    /// # Examples
-    ///
-    /// ```
-    /// let may_end = locked_shard.is_closed(&words) && !locked_shard.is_behind(&words);
-    /// ```
     pub fn is_closed(&mut self, words: &Words) -> bool
         requires { words.now ≡ N.board }
         ensures seat { self.new ≡ record self.old { seat = shard_closed result self.old.seat } }
         ensures stays { self.old.seat.closed ≡ true → result ≡ true }
     {
-        words.closed_at(&mut self.seat)
+        words.is_closed_at(&mut self.seat)
     }
 }

@@ -80,12 +80,6 @@ impl Model for Parts {
 /// nothing.
 ///
 /// Its maps of ids, keys and values hash with this secret key, so that no log can be made to collide in them.
-///
-/// # Examples
-///
-/// ```
-/// let (parts, passes) = open(rt.alloc(), hash, 4, 2, MOST_EDITS)?; // 4 shards, 2 callers
-/// ```
 pub fn open(
     alloc: Global,
     hash: RandomState,

@@ -1,5 +1,5 @@
 //! What workers do: each shard's edits are applied in batches, with the book's lock held for no more than their copies.
-ghost use Rattle.std.specs.Prelude.{◌≡◌, ◌<◌, length, take, drop};
+ghost use Rattle.std.specs.Prelude.{◌≡◌, ◌<◌, ◌≤◌, ℕ, length, slice_index, take, drop};
 ghost use Rattle.si_words.specs.Entries.{edits_of};
 ghost use Rattle.si_words.specs.Views.{with_count, with_marks};
 ghost use Rattle.si_checker.specs.Workers.{EndsWork, TellsPosition};
@@ -59,12 +59,6 @@ impl<N: Name> Checker<N> {
     /// The shard applies the next edits of those that are left for it, as many as are copied at once.
     ///
     /// They are copied under the book's lock, and applied and published after it was let go.
-    ///
-    /// # Examples
-    ///
-    /// ```
-    /// let worked = checker.work_one(rt, 0, &Open); // the shard 0 has applied a batch more, or nothing was left
-    /// ```
     pub fn work_one<R: Wait, G: Gate>(&self, rt: &R, k: usize, gate: &G) -> Worked
         requires { k < N.board.shards }
         ensures { TellsPosition result }
@@ -135,12 +129,6 @@ impl<N: Name> Checker<N> {
     }
 
     /// The shard applies what is left for it, until the checker is closed and nothing is left, or something stands in the way.
-    ///
-    /// # Examples
-    ///
-    /// ```
-    /// let (ended, ()) = join(rt, || checker.work(rt, 0, &Open), || submit_and_close(rt, &checker, &mut pass));
-    /// ```
     pub fn work<R: Wait, G: Gate>(&self, rt: &R, k: usize, gate: &G) -> Worked
         requires { k < N.board.shards }
         ensures { EndsWork result }
@@ -190,16 +178,11 @@ impl<N: Name> Checker<N> {
     /// Waits until the workers have applied nearly all that was issued, or don't come further: so a report leaves to them, side by side,
     /// what it would have to apply itself. With one shard nothing is side by side, and it returns at once. It takes no lock, and where
     /// there are no workers it soon returns.
-    ///
-    /// # Examples
-    ///
-    /// ```
-    /// checker.await_workers(rt, &mut pass); // so that the report has little left to apply
-    /// let report = checker.settled_findings(rt, &mut pass)?;
-    /// ```
     pub fn await_workers<R: Wait>(&self, rt: &R, pass: &mut Pass)
         requires { pass.old.table ≡ N.board.table }
-        ensures { pass.new ≡ record pass.old { view = with_marks pass.new.view.marks (with_count pass.new.view.count pass.old.view) } }
+        ensures view { pass.new ≡ record pass.old { view = with_marks pass.new.view.marks (with_count pass.new.view.count pass.old.view) } }
+        ensures counted { pass.old.view.count ≤ pass.new.view.count }
+        ensures rises { (k : ℕ) → k < N.board.shards → slice_index pass.old.view.marks k ≤ slice_index pass.new.view.marks k }
     {
         if self.shards() == 1 {
             return;

@@ -412,21 +412,21 @@ module _ (name : Text) (least most : ℕ) where
 shards_good : All (λ t. All (Good (codes "shards") 1 MOST_SHARDS) t.rules) (built sicheck_app).subs
 unfolding clap_on_literals
 shards_good = (
-  (λ e. record { action = refl; ignore_case = refl; parser = refl; defaults = refl }, (λ e. absurd (true≢false (sym e)), (λ e. absurd (true≢false (sym e)), (λ e. absurd (true≢false (sym e)), (λ e. absurd (true≢false (sym e)), (λ e. absurd (true≢false (sym e)), (λ e. absurd (true≢false (sym e)), tt))))))),
+  (λ e. record { action = refl; ignore_case = refl; parser = refl; defaults = refl }, (λ e. absurd (true≢false (sym e)), (λ e. absurd (true≢false (sym e)), (λ e. absurd (true≢false (sym e)), (λ e. absurd (true≢false (sym e)), (λ e. absurd (true≢false (sym e)), (λ e. absurd (true≢false (sym e)), (λ e. absurd (true≢false (sym e)), tt)))))))),
   ((λ e. absurd (true≢false (sym e)), tt), tt),
 )
 
 every_good : All (λ t. All (Good (codes "every") 1 MOST_EVERY) t.rules) (built sicheck_app).subs
 unfolding clap_on_literals
 every_good = (
-  (λ e. absurd (true≢false (sym e)), (λ e. record { action = refl; ignore_case = refl; parser = refl; defaults = refl }, (λ e. absurd (true≢false (sym e)), (λ e. absurd (true≢false (sym e)), (λ e. absurd (true≢false (sym e)), (λ e. absurd (true≢false (sym e)), (λ e. absurd (true≢false (sym e)), tt))))))),
+  (λ e. absurd (true≢false (sym e)), (λ e. record { action = refl; ignore_case = refl; parser = refl; defaults = refl }, (λ e. absurd (true≢false (sym e)), (λ e. absurd (true≢false (sym e)), (λ e. absurd (true≢false (sym e)), (λ e. absurd (true≢false (sym e)), (λ e. absurd (true≢false (sym e)), (λ e. absurd (true≢false (sym e)), tt)))))))),
   ((λ e. absurd (true≢false (sym e)), tt), tt),
 )
 
 expected_good : All (λ t. All (Good (codes "expect") 0 MOST_EDITS) t.rules) (built sicheck_app).subs
 unfolding clap_on_literals
 expected_good = (
-  (λ e. absurd (true≢false (sym e)), (λ e. absurd (true≢false (sym e)), (λ e. absurd (true≢false (sym e)), (λ e. absurd (true≢false (sym e)), (λ e. record { action = refl; ignore_case = refl; parser = refl; defaults = refl }, (λ e. absurd (true≢false (sym e)), (λ e. absurd (true≢false (sym e)), tt))))))),
+  (λ e. absurd (true≢false (sym e)), (λ e. absurd (true≢false (sym e)), (λ e. absurd (true≢false (sym e)), (λ e. absurd (true≢false (sym e)), (λ e. record { action = refl; ignore_case = refl; parser = refl; defaults = refl }, (λ e. absurd (true≢false (sym e)), (λ e. absurd (true≢false (sym e)), (λ e. absurd (true≢false (sym e)), tt)))))))),
   ((λ e. absurd (true≢false (sym e)), tt), tt),
 )
 

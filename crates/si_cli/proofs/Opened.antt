@@ -1,5 +1,5 @@
 -- What is said of sources holds of the files that they were opened from, as far as these are known.
-use Rattle.std.proofs.Common.{◌≡◌, inl, inr, ℕ, zero, suc, ◌+◌, ◌<◌, ◌≤◌, Bool, List, [], ◌∷◌, ◌++◌, map, length, take, Option, Some, None, All, false, refl, sym, ap, subst, ◌∙◌, arith}
+use Rattle.std.proofs.Common.{◌≡◌, inl, inr, ℕ, zero, suc, ◌+◌, ◌<◌, ◌≤◌, Bool, true, List, [], ◌∷◌, ◌++◌, map, length, take, Option, Some, None, All, false, refl, sym, ap, subst, ◌∙◌, arith}
 use Rattle.std.specs.Prelude.{Result, Ok, Err, slice_index_or}
 use Rattle.std.specs.Option.{option_map}
 use Rattle.std.specs.Io.KnownBytes.{Keeps}
@@ -8,17 +8,26 @@ use Rattle.std.proofs.Math.Seq.{take-suc}
 use Rattle.std.proofs.lemmas.List.{length-map, map-append}
 use Rattle.std.proofs.lemmas.Option.{none-some}
 use Rattle.si_lists.proofs.Tests.{mapped_some}
-use Rattle.si_text.specs.Devices.{Input, Lent, Output, each_failed, each_left}
+use Rattle.si_text.specs.Devices.{Input, Lent, Output, each_failed, each_foretold, each_left, foretold, lent}
 use Rattle.si_run.specs.declared.options.Options.{Options}
 use Rattle.si_run.specs.declared.statuses.ExitStatus.{ExitStatus}
 use Rattle.si_run.specs.declared.faults.RunFault.{RunFault}
 use Rattle.si_run.specs.declared.faults.RunFault.TheVariants as fault
-use Rattle.si_run.specs.Endings.{Ends}
+use Rattle.si_intake.specs.declared.items.Item.{Item as Told}
+use Rattle.si_intake.specs.declared.items.What.{What}
+use Rattle.si_intake.specs.declared.items.What.TheVariants.{Line, ReadFault, NoMemory, End}
+use Rattle.si_run.specs.Endings.{Ends, IsMet, IsMetOrOpen}
 use Rattle.si_run.specs.Outputs.{Terms}
-use Rattle.si_run.specs.Runs.{BeginsSome, BeginsText, IsRunnable, IsTrueDeviceFault, MayBeTooLong, WritesBeginning, WritesOutput, WritesSome, WritesText, all_known, terms_by}
+use Rattle.si_run.specs.Readings.{AreAll, AreFirst, AreTold, EndsSo}
+use Rattle.si_run.specs.Runs.{BeginsSome, BeginsText, IsRunnable, IsTrueDeviceFault, IsTrueFault, MayBeTooLong, WritesBeginning, WritesOutput, WritesSome, WritesText, all_known, terms_by}
+use Rattle.si_run.specs.Telling.{IsTold, ShowsNotes, Tells, TellsBehind, TellsOn, fault_line}
+use Rattle.clap.specs.Words.{Text}
+use Rattle.si_text.specs.Inputs.{Item}
 use Rattle.si_run.proofs.InRange.{device_fault}
-use Rattle.si_cli.specs.Openings.{HoldFiles}
-use Rattle.si_cli.specs.Programs.{EndsCheck, EndsFiles, EndsNamed, Files, IsToldOf}
+use Rattle.si_run.proofs.Shown.{behind_more, notes_behind, tells_trans, untouched}
+use Rattle.si_cli.specs.Folders.{Folder}
+use Rattle.si_cli.specs.Openings.{HoldFiles, contents, contents_from, each_held}
+use Rattle.si_cli.specs.Programs.{EndsCheck, EndsFiles, EndsNamed, FailsOpening, FailsRun, Files, IsCause, IsToldOnlyNotes, TellsCause, TellsCauses, code_of, open_line}
 
 pub as_many : (files lefts : List (Option (List ℕ))) → HoldFiles files lefts → length lefts ≡ length files
 as_many [] [] k = refl
@@ -95,24 +104,143 @@ kept_fault files lefts failed w (fault.Open opening) k t = t
 kept_fault files lefts failed w fault.Output k t = t
 kept_fault files lefts failed w fault.Memory k t = t
 
-pub kept_check : (terms : Terms) (files lefts : List (Option (List ℕ))) (failed : List Bool) (out err : Lent Output) (result : ℕ) → HoldFiles files lefts → EndsCheck terms lefts failed out err result → EndsCheck terms files failed out err result
-kept_check terms files lefts failed out err result k ends = elim ends [
-  | inl done ↦ inl (done.0, done.1, kept_text terms files lefts out.before.written out.after.written done.0 k done.2, done.3, done.4, done.5)
-  | inr f ↦ inr (f.0, kept_fault files lefts failed out.after.failed f.0 k f.1, kept_beginning terms files lefts out.before.written out.after.written k f.2, f.3)
+-- the file of each place keeps what its source gives
+kept_at : (files lefts : List (Option (List ℕ))) (i : ℕ) → HoldFiles files lefts → Keeps (slice_index_or files i None) (slice_index_or lefts i None)
+kept_at [] [] i k = tt
+kept_at [] (l ∷ lefts) i k = absurd k
+kept_at (f ∷ files) [] i k = absurd k
+kept_at (f ∷ files) (l ∷ lefts) zero k = k.0
+kept_at (f ∷ files) (l ∷ lefts) (suc i) k = kept_at files lefts i k.1
+
+kept_ends : (f l : Option (List ℕ)) (failed : Bool) (items : List Item) (last : What) → Keeps f l → EndsSo l failed items last → EndsSo f failed items last
+kept_ends f l failed items (Line item) k e = e
+kept_ends f l failed items ReadFault k e = (
+  of_one (λ o. AreFirst o items) tt f l k e.0,
+  elim e.1 [
+    | inl has_failed ↦ inl has_failed
+    | inr long ↦ inr (of_one MayBeTooLong tt f l k long)
+  ],
+)
+kept_ends f l failed items NoMemory k e = (of_one (λ o. AreFirst o items) tt f l k e.0, e.1)
+kept_ends f l failed items End k e = (of_one (λ o. AreAll o items) tt f l k e.0, e.1)
+
+kept_told : (files lefts : List (Option (List ℕ))) (failed : List Bool) (taken : List Told) → HoldFiles files lefts → AreTold lefts failed taken → AreTold files failed taken
+kept_told files lefts failed taken k t = record {
+  each = λ i below.
+      let many = as_many files lefts k in
+      let one = t.each i (omega arith) in
+      record {
+        items = one.items;
+        last = one.last;
+        tells_all = one.tells_all;
+        ends = kept_ends (slice_index_or files i None) (slice_index_or lefts i None) (slice_index_or failed i false) one.items one.last (kept_at files lefts i k) one.ends;
+      };
+}
+
+pub kept_met : (terms : Terms) (files lefts : List (Option (List ℕ))) (failed : List Bool) (out : Lent Output) (f : RunFault) → HoldFiles files lefts → IsMet terms lefts failed out f → IsMet terms files failed out f
+kept_met terms files lefts failed out f k met = elim met [
+  | inl none ↦ inl none
+  | inr m ↦ inr (m.0, m.1, kept_told files lefts failed m.0 k m.2, m.3)
 ]
 
--- what holds of the failures of all sources holds of all failures
-pub all_images : {Source : Type 0} (seen : Source → Input) (P : Bool → Type 0) (sources : List Source) → ((source : Source) → P (seen source).failed) → All P (each_failed (map seen sources))
-all_images seen P [] each k d below = absurd (omega arith)
-all_images seen P (s ∷ sources) each zero d below = each s
-all_images seen P (s ∷ sources) each (suc k) d below = all_images seen P sources each k d (omega arith)
+pub kept_check : (terms : Terms) (names : List Text) (files lefts : List (Option (List ℕ))) (failed : List Bool) (out err : Lent Output) (result : ℕ) → HoldFiles files lefts
+    → EndsCheck terms names lefts failed out err result → EndsCheck terms names files failed out err result
+kept_check terms names files lefts failed out err result k ends = elim ends [
+  | inl done ↦ inl (done.0, done.1, kept_text terms files lefts out.before.written out.after.written done.0 k done.2, done.3, done.4, done.5)
+  | inr f ↦ inr (f.0, kept_fault files lefts failed out.after.failed f.0 k f.1, kept_beginning terms files lefts out.before.written out.after.written k f.2, kept_met terms files lefts failed out f.0 k f.3, f.4)
+]
+
+-- where what was given is still foretold, the files keep what their sources gave
+pub held_foretold : (files : List (Option (List ℕ))) (befores afters : List Input) → HoldFiles files (each_left befores) → HoldFiles (each_held files afters) (each_foretold befores afters)
+held_foretold [] [] afters k = tt
+held_foretold [] (b ∷ befores) afters k = absurd k
+held_foretold (f ∷ files) [] afters k = absurd k
+held_foretold (f ∷ files) (b ∷ befores) [] k = tt
+held_foretold (f ∷ files) (b ∷ befores) (a ∷ afters) k = (one a.left, held_foretold files befores afters k.1)
+  where
+    one : (left : Option (List ℕ)) → Keeps (foretold f left) (foretold b.left left)
+    one None = tt
+    one (Some rest) = k.0
+
+-- what holds of what is seen of each holds of each
+pub all_seen : {Source : Type 0} (seen : Source → Input) (sources : List Source) → All (λ (i : Input). i.failed ≡ false) (map seen sources) → All (λ source. (seen source).failed ≡ false) sources
+all_seen seen [] works k d below = absurd (omega arith)
+all_seen seen (s ∷ sources) works zero d below = works zero (seen s) (omega arith)
+all_seen seen (s ∷ sources) works (suc k) d below = all_seen seen sources (λ j e within. works (suc j) e (omega arith)) k d (omega arith)
+
+-- of a fault no cause is told, where none is asked for
+no_causes : (names : List Text) (f : RunFault) (y z : Output) → TellsCauses false names (Err f) (lent y z) → z ≡ y
+no_causes names (fault.Input source) y z causes = causes
+no_causes names (fault.Open o) y z causes = causes
+no_causes names fault.Output y z causes = causes
+no_causes names fault.Memory y z causes = causes
+
+-- and else that of a device, if anything says one
+more_causes : (names : List Text) (f : RunFault) (y z : Output) → TellsCauses true names (Err f) (lent y z) → (more : List ℕ) × IsCause names f more × TellsOn (lent y z) more
+more_causes names (fault.Input source) y z causes = causes
+more_causes names (fault.Open o) y z causes = ([], refl, subst (λ o. TellsOn (lent y o) []) (sym causes) (untouched y))
+more_causes names fault.Output y z causes = causes
+more_causes names fault.Memory y z causes = ([], refl, subst (λ o. TellsOn (lent y o) []) (sym causes) (untouched y))
+
+-- what is told of a run's end, and its causes
+only_notes : (shows : Bool) (names : List Text) (status : ExitStatus) (x y z : Output) → IsTold shows (Ok status) (lent x y) → TellsCauses shows names (Ok status) (lent y z) → IsToldOnlyNotes shows (lent x z)
+only_notes false names status x y z told causes = ap (λ (o : Output). o.written) causes ∙ told
+only_notes true names status x y z told causes = subst (λ o. TellsBehind true (lent x o) []) (sym causes) told
+
+fails_run : (shows : Bool) (names : List Text) (f : RunFault) (x y z : Output) (result : ℕ) → IsTold shows (Err f) (lent x y) → TellsCauses shows names (Err f) (lent y z) → result ≡ 2
+    → FailsRun shows names f (lent x z) result
+fails_run false names f x y z result told causes code = (code, subst (λ o. Tells (lent x o) (fault_line f)) (sym (no_causes names f y z causes)) told)
+fails_run true names f x y z result told causes code =
+    let more = more_causes names f y z causes in (code, more.0, more.1, behind_more x y z (fault_line f) more.0 told more.2)
+
+-- lines of progress before a check
+notes_only : (shows : Bool) (x y z : Output) → ShowsNotes shows (lent x y) → IsToldOnlyNotes shows (lent y z) → IsToldOnlyNotes shows (lent x z)
+notes_only false x y z notes told = told ∙ ap (λ (o : Output). o.written) notes
+notes_only true x y z notes told = notes_behind true x y z [] notes told
+
+notes_fails : (shows : Bool) (names : List Text) (f : RunFault) (x y z : Output) (result : ℕ) → ShowsNotes shows (lent x y) → FailsRun shows names f (lent y z) result → FailsRun shows names f (lent x z) result
+notes_fails false names f x y z result notes fails = (fails.0, subst (λ o. Tells (lent o z) (fault_line f)) notes fails.1)
+notes_fails true names f x y z result notes fails = (fails.0, fails.1, fails.2, notes_behind true x y z (fault_line f ++ fails.1) notes fails.3)
+
+pub notes_check : (terms : Terms) (names : List Text) (inputs : List (Option (List ℕ))) (failed : List Bool) (out : Lent Output) (x y z : Output) (result : ℕ) → ShowsNotes terms.shows (lent x y)
+    → EndsCheck terms names inputs failed out (lent y z) result → EndsCheck terms names inputs failed out (lent x z) result
+notes_check terms names inputs failed out x y z result notes ends = elim ends [
+  | inl done ↦ inl (done.0, done.1, done.2, done.3, done.4, notes_only terms.shows x y z notes done.5)
+  | inr f ↦ inr (f.0, f.1, f.2, f.3, notes_fails terms.shows names f.0 x y z result notes f.4)
+]
+
+-- a file couldn't be opened
+pub fails_opening : (shows : Bool) (names : List Text) (place : ℕ) (x y z : Output) (result : ℕ) → result ≡ 2 → Tells (lent x y) (open_line place) → TellsCause shows (slice_index_or names place []) (lent y z)
+    → FailsOpening shows names place (lent x z) result
+fails_opening false names place x y z result code told cause = (code, subst (λ o. Tells (lent x o) (open_line place)) (sym cause) told)
+fails_opening true names place x y z result code told cause = (code, cause.0, cause.1, tells_trans x y z (open_line place) cause.0 told cause.2)
 
 -- a run whose end is told is a check that ends so
-pub run_told : (options : Options) (inputs : Lent (List Input)) (out err : Lent Output) (result : ℕ) (ended : Result ExitStatus RunFault)
-    → IsRunnable options → Ends options inputs out ended → IsToldOf ended err result → EndsCheck (terms_by options) (each_left inputs.before) (each_failed inputs.after) out err result
-run_told options inputs out err result (Ok status) r ends told = inl (status, told.0, ends.output, ends.works.0, ends.works.1, told.1)
-run_told options inputs out err result (Err f) r ends told =
-    inr (f, device_fault options (each_left inputs.before) (each_failed inputs.after) out.after.failed f r ends.fault, ends.part, told)
+pub run_told : (options : Options) (names : List Text) (inputs : Lent (List Input)) (out : Lent Output) (x y z : Output) (result : ℕ) (ended : Result ExitStatus RunFault)
+    → IsRunnable options → Ends options inputs out ended → IsTold options.shows_progress ended (lent x y) → TellsCauses options.shows_progress names ended (lent y z) → result ≡ code_of ended
+    → EndsCheck (terms_by options) names (each_foretold inputs.before inputs.after) (each_failed inputs.after) out (lent x z) result
+run_told options names inputs out x y z result (Ok status) r ends told causes code =
+    inl (status, code, ends.output, ends.works.0, ends.works.1, only_notes options.shows_progress names status x y z told causes)
+run_told options names inputs out x y z result (Err f) r ends told causes code =
+    inr (
+      f,
+      device_fault options (each_foretold inputs.before inputs.after) (each_failed inputs.after) out.after.failed f r ends.fault,
+      ends.part,
+      met_of f ends.fault ends.met,
+      fails_run options.shows_progress names f x y z result told causes code,
+    )
+  where
+    lefts : List (Option (List ℕ))
+    lefts = each_foretold inputs.before inputs.after
+
+    failed : List Bool
+    failed = each_failed inputs.after
+
+    met_of : (f : RunFault) → IsTrueFault options lefts failed out.after.failed f → IsMetOrOpen (terms_by options) lefts failed out f → IsMet (terms_by options) lefts failed out f
+    met_of (fault.Input source) t m = m
+    met_of (fault.Open o) t m = absurd (device_fault options lefts failed out.after.failed (fault.Open o) r t)
+    met_of fault.Output t m = m
+    met_of fault.Memory t m = m
 
 -- ---- while files are opened
 
@@ -125,15 +253,34 @@ each_left-one_more seen sources source =
 pub length-each_left : {Source : Type 0} (seen : Source → Input) (sources : List Source) → length (each_left (map seen sources)) ≡ length sources
 length-each_left seen sources = length-map (map seen sources) (λ (input : Input). input.left) ∙ length-map sources seen
 
+contents_one_more : (place : ℕ) (folder : Folder) (names : List (List ℕ)) (name : List ℕ)
+    → contents_from place folder (names ++ name ∷ []) ≡ contents_from place folder names ++ folder.bytes (place + length names) name ∷ []
+contents_one_more place folder [] name = ap (λ p. folder.bytes p name ∷ []) (omega arith)
+contents_one_more place folder (n ∷ names) name =
+    ap (λ l. folder.bytes place n ∷ l) (contents_one_more (place + 1) folder names name
+    ∙ ap (λ p. contents_from (place + 1) folder names ++ folder.bytes p name ∷ []) (omega arith))
+
+pub length-contents : (place : ℕ) (folder : Folder) (names : List (List ℕ)) → length (contents_from place folder names) ≡ length names
+length-contents place folder [] = refl
+length-contents place folder (name ∷ names) = ap suc (length-contents (place + 1) folder names)
+
+length_taken : (n : ℕ) (names : List (List ℕ)) → n ≤ length names → length (take n names) ≡ n
+length_taken zero names few = refl
+length_taken (suc n) [] few = absurd (omega arith)
+length_taken (suc n) (name ∷ names) few = ap suc (length_taken n names (omega arith))
+
 -- one more file was opened
-pub kept_next : (bytes : List ℕ → Option (List ℕ)) (names : List (List ℕ)) (place : ℕ) (lefts : List (Option (List ℕ))) (left : Option (List ℕ))
-    → place < length names → HoldFiles (map bytes (take place names)) lefts → Keeps (bytes (slice_index_or names place [])) left
-    → HoldFiles (map bytes (take (place + 1) names)) (lefts ++ left ∷ [])
-kept_next bytes names place lefts left below k one =
+pub kept_next : (folder : Folder) (names : List (List ℕ)) (place : ℕ) (lefts : List (Option (List ℕ))) (left : Option (List ℕ))
+    → place < length names → HoldFiles (contents folder (take place names)) lefts → Keeps (folder.bytes place (slice_index_or names place [])) left
+    → HoldFiles (contents folder (take (place + 1) names)) (lefts ++ left ∷ [])
+kept_next folder names place lefts left below k one =
     let next : place + 1 ≡ suc place = omega arith in
+    let name = slice_index_or names place [] in
+    let many : 0 + length (take place names) ≡ place = (let taken = length_taken place names (omega arith) in omega arith) in
     subst (λ (l : List (Option (List ℕ))). HoldFiles l (lefts ++ left ∷ []))
-    (sym (ap (λ n. map bytes (take n names)) next ∙ ap (map bytes) (take-suc names place [] below) ∙ map-append bytes (take place names) (slice_index_or names place [] ∷ [])))
-    (kept_push (map bytes (take place names)) lefts (bytes (slice_index_or names place [])) left k one)
+    (sym (ap (λ n. contents folder (take n names)) next ∙ ap (contents folder) (take-suc names place [] below) ∙ contents_one_more 0 folder (take place names) name
+    ∙ ap (λ p. contents folder (take place names) ++ folder.bytes p name ∷ []) many))
+    (kept_push (contents folder (take place names)) lefts (folder.bytes place name) left k one)
 
 -- ---- the program's end
 
@@ -144,7 +291,7 @@ files_named [] terms input files out err result some ends = absurd (omega arith)
 files_named (name ∷ names) terms input files out err result some ends = ends
 
 pub none_named : (names : List (Bor (List ℕ))) (terms : Terms) (input : Lent Input) (files : Files) (out err : Lent Output) (result : ℕ) → length names ≡ 0
-    → EndsCheck terms (input.before.left ∷ []) (input.after.failed ∷ []) out err result → EndsNamed terms input files (map (λ (f : Bor (List ℕ)). f.now) names) out err result
+    → EndsCheck terms (map (λ (f : Bor (List ℕ)). f.now) names) (foretold input.before.left input.after.left ∷ []) (input.after.failed ∷ []) out err result → EndsNamed terms input files (map (λ (f : Bor (List ℕ)). f.now) names) out err result
 none_named [] terms input files out err result none ends = ends
 none_named (name ∷ names) terms input files out err result none ends = absurd (omega arith)
 

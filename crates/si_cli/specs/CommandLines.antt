@@ -49,6 +49,10 @@ explain_rule = flag_rule (codes "explain")
 abbrev pub expect_rule : Rule
 expect_rule = number_rule (codes "expect") 0 MOST_EDITS
 
+-- `--progress`
+abbrev pub progress_rule : Rule
+progress_rule = flag_rule (codes "progress")
+
 -- a file, or several
 abbrev pub file_rule : Rule
 file_rule = record (new_rule (codes "FILE")) { action = Some Append }
@@ -56,7 +60,8 @@ file_rule = record (new_rule (codes "FILE")) { action = Some Append }
 -- the subcommand
 abbrev pub check_app : App
 check_app =
-    with_rule (with_rule (with_rule (with_rule (with_rule (with_rule (new_app (codes "check")) shards_rule) every_rule) only_new_rule) explain_rule) expect_rule) file_rule
+    with_rule (with_rule (with_rule (with_rule (with_rule (with_rule (with_rule (new_app (codes "check")) shards_rule) every_rule) only_new_rule) explain_rule) expect_rule) progress_rule)
+    file_rule
 
 -- the program before its subcommand is added, which has to be given
 abbrev pub top_app : App
@@ -108,11 +113,15 @@ is_new_alone rows = only_new_given rows && is_none (every_given rows)
 abbrev pub explain_given : List Row → Bool
 explain_given rows = flag_given (codes "explain") rows
 
+-- whether `--progress` is there
+abbrev pub progress_given : List Row → Bool
+progress_given rows = flag_given (codes "progress") rows
+
 -- the names of the files, in their order
 abbrev pub files_given : List Row → List Text
 files_given rows = unwrap_or (all_of (codes "FILE") rows) []
 
--- what the words say of the text, with what holds where they say nothing
+-- what the words say of the texts, with what holds where they say nothing
 abbrev pub terms_of : List Row → Terms
 terms_of rows = record {
   limit = MOST_EDITS;
@@ -120,6 +129,7 @@ terms_of rows = record {
   only_new = only_new_given rows;
   explain = explain_given rows;
   expected = expected_given rows;
+  shows = progress_given rows;
 }
 
 -- reports come after a number of items in that range, if they come on the way

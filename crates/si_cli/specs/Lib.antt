@@ -2,3 +2,4 @@ pub mod Folders
 pub mod Openings
 pub mod Programs
 pub mod CommandLines
+pub mod Helps

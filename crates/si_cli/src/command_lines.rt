@@ -3,8 +3,9 @@
 ghost use Rattle.std.specs.Prelude.{◌≡◌, IfOk, map, false};
 ghost use Rattle.clap.specs.declared.builder.command.Command.{Command};
 ghost use Rattle.clap.specs.Words.{AddsSubcommand, FailsBy, app_of, fault_of, rule_of, subcommand_of, subcommand_rows_of, with_subcommand};
-ghost use Rattle.si_cli.specs.CommandLines.{check_app, every_rule, expect_rule, explain_rule, file_rule, only_new_rule, shards_rule, sicheck_app};
+ghost use Rattle.si_cli.specs.CommandLines.{check_app, every_rule, expect_rule, explain_rule, file_rule, only_new_rule, progress_rule, shards_rule, sicheck_app};
 
+use crate::helps::MANUAL;
 use clap::builder::ValueParser;
 use clap::{Arg, ArgAction, ArgMatches, Command};
 use si_model::MOST_EDITS;
@@ -30,61 +31,20 @@ pub const EXPECT: &str = "expect";
 /// The id of the flag that asks for evidence.
 pub const EXPLAIN: &str = "explain";
 
+/// The id of the flag that asks for lines of progress.
+pub const PROGRESS: &str = "progress";
+
 /// The id of the files.
 pub const FILE: &str = "FILE";
 
-/// What `--version` tells behind the program's name.
+/// What `--version` tells behind the program's name; `helps.rt` has the whole line.
 const VERSION: &str = "0.1.0";
 
 const ABOUT: &str = "Checks a history of transactions against snapshot isolation.";
 
 const USAGE: &str = "\
 sicheck check [--shards K] [--every N [--new]] [--explain] [--expect N]
-                     [FILE]...";
-
-const INPUT: &str = "\
-The input has one JSON value a line; lines may come late and out of order.
-With several FILEs, one a client, the lines of each are taken in their order:
-  {\"do\":\"txn\",\"id\":1,\"start\":2,\"status\":\"committed\",\"commit\":5,\"ops\":[OP,..]}
-      a transaction: the stamp of its snapshot, what became of it (committed,
-      aborted or indoubt; a commit stamp where it committed), and what it did
-  {\"do\":\"resolve\",\"id\":1,\"status\":\"committed\",\"commit\":5}
-      what became of a transaction in doubt (committed or aborted)
-  {\"do\":\"withdraw\",\"id\":1}
-      the record of that transaction was false
-  {\"do\":\"setup\",\"key\":\"x\",\"value\":7}
-      the key had that value before the run; a key that isn't set up had none
-An OP is [\"r\",\"x\",7], or [\"r\",\"x\",null] where x had no value, or [\"w\",\"x\",7].
-Numbers are whole. No value is written twice to a key. In place of a deletion
-write a value of your own that means \"deleted\".
-A line has at most 1048576 bytes, a key 1 to 128, a transaction 4096 OPs.
-
-Stamps are the database's own, no clock's. Where a start at s sees the commit
-at s, write each commit c as 2c + 1 and each start s as 2s + 2; where it
-doesn't, as 2c + 1 and 2s. A transaction that only reads may have one stamp.
-The commit stamp of a transaction that writes is no stamp of another one.
-
-The output has a line for each refused line, then the findings and a summary:
-  unknown       no line writes the value that was read: the verdict is open
-  doubt         its writer is in doubt: the verdict is open
-  own           the read doesn't return its own transaction's last write
-  aborted       the value was rolled back
-  intermediate  its writer wrote another value later
-  future        the value was committed after the reader's snapshot
-  stale         the value had been replaced before the reader's snapshot
-  overlap       a version was replaced by a writer whose snapshot lacks it
-With --new a report on the way has `gone ` before each violation that the one
-before it had and that is there no more; the last report has all findings.
-The status is the gate: 20 where snapshot isolation is violated; else 10 where
-the verdict is open or a line was refused, so also where it is clean beside
-refused lines; else 0; and 2 where the check couldn't be made. Status 0 says
-nothing of what wasn't logged, or of transactions in doubt whose writes nobody
-read: with --expect N it is 10 where fewer than N transactions are committed
-or some are in doubt, and the line `short` before the summary tells why.
-
-docs/LOGGING.md tells what to log and what each finding means. docs/FORMAT.md
-has the code and reason of each refused line, each field and each verdict.
-Try it: sicheck check --explain samples/stale_read.jsonl";
+                     [--progress] [FILE]...";
 
 /// Reads the words of a command line, of which the first is the program's name.
 ///
@@ -124,13 +84,14 @@ fn check<'a>(alloc: Global) -> Result<Command<'a>, AllocError>
         .arg(only_new(alloc))?
         .arg(explain(alloc))?
         .arg(expect(alloc))?
+        .arg(progress(alloc))?
         .arg(file(alloc))
 }
 
 /// What help tells of the input, the output and the status. No clause has the text, or the proof of the command would have it
 /// in each step.
 fn manual() -> &'static str {
-    INPUT
+    MANUAL
 }
 
 /// The option that says how many shards the findings are kept in.
@@ -192,6 +153,17 @@ fn explain<'a>(alloc: Global) -> Arg<'a>
         .long("explain")
         .action(ArgAction::SetTrue)
         .help("Follows each violation but own with its evidence")
+}
+
+/// The flag that asks for lines of progress.
+fn progress<'a>(alloc: Global) -> Arg<'a>
+    ensures rule { rule_of result ≡ progress_rule }
+    ensures local { result.global ≡ false }
+{
+    Arg::new(alloc, PROGRESS)
+        .long("progress")
+        .action(ArgAction::SetTrue)
+        .help("Shows on standard error how far it is, in one line")
 }
 
 /// The files that are read in place of standard input. The usage line of help shows them.

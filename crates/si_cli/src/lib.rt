@@ -5,11 +5,16 @@
 #![tactic(auto)]
 
 mod command_lines;
+pub mod endings;
 pub mod files;
+mod helps;
 pub mod programs;
 pub mod settings;
 
+pub use endings::{Ended, end_with, end_without_key, end_without_words};
 pub use files::{CannotOpen, NamedFiles, StdFiles};
 pub use programs::{main_with, main_without_key};
 pub use settings::{Settings, SettingsFault, settings_of};
-pub use si_run::{ExitStatus, Gate, Options, Place, RunFault, run, run_gated};
+pub use si_run::{
+    ExitStatus, Gate, Options, Place, RunFault, run, run_gated, run_gated_telling, run_telling,
+};

@@ -6,7 +6,7 @@ ghost use Rattle.si_cli.specs.CommandLines.{IsToldBy, IsReadOf, NumberFits, Numb
 ghost use Rattle.si_run.specs.Runs.{every_by, terms_by};
 
 use crate::Options;
-use crate::command_lines::{EVERY, EXPECT, EXPLAIN, FILE, NEW, SHARDS, parse};
+use crate::command_lines::{EVERY, EXPECT, EXPLAIN, FILE, NEW, PROGRESS, SHARDS, parse};
 use clap::ArgMatches;
 use si_model::MOST_EDITS;
 use si_run::options::USUAL_SHARDS;
@@ -26,6 +26,7 @@ const USUAL: Options = Options {
     only_new: false,
     explain: false,
     expected: None,
+    shows_progress: false,
     limit: MOST_EDITS,
 };
 
@@ -62,7 +63,7 @@ impl std::error::Error for SettingsFault {}
 
 /// What the words of a command line ask for, of which the first is the program's name.
 ///
-/// They are `sicheck check [--shards K] [--every N [--new]] [--explain] [--expect N] [FILE]...`, with K from 1 to `MOST_SHARDS`,
+/// They are `sicheck check [--shards K] [--every N [--new]] [--explain] [--expect N] [--progress] [FILE]...`, with K from 1 to `MOST_SHARDS`,
 /// `USUAL_SHARDS` where it isn't given, N of `--every` from 1 to `MOST_EVERY` and N of `--expect` from 0 to `MOST_EDITS`. A fault is one that
 /// `clap`'s definition of the command tells of the words, or that memory was refused, or that `--new` comes without `--every`, or that they name
 /// too many files.
@@ -182,6 +183,7 @@ fn options_of(check: &ArgMatches<'_>) -> Options
         only_new: has_flag(check, NEW),
         explain: has_flag(check, EXPLAIN),
         expected: expected_of(check),
+        shows_progress: has_flag(check, PROGRESS),
         limit: MOST_EDITS,
     }
 }

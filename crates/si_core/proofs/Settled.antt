@@ -1,23 +1,12 @@
 -- The findings of a settled machine.
-use Rattle.std.proofs.Common.{◌≡◌, ◌∙◌, ◌<◌, ◌≤◌, ℕ, true, false, List, Option, Some, None, length, map, slice_get, slice_index_or, take, refl, sym, ap, subst, arith, eq-eqb}
-use Rattle.std.specs.List.{Contains, flat_map}
-use Rattle.std.proofs.Math.Nat.{mod-lt}
+use Rattle.std.proofs.Common.{◌≡◌, ◌∙◌, ◌<◌, ◌≤◌, ℕ, false, List, Option, Some, None, length, map, slice_get, take, refl, sym, ap, subst, arith}
+use Rattle.std.specs.List.{Contains}
 use Rattle.std.proofs.Math.Seq.{take-length}
-use Rattle.std.proofs.lemmas.Option.{slice_get-get_or, slice_get-map}
+use Rattle.std.proofs.lemmas.Option.{slice_get-map}
 use Rattle.std.specs.Option.{option_map}
-use Rattle.si_lists.proofs.Members.{Contains-filter, Contains-flat_map, Contains-from_filter, Contains-from_flat_map, Contains-from_map, Contains-map, contains_get, get_contains, same_some}
-use Rattle.si_model.specs.declared.findings.Finding.{Finding}
-use Rattle.si_model.specs.Findings.{findings}
-use Rattle.si_model.specs.Journals.{IsAccepted, present}
-use Rattle.si_model.specs.KeyTexts.{shard_hash, shard_number}
-use Rattle.si_model.specs.Order.{finding_cmp, in_order}
-use Rattle.si_model.proofs.Exact.{findings_exact}
-use Rattle.si_model.proofs.FindingOrder.{exact_findings, findings_total}
-use Rattle.si_model.proofs.InOrder.{Contains-from_in_order, Contains-in_order, sorted-in_order}
-use Rattle.si_model.proofs.Orderless.{unique_list}
-use Rattle.si_model.proofs.PresentHistories.{present_history}
+use Rattle.si_lists.proofs.Members.{Contains-from_map, Contains-map, contains_get, get_contains, same_some}
+use Rattle.si_model.specs.Journals.{present}
 use Rattle.si_accept.specs.Books.{BookState}
-use Rattle.si_shard.specs.ShardIds.{is_ours}
 use Rattle.si_shard.specs.Shards.{ShardState, findings_in}
 use Rattle.si_core.specs.Machine.{IsLeastPosition, IsLeastSpoiled, IsSettled, Progress}
 use Rattle.si_shard.specs.Laws.{shard_id}

@@ -8,6 +8,7 @@ ghost use Rattle.si_model.specs.History.{IsHistory};
 ghost use Rattle.si_model.specs.Journals.{IsAccepted, present};
 ghost use Rattle.si_model.specs.Parts.{Present};
 ghost use Rattle.si_graph.specs.Phenomena.{IsPlSi};
+ghost use Rattle.si_graph.specs.Snapshots.{IsSnapshot};
 ghost use Rattle.si_core.specs.Worlds.{AppliesAll, AppliesNext, AreFoundOf, IsFirstSpoiled, IsLeastOf, IsShardOf, WithholdsFindings};
 ghost use Rattle.std.specs.List.{Contains};
 ghost use Rattle.si_shard.specs.Shards.{ShardState};
@@ -17,7 +18,7 @@ ghost use Rattle.si_core.specs.Machine.{AppliesMany, AppliesUntil, IsAccept, IsA
 
 use crate::{Reply, Step, WorldFault};
 use si_accept::{AcceptFault, Book};
-use si_graph::laws::emptiness_is_exact;
+use si_graph::laws::{emptiness_is_exact, snapshots_are_clean};
 use si_model::{Edit, Finding, Key, MOST_EDITS, Number, OutOfMemory, Txn, Value};
 use si_shard::{MOST_SHARDS, Shard, put_all_in_order};
 use std::alloc::{AllocError, Global};
@@ -49,12 +50,6 @@ impl World {
     /// A machine with so many shards whose journal may have so many edits. Nothing is accepted yet.
     ///
     /// Its maps of ids, keys and values hash with this secret key, so that no log can be made to collide in them.
-    ///
-    /// # Examples
-    ///
-    /// ```
-    /// let mut world = World::new(rt.alloc(), hash, 1, MOST_EDITS)?;
-    /// ```
     pub fn new(
         alloc: Global,
         hash: RandomState,
@@ -87,17 +82,6 @@ impl World {
     ///
     /// Where the growth of some memory is refused the reply is [`Reply::NoMemory`] and the step, or the application that it met,
     /// changed nothing; or it is [`Reply::Spoiled`], and the shard is spoiled from then on.
-    ///
-    /// # Examples
-    ///
-    /// ```
-    /// match world.step(Step::Accept(edit)) {
-    ///     Reply::Accepted(number) => accepted(number),
-    ///     Reply::Refused(reason) => refused(reason),
-    ///     _ => out_of_memory(),
-    /// }
-    /// world.step(Step::Settle);
-    /// ```
     pub fn step(&mut self, step: Step) -> Reply
         ensures { IsStep self.old step result self.new }
     {
@@ -111,12 +95,6 @@ impl World {
     /// Makes the steps, one after the other, and answers with their replies.
     ///
     /// The room for the replies is taken first: where that is refused no step is made.
-    ///
-    /// # Examples
-    ///
-    /// ```
-    /// let replies = world.run(steps)?; // one for each step, in their order
-    /// ```
     pub fn run(&mut self, steps: Vec<Step>) -> Result<Vec<Reply>, OutOfMemory>
         ensures ok { IfOk result (λ replies. IsRun self.old steps.items replies.items self.new) }
         ensures err { OnErr result (self.new ≡ self.old) }
@@ -132,12 +110,6 @@ impl World {
     ///
     /// It answers with the last [`Reply::Applied`], or with that other reply where nothing was applied. So where memory is refused
     /// to an edit after the first, the answer doesn't tell it. A shard that was spoiled then says so at the next call.
-    ///
-    /// # Examples
-    ///
-    /// ```
-    /// world.apply_many(0, 64); // the shard 0 applies up to 64 edits
-    /// ```
     pub fn apply_many(&mut self, shard: usize, most: u64) -> Reply
         requires { 1 ≤ most }
         ensures { AppliesMany most self.old shard result self.new }
@@ -159,14 +131,6 @@ impl World {
     /// Makes all that the shard knows anew from the edits that it has applied, and so ends a spoiled state.
     ///
     /// If memory is refused, everything stays as it was.
-    ///
-    /// # Examples
-    ///
-    /// ```
-    /// if let Err(WorldFault::Spoiled(shard)) = world.findings() {
-    ///     world.rebuild(shard)?; // once there is memory again
-    /// }
-    /// ```
     pub fn rebuild(&mut self, shard: usize) -> Result<(), OutOfMemory>
         requires { shard < length self.old.shards }
         ensures ok { OnOk result (IsRebuilt self.old shard self.new) }
@@ -179,16 +143,10 @@ impl World {
     ///
     /// Only a settled machine tells them. Before that it answers [`WorldFault::Spoiled`] with the least shard that is spoiled, and
     /// where none is [`WorldFault::Unsettled`] with the least position.
-    ///
-    /// # Examples
-    ///
-    /// ```
-    /// world.step(Step::Settle);
-    /// let found = world.findings()?;
-    /// ```
     pub fn findings(&self) -> Result<Vec<Finding>, WorldFault>
         ensures found { IfOk result (λ found. found.items ≡ findings (present self.now.journal)) }
         ensures empty { IfOk result (λ found. (found.items ≡ []) ↔ (IsWellFormed (present self.now.journal) × IsPlSi (present self.now.journal))) }
+        ensures snapshot { IfOk result (λ found. (found.items ≡ []) ↔ IsSnapshot (present self.now.journal)) }
         ensures settled { OnOk result (IsSettled self.now) }
         ensures fault { IfErr result (WithholdsFindings self.now) }
     {
@@ -204,16 +162,11 @@ impl World {
             return Err(WorldFault::OutOfMemory);
         };
         emptiness_is_exact();
+        snapshots_are_clean();
         Ok(found)
     }
 
     /// Copies of the present transactions, in the order of arrival, which share the operations.
-    ///
-    /// # Examples
-    ///
-    /// ```
-    /// let again = findings_of(world.present()?.as_slice(), world.initial()?.as_slice())?; // what `findings` tells
-    /// ```
     pub fn present(&self) -> Result<Vec<Txn>, OutOfMemory>
         ensures { IfOk result (λ txns. txns.items ≡ (present self.now.journal).txns) }
     {
@@ -221,12 +174,6 @@ impl World {
     }
 
     /// Copies of the keys that were set up with their values, in the order of arrival.
-    ///
-    /// # Examples
-    ///
-    /// ```
-    /// let values = world.initial()?; // [(x, 7)] after `{"do":"setup","key":"x","value":7}`
-    /// ```
     pub fn initial(&self) -> Result<Vec<(Key, Value)>, OutOfMemory>
         ensures { IfOk result (λ initial. initial.items ≡ (present self.now.journal).initial) }
     {
@@ -234,12 +181,6 @@ impl World {
     }
 
     /// How many transactions are present.
-    ///
-    /// # Examples
-    ///
-    /// ```
-    /// let transactions = world.len(); // those in doubt and those that aborted too
-    /// ```
     pub fn len(&self) -> usize
         ensures { result ≡ length (present self.now.journal).txns }
     {
@@ -247,14 +188,6 @@ impl World {
     }
 
     /// How many shards there are.
-    ///
-    /// # Examples
-    ///
-    /// ```
-    /// for shard in 0..world.shards() {
-    ///     world.step(Step::Apply(shard));
-    /// }
-    /// ```
     pub fn shards(&self) -> usize
         ensures { result ≡ length self.now.shards }
     {
@@ -262,12 +195,6 @@ impl World {
     }
 
     /// How many edits the shard of this number has applied, if there is one.
-    ///
-    /// # Examples
-    ///
-    /// ```
-    /// let applied = world.position(0); // None where there is no shard 0
-    /// ```
     pub fn position(&self, shard: usize) -> Option<u64>
         ensures { result ≡ option_map (λ p. p.position) (slice_get self.now.shards shard) }
     {

@@ -25,7 +25,7 @@ use Rattle.si_graph.specs.Edges.{IsEdge, IsDependency}
 use Rattle.si_graph.specs.Walks.{IsWalk, IsClosed, is_rw_edge}
 use Rattle.si_graph.specs.Phenomena.{IsAbortedRead, IsIntermediateRead}
 use Rattle.si_graph.specs.Shown.{IsReadFrom, Shows}
-use Rattle.si_graph.specs.EvidenceTests.{part_on, is_not_before, commits_late, is_edge, is_dependency, is_walk, is_closed, is_aborted, reads_write_of, reads_earlier_of, passes_there, is_aborted_read, is_intermediate_read, holds}
+use Rattle.si_graph.specs.EvidenceTests.{part_on, is_not_before, commits_late, is_edge, is_dependency, is_walk, is_closed, is_aborted, reads_write_of, reads_intermediate_of, passes_there, is_aborted_read, is_intermediate_read, holds}
 use Rattle.si_graph.specs.Laws.{ModelLaws}
 use Rattle.si_lists.proofs.Members.{same_some}
 use Rattle.si_graph.proofs.ListTests.{all_decides}
@@ -145,23 +145,23 @@ module _ (laws : ModelLaws) (P : Present) (h : IsHistory P) where
   -- ---- intermediate reads
 
   -- the same, and the value isn't W's last write of that key
-  abbrev ReadsEarlierOf : Txn → Op → Type 0
-  ReadsEarlierOf W (op.Read x None) = ⊥
-  ReadsEarlierOf W (op.Read x (Some v)) = Writes (part_on x W) v × (last_write (accesses x W.ops) ≢ Some v)
-  ReadsEarlierOf W (op.Write x v) = ⊥
+  abbrev ReadsIntermediateOf : Txn → Op → Type 0
+  ReadsIntermediateOf W (op.Read x None) = ⊥
+  ReadsIntermediateOf W (op.Read x (Some v)) = Writes (part_on x W) v × (last_write (accesses x W.ops) ≢ Some v)
+  ReadsIntermediateOf W (op.Write x v) = ⊥
 
-  reads_earlier_decides : (W : Txn) (p : Op) → Decides (reads_earlier_of W p) (ReadsEarlierOf W p)
-  reads_earlier_decides W (op.Read x None) = (λ e. cc, λ r. absurd r)
-  reads_earlier_decides W (op.Read x (Some v)) = Decides-and _ _ (writes_decides laws x v W) (Decides-not _ (last_decides laws x v W))
-  reads_earlier_decides W (op.Write x v) = (λ e. cc, λ r. absurd r)
+  reads_intermediate_decides : (W : Txn) (p : Op) → Decides (reads_intermediate_of W p) (ReadsIntermediateOf W p)
+  reads_intermediate_decides W (op.Read x None) = (λ e. cc, λ r. absurd r)
+  reads_intermediate_decides W (op.Read x (Some v)) = Decides-and _ _ (writes_decides laws x v W) (Decides-not _ (last_decides laws x v W))
+  reads_intermediate_decides W (op.Write x v) = (λ e. cc, λ r. absurd r)
 
   abbrev ReadsEarlier : ℕ → Txn → Txn → Type 0
-  ReadsEarlier i T W = HasCommitted T × ((W.id ≢ T.id) × ((p : Op) × (slice_get T.ops i ≡ Some p) × ReadsEarlierOf W p))
+  ReadsEarlier i T W = HasCommitted T × ((W.id ≢ T.id) × ((p : Op) × (slice_get T.ops i ≡ Some p) × ReadsIntermediateOf W p))
 
   intermediate_is : (i : ℕ) (u w : TxnId) → ArePair P (ReadsEarlier i) u w → IsReadFrom P IsIntermediateRead u i w
   intermediate_is i u w q = by q.related.1.1.0 q.related.1.1.1 q.related.1.1.2
     where
-      by : (p : Op) → slice_get q.first.ops i ≡ Some p → ReadsEarlierOf q.second p → IsReadFrom P IsIntermediateRead u i w
+      by : (p : Op) → slice_get q.first.ops i ≡ Some p → ReadsIntermediateOf q.second p → IsReadFrom P IsIntermediateRead u i w
       by (op.Read x None) g r = absurd r
       by (op.Write x v) g r = absurd r
       by (op.Read x (Some v)) g r =
@@ -201,6 +201,6 @@ module _ (laws : ModelLaws) (P : Present) (h : IsHistory P) where
       (both_decide laws P h (is_aborted_read i) (ReadsAborted i) (λ T W t w. Decides-and _ _ (committed_decides T) (Decides-and _ _ (aborted_decides W.status) (there_decides (reads_write_of W) (ReadsWriteOf W) (reads_write_decides W) (slice_get T.ops i)))) t w)
   shown_decides (evidence.IntermediateRead t i w) = Decides-like _ (intermediate_is i t w) (intermediate_from i t w)
       (both_decide laws P h (is_intermediate_read i) (ReadsEarlier i)
-      (λ T W t w. Decides-and _ _ (committed_decides T) (Decides-and _ _ (Decides-not _ (laws.tests.ids W.id T.id)) (there_decides (reads_earlier_of W) (ReadsEarlierOf W) (reads_earlier_decides W) (slice_get T.ops i)))) t w)
+      (λ T W t w. Decides-and _ _ (committed_decides T) (Decides-and _ _ (Decides-not _ (laws.tests.ids W.id T.id)) (there_decides (reads_intermediate_of W) (ReadsIntermediateOf W) (reads_intermediate_decides W) (slice_get T.ops i)))) t w)
   shown_decides (evidence.Interference e) = interference_decides e
   shown_decides (evidence.Missed es) = missed_decides es

@@ -15,4 +15,5 @@ pub mod SerialReads
 pub mod SerialRuns
 pub mod SortedRuns
 pub mod SerialFindings
+pub mod SnapshotFindings
 pub mod CommitChains

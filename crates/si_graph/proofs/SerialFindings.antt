@@ -1,5 +1,5 @@
--- Of a history in commit order: its findings against the serial run in that order.
-use Rattle.std.proofs.Common.{◌≡◌, ◌≢◌, ◌∙◌, inl, inr, ℕ, ◌<◌, Bool, true, false, cond, List, [], ◌∷◌, Option, Some, None, refl, sym, ap, subst, nat_lt, arith}
+-- The findings of reads against what their keys held at a stamp, and, of a history in commit order, against the serial run in that order.
+use Rattle.std.proofs.Common.{◌≡◌, ◌≢◌, ◌∙◌, inl, inr, ℕ, ◌<◌, ◌≤◌, Bool, true, false, cond, List, [], ◌∷◌, Option, Some, None, refl, sym, ap, subst, nat_lt, arith}
 use Rattle.std.specs.Prelude.{◌↔◌}
 use Rattle.std.specs.List.{Contains}
 use Rattle.std.specs.Option.{option_eq}
@@ -29,7 +29,7 @@ use Rattle.si_model.specs.History.{WritesPairAt, IsHistory}
 use Rattle.si_graph.specs.EvidenceTests.{part_on}
 use Rattle.si_graph.specs.Laws.{ModelLaws}
 use Rattle.si_graph.specs.Emptiness.{HasFinding}
-use Rattle.si_graph.specs.Serial.{ReadsAt, Commits, IsInCommitOrder, Gives, IsSerial}
+use Rattle.si_graph.specs.Serial.{ReadsAt, Commits, CommitsWrite, IsInCommitOrder, Gives, IsSerial}
 use Rattle.si_graph.specs.SerialLaws.{IsOfReadAt, CommitsBefore}
 use Rattle.si_lists.proofs.Members.{same_some, Contains-nil, here}
 use Rattle.si_graph.proofs.OnKeys.{IsReadBy, op_at, read_by, read_at, part_from}
@@ -67,7 +67,7 @@ of_own s (Some w) b k e = go (option_eq same_value s.read (Some w)) e
 of_own s None true k e = told s (kind.Own s.txn s.op s.read None) k (refl, refl) e
 of_own s None false k e = of_source s s.source k e
 
-of_read : (s : Sight) (k : Kind) → kind_of s ≡ Some k → IsOfReadAt s.txn s.op k
+pub of_read : (s : Sight) (k : Kind) → kind_of s ≡ Some k → IsOfReadAt s.txn s.op k
 unfolding kind_of
 of_read s k e = of_own s s.own s.later k e
 
@@ -83,7 +83,7 @@ one_read (kind.Stale t l v n) a b i j m o = (sym m.0 ∙ o.0, sym m.1 ∙ o.1)
 one_read (kind.Overlap t u) a b i j m n = absurd m
 
 -- and no overlap
-no_overlap : (k : Kind) (a : TxnId) (i : ℕ) → IsOfReadAt a i k → number k ≡ 8 → ⊥
+pub no_overlap : (k : Kind) (a : TxnId) (i : ℕ) → IsOfReadAt a i k → number k ≡ 8 → ⊥
 no_overlap (kind.Overlap t u) a i m e = m
 no_overlap _ a i m e = omega arith
 
@@ -134,6 +134,64 @@ future_is : (s : Sight) (t : TxnId) (i : ℕ) (v : Option Value) (u : TxnId) →
 unfolding kind_of
 future_is s t i v u e = future_own s s.own s.later t i v u refl refl e
 
+module _ (laws : ModelLaws) (P : Present) (h : IsHistory P) where
+  -- ---- a read and what its key held at a stamp from its transaction's start to its commit
+
+  -- no write of the key is committed from the start of T to the stamp k
+  abbrev pub IsQuiet : Txn → List ℕ → Stamp → Type 0
+  IsQuiet T x k = (U : Txn) (d : Stamp) → CommitsWrite P U d x → T.start.0 ≤ d.0 → d.0 < k.0 → ⊥
+
+  -- a read with a finding didn't return it
+  pub found_is_not_given : (x : List ℕ) (j : Kind) (r : IsOfRead cases (on_key x P) j) (b : IsReadBy laws x P r.part r.place r.value) (k : Stamp) → b.txn.start.0 ≤ k.0 → k.0 ≤ b.committed.0.0 → IsQuiet b.txn x k
+      → Gives P b.txn k r.place x r.value → ⊥
+  found_is_not_given x j r b k begun ended quiet g =
+      let seen = subst (λ Q. IsSight (on_key x P) Q r.place r.value r.sight) b.is r.seen in
+      let none = given_is_unjudged laws P h b.txn b.committed.0 r.place x r.value (record { txn = b.at; committed = b.committed.1 }) b.found k begun ended quiet r.sight seen g in
+      let judged : kind_of r.sight ≡ Some j = r.judged in
+      cc
+
+  -- a read has no finding exactly where it returned it
+  pub read_clean : (T : Txn) (c : Stamp) (i : ℕ) (x : List ℕ) (v : Option Value) → Commits P T c → ReadsAt T i x v → (k : Stamp) → T.start.0 ≤ k.0 → k.0 ≤ c.0 → IsQuiet T x k
+      → ((f : Finding) → IsFinding P f → IsOfReadAt T.id i f.kind → ⊥) ↔ Gives P T k i x v
+  read_clean T c i x v t reads k begun ended quiet = (
+    λ none. given none (kind_of s) refl,
+    λ g f is at. elim is [ inl r ↦ same f.key f.kind r at g | inr p ↦ subst (IsOfReadAt T.id i) p.is at ],
+  )
+    where
+      s : Sight
+      s = sight_of (on_key x P) (part_on x T) i v
+
+      read : IsRead (on_key x P) (part_on x T) i v
+      read = read_at laws x P T c i v t.txn t.committed reads
+
+      seen : IsSight (on_key x P) (part_on x T) i v s
+      seen = (laws.sights (on_key x P) (part_on x T) i v s (laws.keys P x h) read.part).1 refl
+
+      given : ((f : Finding) → IsFinding P f → IsOfReadAt T.id i f.kind → ⊥) → (o : Option Kind) → kind_of s ≡ o → Gives P T k i x v
+      given none None e = unjudged_is_given laws P h T c i x v t reads k begun ended quiet s seen e
+      given none (Some j) e = absurd (none (record { key = x; kind = j })
+          (inl (record { part = part_on x T; place = i; value = v; sight = s; returned = read; seen = seen; judged = e }))
+          (subst (λ u. IsOfReadAt u i j) seen.txn (subst (λ l. IsOfReadAt s.txn l j) seen.op (of_read s j e))))
+
+      same : (y : List ℕ) (j : Kind) → IsOfRead cases (on_key y P) j → IsOfReadAt T.id i j → Gives P T k i x v → ⊥
+      same y j r at g =
+          let b = read_by laws y P r.part r.place r.value r.returned in
+          let one = one_read j r.sight.txn T.id r.sight.op i (of_read r.sight j r.judged) at in
+          let place : r.place ≡ i = sym r.seen.op ∙ one.1 in
+          let id : b.txn.id ≡ T.id = ap (λ (Q : Part). Q.id) (sym b.is) ∙ sym r.seen.txn ∙ one.0 in
+          let txn : b.txn ≡ T = same_txn laws P h b.txn T b.at t.txn id in
+          let there : ReadsAt T i y r.value = subst (λ (A : Txn). ReadsAt A i y r.value) txn (subst (λ l. ReadsAt b.txn l y r.value) place b.found) in
+          let ops : op.Read y r.value ≡ op.Read x v = same_some (sym there ∙ reads) in
+          let key : y ≡ x = cc in
+          let value : r.value ≡ v = cc in
+          let seen1 : IsSight (on_key y P) (part_on y T) r.place r.value r.sight = subst (λ (A : Txn). IsSight (on_key y P) (part_on y A) r.place r.value r.sight) txn (subst (λ Q. IsSight (on_key y P) Q r.place r.value r.sight) b.is r.seen) in
+          let seen2 : IsSight (on_key x P) (part_on x T) r.place r.value r.sight = subst (λ z. IsSight (on_key z P) (part_on z T) r.place r.value r.sight) key seen1 in
+          let seen3 : IsSight (on_key x P) (part_on x T) i r.value r.sight = subst (λ l. IsSight (on_key x P) (part_on x T) l r.value r.sight) place seen2 in
+          let seen4 : IsSight (on_key x P) (part_on x T) i v r.sight = subst (λ u. IsSight (on_key x P) (part_on x T) i u r.sight) value seen3 in
+          let none = given_is_unjudged laws P h T c i x v t reads k begun ended quiet r.sight seen4 g in
+          let judged : kind_of r.sight ≡ Some j = r.judged in
+          cc
+
 module _ (laws : ModelLaws) (P : Present) (h : IsHistory P) (ordered : IsInCommitOrder P) where
   -- ---- overlaps
 
@@ -155,49 +213,8 @@ module _ (laws : ModelLaws) (P : Present) (h : IsHistory P) (ordered : IsInCommi
 
   -- ---- reads
 
-  -- a read with a finding isn't given by the run
-  found_is_not_given : (x : List ℕ) (k : Kind) (r : IsOfRead cases (on_key x P) k) (b : IsReadBy laws x P r.part r.place r.value) → Gives P b.txn b.committed.0 r.place x r.value → ⊥
-  found_is_not_given x k r b g =
-      let seen = subst (λ Q. IsSight (on_key x P) Q r.place r.value r.sight) b.is r.seen in
-      let none = given_is_unjudged laws P h ordered b.txn b.committed.0 r.place x r.value (record { txn = b.at; committed = b.committed.1 }) b.found r.sight seen g in
-      let judged : kind_of r.sight ≡ Some k = r.judged in
-      cc
-
   pub reads_clean : (T : Txn) (c : Stamp) (i : ℕ) (x : List ℕ) (v : Option Value) → Commits P T c → ReadsAt T i x v → ((f : Finding) → IsFinding P f → IsOfReadAt T.id i f.kind → ⊥) ↔ Gives P T c i x v
-  reads_clean T c i x v t reads = (λ none. given none (kind_of s) refl, λ g f is at. elim is [ inl r ↦ same f.key f.kind r at g | inr p ↦ pair_is_none f.key f.kind p ])
-    where
-      s : Sight
-      s = sight_of (on_key x P) (part_on x T) i v
-
-      read : IsRead (on_key x P) (part_on x T) i v
-      read = read_at laws x P T c i v t.txn t.committed reads
-
-      seen : IsSight (on_key x P) (part_on x T) i v s
-      seen = (laws.sights (on_key x P) (part_on x T) i v s (laws.keys P x h) read.part).1 refl
-
-      given : ((f : Finding) → IsFinding P f → IsOfReadAt T.id i f.kind → ⊥) → (o : Option Kind) → kind_of s ≡ o → Gives P T c i x v
-      given none None e = unjudged_is_given laws P h ordered T c i x v t reads s seen e
-      given none (Some k) e = absurd (none (record { key = x; kind = k })
-          (inl (record { part = part_on x T; place = i; value = v; sight = s; returned = read; seen = seen; judged = e }))
-          (subst (λ u. IsOfReadAt u i k) seen.txn (subst (λ j. IsOfReadAt s.txn j k) seen.op (of_read s k e))))
-
-      same : (y : List ℕ) (k : Kind) → IsOfRead cases (on_key y P) k → IsOfReadAt T.id i k → Gives P T c i x v → ⊥
-      same y k r at g =
-          let b = read_by laws y P r.part r.place r.value r.returned in
-          let one = one_read k r.sight.txn T.id r.sight.op i (of_read r.sight k r.judged) at in
-          let place : i ≡ r.place = sym (sym r.seen.op ∙ one.1) in
-          let id : b.txn.id ≡ T.id = ap (λ (Q : Part). Q.id) (sym b.is) ∙ sym r.seen.txn ∙ one.0 in
-          let txn : T ≡ b.txn = sym (same_txn laws P h b.txn T b.at t.txn id) in
-          let stamps : Some c ≡ Some b.committed.0 = ap commit_of (sym t.committed) ∙ ap (λ (A : Txn). commit_of A.status) txn ∙ ap commit_of b.committed.1 in
-          let there : ReadsAt b.txn r.place x v = subst (λ (A : Txn). ReadsAt A r.place x v) txn (subst (λ j. ReadsAt T j x v) place reads) in
-          let ops : op.Read x v ≡ op.Read y r.value = same_some (sym there ∙ b.found) in
-          let key : x ≡ y = cc in
-          let value : v ≡ r.value = cc in
-          let g1 : Gives P T c r.place x v = subst (λ j. Gives P T c j x v) place g in
-          let g2 : Gives P T b.committed.0 r.place x v = subst (λ d. Gives P T d r.place x v) (same_some stamps) g1 in
-          let g3 : Gives P b.txn b.committed.0 r.place x v = subst (λ (A : Txn). Gives P A b.committed.0 r.place x v) txn g2 in
-          let g4 : Gives P b.txn b.committed.0 r.place y v = subst (λ z. Gives P b.txn b.committed.0 r.place z v) key g3 in
-          found_is_not_given y k r b (subst (Gives P b.txn b.committed.0 r.place y) value g4)
+  reads_clean T c i x v t reads = read_clean laws P h T c i x v t reads c (h.forward T c t.txn (ap commit_of t.committed)) (omega arith) (λ U d u. between laws P h ordered T U c d x t u)
 
   pub serial_clean : (findings P ≡ []) ↔ IsSerial P
   serial_clean = (λ none T c i x v t reads. (reads_clean T c i x v t reads).0 (λ f is at. Contains-nil f (subst (λ l. Contains l f) none ((laws.findings P h).complete f is))), λ serial. go serial (findings P) refl)
@@ -206,7 +223,9 @@ module _ (laws : ModelLaws) (P : Present) (h : IsHistory P) (ordered : IsInCommi
       dirty serial f is = elim is [
         | inl r ↦ (
             let b = read_by laws f.key P r.part r.place r.value r.returned in
-            found_is_not_given f.key f.kind r b (serial b.txn b.committed.0 r.place f.key r.value (record { txn = b.at; committed = b.committed.1 }) b.found)
+            let commits : Commits P b.txn b.committed.0 = record { txn = b.at; committed = b.committed.1 } in
+            found_is_not_given laws P h f.key f.kind r b b.committed.0 (h.forward b.txn b.committed.0 b.at (ap commit_of b.committed.1)) (omega arith) (λ U d u. between laws P h ordered b.txn U b.committed.0 d f.key commits u)
+            (serial b.txn b.committed.0 r.place f.key r.value commits b.found)
             )
         | inr p ↦ pair_is_none f.key f.kind p
       ]

@@ -175,10 +175,10 @@ reads_write_of W (op.Read x (Some v)) = writes_pair_of (op.Write x v) W
 reads_write_of W (op.Write x v) = false
 
 -- the same, and the value isn't W's last write of that key
-abbrev pub reads_earlier_of : Txn → Op → Bool
-reads_earlier_of W (op.Read x None) = false
-reads_earlier_of W (op.Read x (Some v)) = writes_pair_of (op.Write x v) W && not (is_last_on x v W)
-reads_earlier_of W (op.Write x v) = false
+abbrev pub reads_intermediate_of : Txn → Op → Bool
+reads_intermediate_of W (op.Read x None) = false
+reads_intermediate_of W (op.Read x (Some v)) = writes_pair_of (op.Write x v) W && not (is_last_on x v W)
+reads_intermediate_of W (op.Write x v) = false
 
 -- whether there is an operation, and it passes the test
 abbrev pub passes_there : (Op → Bool) → Option Op → Bool
@@ -191,7 +191,7 @@ is_aborted_read i T W = is_committed T && (is_aborted W.status && passes_there (
 
 -- whether T, which committed, read at the place i what W, another one, writes before its last write
 abbrev pub is_intermediate_read : ℕ → Txn → Txn → Bool
-is_intermediate_read i T W = is_committed T && (not (same_id W.id T.id) && passes_there (reads_earlier_of W) (slice_get T.ops i))
+is_intermediate_read i T W = is_committed T && (not (same_id W.id T.id) && passes_there (reads_intermediate_of W) (slice_get T.ops i))
 
 -- ---- evidence
 

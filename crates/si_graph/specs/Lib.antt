@@ -9,4 +9,6 @@ pub mod Serial
 pub mod SerialRuns
 pub mod Serializability
 pub mod SerialLaws
+pub mod Snapshots
+pub mod SnapshotLaws
 pub mod EvidenceTests

@@ -5,7 +5,7 @@ ghost use Rattle.std.specs.List.{list_all, count_by};
 ghost use Rattle.si_model.specs.Parts.{Present};
 ghost use Rattle.si_model.specs.History.{IsHistory};
 ghost use Rattle.si_graph.specs.Shown.{Shows};
-ghost use Rattle.si_graph.specs.EvidenceTests.{is_edge, is_aborted, reads_write_of, reads_earlier_of, is_aborted_read, is_intermediate_read, is_interference, commits_late, is_not_before, is_dependency, is_walk, is_closed, are_missed, holds};
+ghost use Rattle.si_graph.specs.EvidenceTests.{is_edge, is_aborted, reads_write_of, reads_intermediate_of, is_aborted_read, is_intermediate_read, is_interference, commits_late, is_not_before, is_dependency, is_walk, is_closed, are_missed, holds};
 ghost use Rattle.si_graph.specs.Walks.{is_rw_edge};
 
 use crate::dependencies::{is_committed, is_edge};
@@ -66,7 +66,7 @@ fn is_intermediate_read(op: usize, reader: &Txn, writer: &Txn) -> bool
         && writer.id != reader.id
         && match reader.ops.as_slice().get(op) {
             None => false,
-            Some(op) => reads_earlier_of(writer, op),
+            Some(op) => reads_intermediate_of(writer, op),
         }
 }
 
@@ -79,6 +79,7 @@ fn is_aborted(status: Status) -> bool
     }
 }
 
+/// Whether the operation reads a value that the writer wrote.
 fn reads_write_of(writer: &Txn, op: &Op) -> bool
     ensures { result ≡ reads_write_of writer.now op.now }
 {
@@ -88,8 +89,9 @@ fn reads_write_of(writer: &Txn, op: &Op) -> bool
     }
 }
 
-fn reads_earlier_of(writer: &Txn, op: &Op) -> bool
-    ensures { result ≡ reads_earlier_of writer.now op.now }
+/// Whether the operation reads a value that the writer replaced itself later.
+fn reads_intermediate_of(writer: &Txn, op: &Op) -> bool
+    ensures { result ≡ reads_intermediate_of writer.now op.now }
 {
     match op {
         Op::Read(key, Some(value)) => {

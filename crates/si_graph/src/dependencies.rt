@@ -58,6 +58,7 @@ fn write_depends_on(txns: &[Txn], from: &Txn, to: &Txn, key: &Key) -> bool
     are_neighbours(txns, key, install_on(key, from), install_on(key, to))
 }
 
+/// Whether one reads what the other wrote last to a key.
 fn reads_last(from: &Txn, to: &Txn) -> bool
     ensures { result ≡ list_any (reads_last_of from.now) to.now.ops }
 {
@@ -83,6 +84,7 @@ fn anti_depends(txns: &[Txn], initial: &[(Key, Value)], from: &Txn, to: &Txn) ->
         .any(|op| reads_before(txns, initial, to, op))
 }
 
+/// Whether the operation read the version before the one that the other installs.
 fn reads_before(txns: &[Txn], initial: &[(Key, Value)], to: &Txn, op: &Op) -> bool
     ensures { result ≡ reads_before (record { txns = txns.now; initial = initial.now }) to.now op.now }
 {
@@ -120,6 +122,7 @@ fn one_precedes(txns: &[Txn], key: &Key, read: Option<Value>, next: Option<Insta
     }
 }
 
+/// Whether a transaction wrote the value last to the key, and the next version is this one.
 fn some_precedes(txns: &[Txn], key: &Key, value: Value, next: Option<Installer>) -> bool
     ensures { result ≡ list_any (precedes txns.now key.now value next) txns.now }
 {

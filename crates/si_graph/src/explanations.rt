@@ -42,6 +42,7 @@ pub fn explain(
     }
 }
 
+/// Whether the finding is one of the history.
 fn is_found(
     alloc: Global,
     txns: &[Txn],

@@ -4,6 +4,7 @@
 ghost use Rattle.si_graph.specs.Emptiness.{AbortedReadsAreFound, CircularFlowInterferes, EmptinessIsExact, InterferenceIsFound, IntermediateReadsAreFound, MissedEffectsAreFound};
 ghost use Rattle.si_graph.specs.Laws.{CircularWalksHaveCycles, MissedWalksHaveCycles, ShownIsThere, NothingIsShown, ExplainedIsShown, ModelLaws};
 ghost use Rattle.si_graph.specs.SerialLaws.{SerialReadsAreClean, SerialIsClean, RunsAreSerial, CleanIsARun, NoneOverlaps, FutureIsLater, CleanIsSerializable};
+ghost use Rattle.si_graph.specs.SnapshotLaws.{AlarmsAreTrue, SnapshotReadsAreClean, ApartIsClean, SnapshotsAreClean, SnapshotsAreExact};
 
 use si_model::laws::{
     accesses_are_operations, findings_are_exact, form_is_found, id_is_found, install_is_exact,
@@ -129,6 +130,42 @@ pub fn future_is_later()
 /// A history in commit order without a finding has no cycle of ww, wr and rw edges, and is PL-3.
 pub fn clean_is_serializable()
     ensures { CleanIsSerializable }
+{
+    model_laws();
+}
+
+/// Of any history, a read of a committed transaction has no finding exactly where it returned what the snapshot at the
+/// transaction's start gives it.
+pub fn snapshot_reads_are_clean()
+    ensures { SnapshotReadsAreClean }
+{
+    model_laws();
+}
+
+/// A history has no overlap exactly where, of two committed transactions that write one key, one commits before the other one starts.
+pub fn apart_is_clean()
+    ensures { ApartIsClean }
+{
+    model_laws();
+}
+
+/// So a history has no finding exactly where its committed transactions read snapshots and no two that write one key overlap.
+pub fn snapshots_are_clean()
+    ensures { SnapshotsAreClean }
+{
+    model_laws();
+}
+
+/// They read snapshots and don't overlap exactly where the history is well formed and PL-SI.
+pub fn snapshots_are_exact()
+    ensures { SnapshotsAreExact }
+{
+    model_laws();
+}
+
+/// Each finding of a history tells a read that isn't what its snapshot gives it, or two writers of one key that overlap.
+pub fn alarms_are_true()
+    ensures { AlarmsAreTrue }
 {
     model_laws();
 }

@@ -45,6 +45,7 @@ fn all_stay_out(txns: &[Txn], key: &Key, after: VersionId, commit: Stamp) -> boo
     txns.iter().all(|txn| stays_out(key, after, commit, txn))
 }
 
+/// Whether the transaction installs no version of the key between these two.
 fn stays_out(key: &Key, after: VersionId, commit: Stamp, txn: &Txn) -> bool
     ensures { result ≡ stays_out key.now after commit txn.now }
 {

@@ -25,7 +25,7 @@ pub struct KeyHash {
 
 impl KeyHash {
     /// Its secret is what this one gives for two numbers, which no [`NumberHash`](crate::NumberHash) takes.
-    pub fn new(secret: RandomState) -> Self
+    pub fn with_secret(secret: RandomState) -> Self
         ensures { result ≡ key_hash_between (drawn secret 2) (drawn secret 3) secret }
     {
         let mut begun = FoldHasher::default();

@@ -21,7 +21,7 @@ pub struct NumberHash {
 
 impl NumberHash {
     /// The two halves of its secret are numbers that this one gives.
-    pub fn new(secret: RandomState) -> Self
+    pub fn with_secret(secret: RandomState) -> Self
         ensures { result ≡ hash_between (drawn secret 0) (drawn secret 1) }
     {
         let mut begun = FoldHasher::default();

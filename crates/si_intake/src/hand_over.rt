@@ -38,6 +38,7 @@ pub(crate) struct HandOver {
 }
 
 impl HandOver {
+    /// Hands items over by this queue.
     pub(crate) fn new(queue: Queue) -> HandOver
         ensures { result.queue ≡ queue }
     {

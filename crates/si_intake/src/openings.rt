@@ -43,6 +43,7 @@ pub fn open(
     Ok((ends, accepter))
 }
 
+/// An end for each source, by which it puts its items.
 fn ends_of(
     alloc: Global,
     shared: &Arc<HandOver, Global>,

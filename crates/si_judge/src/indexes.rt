@@ -47,6 +47,7 @@ pub struct TakenOut {
 }
 
 impl Indexes {
+    /// Nothing is known of the key.
     pub fn new(alloc: Global) -> Self
         ensures initial { result.initial ≡ None }
         ensures timeline { result.timeline ≡ [] }
@@ -192,6 +193,7 @@ impl Indexes {
         self.writes.get(value?)
     }
 
+    /// The version with the value, and the commit stamp at which it was installed.
     fn version_of(&self, value: Option<Value>) -> Option<(Stamp, Version)>
         ensures { (M : OnKey) → AreIndexes M self.now → result ≡ version_in self.now value }
     {
@@ -208,6 +210,7 @@ impl Indexes {
         told
     }
 
+    /// The version that a read from this source misses, if a transaction with that start should have seen a later one.
     fn missed_at(&self, start: Stamp, source: Source) -> Option<Installer>
         ensures { (M : OnKey) → AreIndexes M self.now → result ≡ missed_of M.parts start (version_of source) }
     {

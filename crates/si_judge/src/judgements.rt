@@ -35,6 +35,7 @@ pub struct Judgements<J> {
 }
 
 impl<J: Judge + Drop> Judgements<J> {
+    /// Nothing is judged yet, and all is to be by this judge.
     pub fn new(alloc: Global, judge: J) -> Self
         ensures judge { result.judge ≡ judge }
         ensures reads { (o : ReadId) → get read_cmp result.reads o ≡ None }

@@ -140,6 +140,7 @@ fn add_keys(keys: &mut Vec<Key>, txn: &Txn) -> Result<(), OutOfMemory>
     Ok(())
 }
 
+/// Adds the findings on one key.
 #[tactic(auto, unfolding(crate::specs::Findings::found_at))]
 fn add_found_at(
     alloc: Global,

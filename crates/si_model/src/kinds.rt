@@ -134,6 +134,7 @@ fn of_read(
     ]
 }
 
+/// 1 for a value, and 0 for none.
 fn presence(value: Option<Value>) -> u64
     ensures { result ≡ presence value }
 {

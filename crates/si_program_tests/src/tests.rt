@@ -1,6 +1,6 @@
 //! What lines say, what is written, what comes of several sources, and how runs and the whole program end.
 
-ghost use Rattle.std.specs.Prelude.{◌≡◌, false};
+ghost use Rattle.std.specs.Prelude.{◌≡◌, [], false};
 ghost use Rattle.std.specs.Mem.{FitsInMemory};
 
 mod evidence;
@@ -19,13 +19,14 @@ mod set_ups;
 
 use si_cli::{ExitStatus, NamedFiles, Options, RunFault, main_with, run};
 use si_text::memory::{MemorySink, MemorySource};
-use si_text::{ByteSink, ByteSource};
+use si_text::{ByteSink, ByteSource, Foreseen};
 use std::alloc::AllocGlobal;
 use std::fmt::{Debug, Display};
 use std::hash::RandomState;
 use std::num::NonZeroU64;
 use std::process::Abort;
 use std::random::RandomSource;
+use std::rt::Clock;
 use std::slice;
 use std::sync::Wait;
 use std::thread::Threads;
@@ -37,13 +38,14 @@ const PLAIN: Options = Options {
     only_new: false,
     explain: false,
     expected: None,
+    shows_progress: false,
     limit: 16_777_216,
 };
 
 /// What the tests and their helpers need.
-trait Host: AllocGlobal + Abort + RandomSource + Threads + Wait + Sync {}
+trait Host: AllocGlobal + Abort + RandomSource + Threads + Wait + Clock + Sync {}
 
-impl<R: AllocGlobal + Abort + RandomSource + Threads + Wait + Sync> Host for R {}
+impl<R: AllocGlobal + Abort + RandomSource + Threads + Wait + Clock + Sync> Host for R {}
 
 /// The two are the same. They are moved here, so that no other proof sees how they are compared and let go.
 fn are_same<T: PartialEq + Debug + Drop>(rt: &impl Abort, found: T, wanted: T) {
@@ -174,6 +176,13 @@ fn check(rt: &impl Host, every: Option<u64>, input: &str, output: &str, status: 
     check_with(rt, options, input, output, status);
 }
 
+/// Some bytes: what sources give is seen by the tests.
+struct Any;
+
+impl Foreseen for Any {
+    ghost bytes = { λ _. [] };
+}
+
 /// What the program answers on these words over these devices.
 fn answer<H: Host, F: NamedFiles, I: ByteSource + Send, O: ByteSink, E: ByteSink>(
     rt: &H,
@@ -188,7 +197,18 @@ fn answer<H: Host, F: NamedFiles, I: ByteSource + Send, O: ByteSink, E: ByteSink
     requires out { (O.seen out.old).failed ≡ false }
 {
     let hash = secret_key(rt);
-    main_with(rt, files, rt.alloc(), hash, words, input, out, err)
+    let mut sources = Vec::new(rt.alloc());
+    main_with(
+        rt,
+        files,
+        &mut sources,
+        rt.alloc(),
+        hash,
+        words,
+        input,
+        out,
+        err,
+    )
 }
 
 /// What the program wrote to both devices, and its status.

@@ -17,6 +17,6 @@ session_sync ℓ N G names gate =
       global.the_field_sync,
       (
         secret.the_field_sync,
-        (shr_sync _ _ _ (checker_sync N names), (shr_sync _ _ _ gate, (search (crosses, sendable) depth 20, (search (crosses, sendable) depth 20, tt)))),
+        (shr_sync _ _ _ (checker_sync N names), (shr_sync _ _ _ gate, (search (crosses, sendable) depth 20, (search (crosses, sendable) depth 20, (search (crosses, sendable) depth 20, tt))))),
       ),
     ))

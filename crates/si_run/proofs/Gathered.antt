@@ -1,22 +1,23 @@
 -- The ends of a run: those that were opened, and what is known once all is taken.
-use Rattle.std.proofs.Common.{◌≡◌, ⊎_elim, ℕ, zero, suc, ◌<◌, Bool, false, List, [], ◌∷◌, ◌++◌, length, take, drop, Option, Some, All, refl, sym, ap, subst, ◌∙◌, arith, append-nil}
+use Rattle.std.proofs.Common.{◌≡◌, ⊎_elim, inl, inr, ℕ, zero, suc, ◌<◌, Bool, false, List, [], ◌∷◌, ◌++◌, length, take, drop, Option, Some, All, refl, sym, ap, subst, ◌∙◌, arith, append-nil}
 use Rattle.std.specs.Prelude.{Result, Ok, Err}
 use Rattle.std.proofs.lemmas.List.{drop_all, take_all}
 use Rattle.std.proofs.lemmas.List.Elements.{All-append}
 use Rattle.std.specs.Prelude.{slice_get, slice_index_or}
 use Rattle.std.proofs.lemmas.Option.{same_Some, slice_get-get_or, slice_get_within}
-use Rattle.si_text.specs.Devices.{Input, Lent, Output, each_failed, each_left, lent}
+use Rattle.si_text.specs.Devices.{Input, Lent, Output, each_failed, each_foretold, lent}
 use Rattle.si_intake.specs.Ends.{Accepting, AreAllEndsOf, Putting, all_put, new_end, new_ends}
 use Rattle.si_intake.specs.Interleavings.{IsInterleaving as IsIntakeOf}
 use Rattle.si_run.specs.declared.statuses.ExitStatus.{ExitStatus}
 use Rattle.si_run.specs.declared.faults.RunFault.{RunFault}
 use Rattle.si_run.specs.declared.faults.RunFault.TheVariants as fault
-use Rattle.si_run.specs.Outputs.{Progress, Terms}
+use Rattle.si_run.specs.Outputs.{Progress, Terms, start}
 use Rattle.si_run.specs.Readings.{AreRead}
 use Rattle.si_run.specs.Endings.{EndsOpened}
+use Rattle.si_run.specs.GateLaws.{GateIsExact}
 use Rattle.si_run.specs.Runs.{BeginsText, IsTrueDeviceFault}
 use Rattle.si_run.specs.Takings.{IsNotBegun, IsRunThrough, IsStopped}
-use Rattle.si_run.proofs.Interleaved.{AreTaken, all_worked, finished, met, nothing_begun, stopped}
+use Rattle.si_run.proofs.Interleaved.{AreTaken, all_told, all_worked, finished, met, nothing_begun, stopped}
 
 -- the ends keep their places and numbers while their inputs are read, and so does the accepter
 pub still_all : (old new : Accepting) (lefts : List (Option (List ℕ))) (failed : List Bool) (olds news : List Putting)
@@ -80,29 +81,47 @@ unbegun_true out q (fault.Open opening) lefts failed m = m
 unbegun_true out q fault.Output lefts failed m = absurd m
 unbegun_true out q fault.Memory lefts failed m = m.0.0
 
+-- then the decisions are at their start
+from_start : (out : Lent Output) (q : Progress) (f : RunFault) → IsNotBegun out q f → IsNotBegun out start f
+from_start out q (fault.Input s) m = m
+from_start out q (fault.Open opening) m = m
+from_start out q fault.Output m = m
+from_start out q fault.Memory m = (m.0, refl)
+
 -- what the threads did together is what a run does
-pub ran : (terms : Terms) (old new : Accepting) (inputs : Lent (List Input)) (out : Lent Output) (q : Progress) (result : Result ExitStatus RunFault) (olds news : List Putting)
-    → AreTaken (each_left inputs.before) (each_failed inputs.after) olds news new.taken → IsRunThrough terms old new out q result
-    → length (each_failed inputs.after) ≡ length (each_left inputs.before) → EndsOpened terms inputs out result
-ran terms old new inputs out q (Ok status) olds news t a many = record {
-  output = finished terms (each_left inputs.before) (each_failed inputs.after) olds news new.taken out.before.written out.after.written q status t a.ok;
-  works = (all_worked (each_left inputs.before) (each_failed inputs.after) olds news new.taken t a.ok.faultless many, a.works);
+pub ran : GateIsExact → (terms : Terms) (old new : Accepting) (inputs : Lent (List Input)) (out : Lent Output) (q : Progress) (result : Result ExitStatus RunFault) (olds news : List Putting)
+    → AreTaken (each_foretold inputs.before inputs.after) (each_failed inputs.after) olds news new.taken → IsRunThrough terms old new out q result
+    → length (each_failed inputs.after) ≡ length (each_foretold inputs.before inputs.after) → EndsOpened terms inputs out result
+ran gate terms old new inputs out q (Ok status) olds news t a many = record {
+  output = finished gate terms (each_foretold inputs.before inputs.after) (each_failed inputs.after) olds news new.taken out.before.written out.after.written q status t a.ok;
+  works = (all_worked (each_foretold inputs.before inputs.after) (each_failed inputs.after) olds news new.taken t a.ok.faultless many, a.works);
   part = tt;
   fault = tt;
+  met = tt;
 }
-ran terms old new inputs out q (Err f) olds news t a many = record {
+ran gate terms old new inputs out q (Err f) olds news t a many = record {
   output = tt;
   works = tt;
   part = ⊎_elim
-      (λ (s : IsStopped terms new.taken out q f). stopped terms (each_left inputs.before) (each_failed inputs.after) olds news new.taken out q f t s)
-      (λ (n : IsNotBegun out q f). unbegun terms out q f (each_left inputs.before) n)
+      (λ (s : IsStopped terms new.taken out q f). stopped terms (each_foretold inputs.before inputs.after) (each_failed inputs.after) olds news new.taken out q f t s)
+      (λ (n : IsNotBegun out q f). unbegun terms out q f (each_foretold inputs.before inputs.after) n)
       a.err;
   fault = ⊎_elim
-      (λ (s : IsStopped terms new.taken out q f). met terms (each_left inputs.before) (each_failed inputs.after) olds news new.taken out q f t s)
-      (λ (n : IsNotBegun out q f). unbegun_true out q f (each_left inputs.before) (each_failed inputs.after) n)
+      (λ (s : IsStopped terms new.taken out q f). met terms (each_foretold inputs.before inputs.after) (each_failed inputs.after) olds news new.taken out q f t s)
+      (λ (n : IsNotBegun out q f). unbegun_true out q f (each_foretold inputs.before inputs.after) (each_failed inputs.after) n)
+      a.err;
+  met = ⊎_elim
+      (λ (s : IsStopped terms new.taken out q f). inr (new.taken, q, all_told (each_foretold inputs.before inputs.after) (each_failed inputs.after) olds news new.taken t, s))
+      (λ (n : IsNotBegun out q f). inl (from_start out q f n))
       a.err;
 }
 
 -- a run that was refused memory before its threads began
 pub refused : (terms : Terms) (inputs : List Input) (out : Output) → out.failed ≡ false → EndsOpened terms (lent inputs inputs) (lent out out) (Err fault.Memory)
-refused terms inputs out works = record { output = tt; works = tt; part = nothing_begun terms (each_left inputs) out.written; fault = works }
+refused terms inputs out works = record { output = tt; works = tt; part = nothing_begun terms (each_foretold inputs inputs) out.written; fault = works; met = inl ((works, refl), refl) }
+
+-- one for each input
+pub length-each_foretold : (befores afters : List Input) → length afters ≡ length befores → length (each_foretold befores afters) ≡ length befores
+length-each_foretold [] afters same = refl
+length-each_foretold (before ∷ befores) [] same = absurd (omega arith)
+length-each_foretold (before ∷ befores) (after ∷ afters) same = ap suc (length-each_foretold befores afters (omega arith))

@@ -1,7 +1,7 @@
 -- Of options in range no fault of the options is told.
 use Rattle.std.proofs.Common.{inl, inr, ℕ, Bool, List, Option, arith}
 use Rattle.std.specs.Prelude.{Result, Ok, Err, IfErr}
-use Rattle.si_text.specs.Devices.{Input, Lent, Output, each_failed, each_left}
+use Rattle.si_text.specs.Devices.{Input, Lent, Output, each_failed, each_foretold}
 use Rattle.si_checker.specs.Openings.{CanOpen}
 use Rattle.si_checker.specs.declared.openings.OpenFault.{OpenFault}
 use Rattle.si_checker.specs.declared.openings.OpenFault.TheVariants as opening
@@ -9,7 +9,7 @@ use Rattle.si_run.specs.declared.options.Options.{Options}
 use Rattle.si_run.specs.declared.faults.RunFault.{RunFault}
 use Rattle.si_run.specs.declared.faults.RunFault.TheVariants as fault
 use Rattle.si_run.specs.declared.statuses.ExitStatus.{ExitStatus}
-use Rattle.si_run.specs.Endings.{Ends, EndsOpened}
+use Rattle.si_run.specs.Endings.{Ends, EndsOpened, IsMet, IsMetOrOpen, IsUnread}
 use Rattle.si_run.specs.Runs.{IsOutOfRange, IsRunnable, IsToldFirst, IsTrueDeviceFault, IsTrueFault, terms_by}
 
 -- options in range aren't told to be out of it
@@ -53,26 +53,48 @@ opened_ends options inputs out result can ends = record {
   works = ends.works;
   part = ends.part;
   fault = true_fault result ends.fault;
+  met = met_so result ends.met;
   first = told_first result ends.fault;
+  unread = unread result ends.fault;
   range = λ o is. absurd (in_range options o (runnable options can) is);
 }
   where
-    of_device : (f : RunFault) → IsTrueDeviceFault (each_left inputs.before) (each_failed inputs.after) out.after.failed f → IsTrueFault options (each_left inputs.before) (each_failed inputs.after) out.after.failed f
+    of_device : (f : RunFault) → IsTrueDeviceFault (each_foretold inputs.before inputs.after) (each_failed inputs.after) out.after.failed f → IsTrueFault options (each_foretold inputs.before inputs.after) (each_failed inputs.after) out.after.failed f
     of_device (fault.Input source) t = t
     of_device (fault.Open o) t = absurd t
     of_device fault.Output t = t
     of_device fault.Memory t = t
 
-    true_fault : (r : Result ExitStatus RunFault) → IfErr r (IsTrueDeviceFault (each_left inputs.before) (each_failed inputs.after) out.after.failed) → IfErr r (IsTrueFault options (each_left inputs.before) (each_failed inputs.after) out.after.failed)
+    true_fault : (r : Result ExitStatus RunFault) → IfErr r (IsTrueDeviceFault (each_foretold inputs.before inputs.after) (each_failed inputs.after) out.after.failed) → IfErr r (IsTrueFault options (each_foretold inputs.before inputs.after) (each_failed inputs.after) out.after.failed)
     true_fault (Ok status) t = tt
     true_fault (Err f) t = of_device f t
 
-    first_of : (f : RunFault) → IsTrueDeviceFault (each_left inputs.before) (each_failed inputs.after) out.after.failed f → IsToldFirst out.before.written out.after.written f
+    first_of : (f : RunFault) → IsTrueDeviceFault (each_foretold inputs.before inputs.after) (each_failed inputs.after) out.after.failed f → IsToldFirst out.before.written out.after.written f
     first_of (fault.Input source) t = tt
     first_of (fault.Open o) t = absurd t
     first_of fault.Output t = tt
     first_of fault.Memory t = tt
 
-    told_first : (r : Result ExitStatus RunFault) → IfErr r (IsTrueDeviceFault (each_left inputs.before) (each_failed inputs.after) out.after.failed) → IfErr r (IsToldFirst out.before.written out.after.written)
+    told_first : (r : Result ExitStatus RunFault) → IfErr r (IsTrueDeviceFault (each_foretold inputs.before inputs.after) (each_failed inputs.after) out.after.failed) → IfErr r (IsToldFirst out.before.written out.after.written)
     told_first (Ok status) t = tt
     told_first (Err f) t = first_of f t
+
+    unread_of : (f : RunFault) → IsTrueDeviceFault (each_foretold inputs.before inputs.after) (each_failed inputs.after) out.after.failed f → IsUnread inputs f
+    unread_of (fault.Input source) t = tt
+    unread_of (fault.Open o) t = absurd t
+    unread_of fault.Output t = tt
+    unread_of fault.Memory t = tt
+
+    unread : (r : Result ExitStatus RunFault) → IfErr r (IsTrueDeviceFault (each_foretold inputs.before inputs.after) (each_failed inputs.after) out.after.failed) → IfErr r (IsUnread inputs)
+    unread (Ok status) t = tt
+    unread (Err f) t = unread_of f t
+
+    met_of : (f : RunFault) → IsMet (terms_by options) (each_foretold inputs.before inputs.after) (each_failed inputs.after) out f → IsMetOrOpen (terms_by options) (each_foretold inputs.before inputs.after) (each_failed inputs.after) out f
+    met_of (fault.Input source) m = m
+    met_of (fault.Open o) m = tt
+    met_of fault.Output m = m
+    met_of fault.Memory m = m
+
+    met_so : (r : Result ExitStatus RunFault) → IfErr r (IsMet (terms_by options) (each_foretold inputs.before inputs.after) (each_failed inputs.after) out) → IfErr r (IsMetOrOpen (terms_by options) (each_foretold inputs.before inputs.after) (each_failed inputs.after) out)
+    met_so (Ok status) m = tt
+    met_so (Err f) m = met_of f m

@@ -21,7 +21,8 @@ use Rattle.si_run.specs.declared.faults.RunFault.{RunFault}
 use Rattle.si_run.specs.declared.faults.RunFault.TheVariants as fault
 use Rattle.si_run.specs.Outputs.{SourcedItem, Terms, Progress, from_source, item_text, output_of, report_at, sourced}
 use Rattle.si_run.specs.Interleavings.{IsInterleaving, comes_from, items_from}
-use Rattle.si_run.specs.Readings.{AreRead, IsRead, told}
+use Rattle.si_run.specs.Readings.{AreRead, AreTold, IsRead, told, told_item}
+use Rattle.si_run.specs.GateLaws.{GateIsExact, IsGate}
 use Rattle.si_run.specs.Runs.{BeginsSome, BeginsText, IsTrueDeviceFault, IsUnwritten, MayBeTooLong, WritesSome, WritesText, all_known}
 use Rattle.si_run.specs.Takings.{IsCutInReport, IsCutOff, IsFinished, IsMetAt, IsStopped, has_fault, lines_among}
 use Rattle.si_run.proofs.Beginnings.{nothing, report_begun, stop_begun}
@@ -193,13 +194,13 @@ nothing_begun terms lefts old = text_begun terms lefts old old (by (all_known le
 
 -- ---- what a run did
 
-pub finished : (terms : Terms) (lefts : List (Option (List ℕ))) (failed : List Bool) (olds news : List Putting) (taken : List Told) (old new : Option (List ℕ)) (q : Progress) (status : ExitStatus)
+pub finished : GateIsExact → (terms : Terms) (lefts : List (Option (List ℕ))) (failed : List Bool) (olds news : List Putting) (taken : List Told) (old new : Option (List ℕ)) (q : Progress) (status : ExitStatus)
     → AreTaken lefts failed olds news taken → IsFinished terms taken old new q status → WritesText terms lefts old new status
-finished terms lefts failed olds news taken old new q status t f = text_written terms lefts old new status (by (all_known lefts) refl)
+finished gate terms lefts failed olds news taken old new q status t f = text_written terms lefts old new status (by (all_known lefts) refl)
   where
     by : (known : Option (List (List ℕ))) → all_known lefts ≡ known → WritesSome terms known old new status
     by None e = tt
-    by (Some all) e = (lines_among taken, all_lines lefts failed olds news taken all t e f.faultless, f.wrote, f.ends)
+    by (Some all) e = (lines_among taken, all_lines lefts failed olds news taken all t e f.faultless, f.wrote, (f.ends, subst (IsGate terms (lines_among taken)) (sym f.ends) (gate terms (lines_among taken))))
 
 pub stopped : (terms : Terms) (lefts : List (Option (List ℕ))) (failed : List Bool) (olds news : List Putting) (taken : List Told) (out : Lent Output) (q : Progress) (fault : RunFault)
     → AreTaken lefts failed olds news taken → IsStopped terms taken out q fault → BeginsText terms lefts out.before.written out.after.written
@@ -271,3 +272,17 @@ all_worked lefts failed olds news taken t fine many k d below =
     let worked = has_worked (slice_index_or lefts k None) (slice_index_or failed k false) one.old one.new one.read
     (subst (λ (l : List Told). has_fault l ≡ false) one.put (own_faults k taken fine)) in
     same_Some (slice_index_or failed k d) (slice_index_or failed k false) (sym (slice_get-get_or failed k d below) ∙ slice_get-get_or failed k false below) ∙ worked
+
+-- what was taken is what all inputs told
+pub all_told : (lefts : List (Option (List ℕ))) (failed : List Bool) (olds news : List Putting) (taken : List Told) → AreTaken lefts failed olds news taken → AreTold lefts failed taken
+all_told lefts failed olds news taken t = record {
+  each = λ i below.
+      let one = taken_at lefts failed olds news taken i t below in
+      record {
+        items = one.read.items;
+        last = one.read.last;
+        tells_all = one.put ∙ ap (λ (e : Putting). e.put) one.read.puts
+            ∙ ap (λ (s : ℕ). map (told_item s) one.read.items ++ told s one.read.last ∷ []) one.source;
+        ends = one.read.ends;
+      };
+}

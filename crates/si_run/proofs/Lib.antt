@@ -11,3 +11,5 @@ pub mod SomeText
 pub mod Changed
 pub mod Gathered
 pub mod InRange
+pub mod Gates
+pub mod Shown

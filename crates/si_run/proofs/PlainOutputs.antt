@@ -5,12 +5,12 @@ use Rattle.si_text.specs.declared.reasons.Reason.{Reason}
 use Rattle.si_run.specs.Outputs.{SourcedItem, Terms, Progress, behind_report, counted, decided_after, items_text, item_text, journal_after, output_of, progress_after, progress_through, reason_after, refusal_line, report_at, start, summary_at}
 use Rattle.si_run.specs.Laws.{PlainOutputIsExact, accepted_after, refusal_lines, refused_among, whole_report}
 
-abbrev plain : ℕ → Bool → Bool → Option ℕ → Terms
-plain limit only_new explain expected = record { limit = limit; every = None; only_new = only_new; explain = explain; expected = expected }
+abbrev plain : ℕ → Bool → Bool → Option ℕ → Bool → Terms
+plain limit only_new explain expected shows = record { limit = limit; every = None; only_new = only_new; explain = explain; expected = expected; shows = shows }
 
-module _ (limit : ℕ) (only_new explain : Bool) (expected : Option ℕ) where
+module _ (limit : ℕ) (only_new explain : Bool) (expected : Option ℕ) (shows : Bool) where
   abbrev terms : Terms
-  terms = plain limit only_new explain expected
+  terms = plain limit only_new explain expected shows
 
   texts : (p : Progress) (items : List SourcedItem) → items_text terms p items ≡ refusal_lines limit p.journal items
   unfolding item_text progress_after decided_after behind_report
@@ -37,7 +37,7 @@ module _ (limit : ℕ) (only_new explain : Bool) (expected : Option ℕ) where
 
 pub plain_output : PlainOutputIsExact
 unfolding output_of report_at summary_at
-plain_output limit only_new explain expected items =
-    let refused : (progress_through (plain limit only_new explain expected) start items).refused ≡ refused_among limit [] items = omega (arith, counts limit only_new explain expected start items) in
-    ap₂ (λ (a b : List ℕ). a ++ b) (texts limit only_new explain expected start items)
-    (ap₂ (λ journal n. whole_report explain expected (present journal) n) (journals limit only_new explain expected start items) refused)
+plain_output limit only_new explain expected shows items =
+    let refused : (progress_through (plain limit only_new explain expected shows) start items).refused ≡ refused_among limit [] items = omega (arith, counts limit only_new explain expected shows start items) in
+    ap₂ (λ (a b : List ℕ). a ++ b) (texts limit only_new explain expected shows start items)
+    (ap₂ (λ journal n. whole_report explain expected (present journal) n) (journals limit only_new explain expected shows start items) refused)

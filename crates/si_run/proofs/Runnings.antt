@@ -1,7 +1,9 @@
 -- How far the reading of an input is, and what each of its steps adds.
 use Rattle.std.proofs.Common.{◌≡◌, inl, inr, ℕ, ◌+◌, ◌-◌, ◌^◌, ◌≤◌, Bool, true, false, cond, List, [], ◌∷◌, ◌++◌, map, length, Option, Some, None, refl, sym, ap, ◌∙◌, arith, append_assoc, append-nil, length-append}
 use Rattle.std.proofs.lemmas.List.{map_push}
-use Rattle.si_text.specs.Inputs.{Item, with_first, lines_of, is_line_feed, is_blank, item_of, numbered, items_after, items_of, Yields}
+use Rattle.si_text.specs.Inputs.{Item, with_first, lines_of, is_line_feed, is_blank, item_of, numbered, items_after, Yields}
+use Rattle.std.specs.Io.KnownBytes.{prepend_known}
+use Rattle.si_text.specs.Devices.{foretold}
 use Rattle.si_text.specs.Lines.{edit_of}
 use Rattle.si_text.specs.LineBuffers.{bytes_held, bytes_to_come, IsFresh, IsSpent, CountsBytes}
 use Rattle.si_text.specs.declared.read_lines.LineBuffer.{LineBuffer}
@@ -14,15 +16,21 @@ use Rattle.si_run.specs.Runs.{MayBeTooLong}
 -- ---- steps
 
 pub Yields-then : (n m k : ℕ) (a b c : Option (List ℕ)) (items more : List Item) → Yields n a m b items → Yields m b k c more → Yields n a k c (items ++ more)
-Yields-then n m k None b c items more p q = tt
-Yields-then n m k (Some xs) None c items more p q = absurd p
-Yields-then n m k (Some xs) (Some ys) None items more p q = absurd q
+Yields-then n m k None None None items more p q = tt
+Yields-then n m k None None (Some zs) items more p q = q
+Yields-then n m k None (Some ys) c items more p q = absurd p
+Yields-then n m k (Some xs) None None items more p q = tt
+Yields-then n m k (Some xs) None (Some zs) items more p q = absurd q
+Yields-then n m k (Some xs) (Some ys) None items more p q = tt
 Yields-then n m k (Some xs) (Some ys) (Some zs) items more p q = p ∙ ap (λ l. items ++ l) q ∙ sym (append_assoc items more (items_after k zs))
 
 pub CountsBytes-then : (a b c : LineBuffer) (x y z : Option (List ℕ)) → CountsBytes a x b y → CountsBytes b y c z → CountsBytes a x c z
-CountsBytes-then a b c None y z p q = tt
-CountsBytes-then a b c (Some xs) None z p q = absurd p
-CountsBytes-then a b c (Some xs) (Some ys) None p q = absurd q
+CountsBytes-then a b c None None None p q = tt
+CountsBytes-then a b c None None (Some zs) p q = q
+CountsBytes-then a b c None (Some ys) z p q = absurd p
+CountsBytes-then a b c (Some xs) None None p q = tt
+CountsBytes-then a b c (Some xs) None (Some zs) p q = absurd q
+CountsBytes-then a b c (Some xs) (Some ys) None p q = tt
 CountsBytes-then a b c (Some xs) (Some ys) (Some zs) p q = (omega (arith, p.0, q.0), omega (arith, p.1, q.1))
 
 pub CountsBytes-none : (a : LineBuffer) (x : Option (List ℕ)) → CountsBytes a x a x
@@ -78,19 +86,23 @@ unended_after old new items fresh puts =
 -- ---- the end
 
 -- before the end the first items were read
-pub first_read : (left : Option (List ℕ)) (n : ℕ) (a : Option (List ℕ)) (old new : Putting) (count : ℕ) (way : IsReading left n a old new count) → AreFirst left way.items
-first_read None n a old new count way = tt
-first_read (Some bytes) n a old new count way = by a way.read
-  where
-    by : (a : Option (List ℕ)) → Yields 0 (Some bytes) n a way.items → (rest : List Item) × (items_of bytes ≡ way.items ++ rest)
-    by None read = absurd read
-    by (Some rest) read = (items_after n rest, read)
+pub first_read : (left mid new : Option (List ℕ)) (n m : ℕ) (h k : List ℕ) (old put : Putting) (count : ℕ) (way : IsReading left n (prepend_known h mid) old put count)
+    → Yields n (prepend_known h mid) m (prepend_known k new) [] → AreFirst (foretold left new) way.items
+first_read left mid None n m h k old put count way still = tt
+first_read left None (Some rest) n m h k old put count way still = absurd still
+first_read None (Some bytes) (Some rest) n m h k old put count way still = tt
+first_read (Some whole) (Some bytes) (Some rest) n m h k old put count way still = (items_after n (h ++ bytes), way.read)
+
+pub Yields-none : (n : ℕ) (a : Option (List ℕ)) → Yields n a n a []
+Yields-none n None = tt
+Yields-none n (Some bytes) = refl
 
 -- ---- an input that is too long
 
-pub spends : (b c : LineBuffer) (x y : Option (List ℕ)) → IsFresh b → CountsBytes b x c y → IsSpent c → MayBeTooLong x
-spends b c None y fresh counts spent = tt
-spends b c (Some xs) None fresh counts spent = absurd counts
+pub spends : (b c : LineBuffer) (x y : Option (List ℕ)) → IsFresh b → CountsBytes b x c y → IsSpent c → MayBeTooLong (foretold x y)
+spends b c None None fresh counts spent = tt
+spends b c None (Some ys) fresh counts spent = absurd counts
+spends b c (Some xs) None fresh counts spent = tt
 spends b c (Some xs) (Some ys) fresh counts spent = elim spent [
   | inl reads ↦ (let none = fresh.2 in let most = counts.0 in omega arith)
   | inr ended ↦ (let none = fresh.0 in let most = counts.1 in let held : length (bytes_held b ++ xs) ≡ length xs = ap (λ h. length (h ++ xs)) fresh.1 in omega arith)
@@ -120,13 +132,11 @@ length-numbered number [] = omega arith
 length-numbered number (l ∷ ls) = omega (arith, length-append (item_of number l) (numbered (number + 1) ls), one_item number l, length-numbered (number + 1) ls)
 
 -- so many items have at least as many bytes
-pub many_items : (left : Option (List ℕ)) (n : ℕ) (a : Option (List ℕ)) (old new : Putting) (count : ℕ) → IsReading left n a old new count → 2 ^ 64 - 1 ≤ count → MayBeTooLong left
-many_items None n a old new count way most = tt
-many_items (Some bytes) n a old new count way most = by a way.read
-  where
-    by : (a : Option (List ℕ)) → Yields 0 (Some bytes) n a way.items → 2 ^ 64 - 1 ≤ length bytes
-    by None read = absurd read
-    by (Some rest) read =
-        let items : length (items_after 0 bytes) ≡ length way.items + length (items_after n rest) = ap length read ∙ length-append way.items (items_after n rest) in
-        let few : length (items_after 0 bytes) ≤ length (lines_of bytes) = length-numbered 1 (lines_of bytes) in
-        omega (arith, length-lines bytes, items, few, way.many, most)
+pub many_items : (left new : Option (List ℕ)) (n : ℕ) (h : List ℕ) (old put : Putting) (count : ℕ) → IsReading left n (prepend_known h new) old put count → 2 ^ 64 - 1 ≤ count → MayBeTooLong (foretold left new)
+many_items left None n h old put count way most = tt
+many_items None (Some rest) n h old put count way most = tt
+many_items (Some bytes) (Some rest) n h old put count way most =
+    let read = way.read in
+    let items : length (items_after 0 bytes) ≡ length way.items + length (items_after n (h ++ rest)) = ap length read ∙ length-append way.items (items_after n (h ++ rest)) in
+    let few : length (items_after 0 bytes) ≤ length (lines_of bytes) = length-numbered 1 (lines_of bytes) in
+    omega (arith, length-lines bytes, items, few, way.many, most)

@@ -2,9 +2,9 @@
 use Rattle.std.proofs.Common.{◌≡◌, ℕ, suc, ◌<◌, List, [], ◌∷◌, Option, Some, None, All, refl, sym, ap, subst, ◌∙◌, arith, eq-eqb, cond, Bool}
 use Rattle.si_text.specs.Inputs.{Item, items_of}
 use Rattle.si_run.specs.declared.statuses.ExitStatus.{ExitStatus}
-use Rattle.si_run.specs.Outputs.{SourcedItem, Terms, from_source, output_of, status_of}
+use Rattle.si_run.specs.Outputs.{SourcedItem, Terms, from_source, output_of}
 use Rattle.si_run.specs.Interleavings.{IsInterleaving, items_from}
-use Rattle.si_run.specs.Runs.{AppendsBeginning, BeginsInterleaved, BeginsText, WritesBeginning, WritesInterleaved, WritesOutput, WritesText}
+use Rattle.si_run.specs.Runs.{AppendsBeginning, BeginsInterleaved, BeginsText, IsStatus, WritesBeginning, WritesInterleaved, WritesOutput, WritesText}
 use Rattle.std.specs.Io.KnownBytes.{Appends}
 
 all_of_one : (items : List SourcedItem) → All (λ (item : SourcedItem). item.0 < 1) items → items_from 0 items ≡ items
@@ -22,7 +22,7 @@ one_writes terms None old new status w = tt
 one_writes terms (Some bytes) old new status w =
     let is = lone w.0 (items_of bytes) w.1 in (
       subst (λ (l : List SourcedItem). Appends old new (output_of terms l)) is w.2,
-      w.3 ∙ ap (status_of terms) is,
+      subst (λ (l : List SourcedItem). IsStatus terms l status) is w.3,
     )
 
 one_begins : (terms : Terms) (input old new : Option (List ℕ)) → BeginsInterleaved terms (input ∷ []) old new → WritesBeginning terms input old new

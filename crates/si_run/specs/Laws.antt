@@ -33,8 +33,8 @@ whole_report explain expected P refused =
 
 -- without reports on the way the output is the lines of the refused items and then the report of what is present
 abbrev pub PlainOutputIsExact : Type 0
-PlainOutputIsExact = (limit : ℕ) (only_new explain : Bool) (expected : Option ℕ) (items : List SourcedItem)
-    → output_of (record { limit = limit; every = None; only_new = only_new; explain = explain; expected = expected }) items
+PlainOutputIsExact = (limit : ℕ) (only_new explain : Bool) (expected : Option ℕ) (shows : Bool) (items : List SourcedItem)
+    → output_of (record { limit = limit; every = None; only_new = only_new; explain = explain; expected = expected; shows = shows }) items
     ≡ refusal_lines limit [] items ++ whole_report explain expected (present (accepted_after limit [] items)) (refused_among limit [] items)
 
 -- ---- reports that tell only what changed

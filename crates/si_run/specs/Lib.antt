@@ -5,5 +5,7 @@ pub mod Readings
 pub mod Takings
 pub mod Endings
 pub mod Faults
+pub mod Telling
 pub mod Engines
 pub mod Laws
+pub mod GateLaws

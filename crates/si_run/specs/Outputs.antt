@@ -37,13 +37,15 @@ abbrev pub from_source : ℕ → List Item → List SourcedItem
 from_source source items = map (sourced source) items
 
 -- the most edits that a journal may have, after how many decided items each report comes, if any do on the way, whether these tell
--- only what changed, whether evidence follows the findings, and how many committed transactions are expected at the end, if any number is
+-- only what changed, whether evidence follows the findings, how many committed transactions are expected at the end, if any number is, and whether
+-- lines of progress are shown on the error device, which changes nothing of the text
 pub record Terms : Type 0 where
   pub limit : ℕ
   pub every : Option ℕ
   pub only_new : Bool
   pub explain : Bool
   pub expected : Option ℕ
+  pub shows : Bool
 
 -- how far the decisions are: the accepted edits, how many items were decided and how many of them refused, and, where reports on the way
 -- tell only what changed, the violations that there were at the one before

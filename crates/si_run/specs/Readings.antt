@@ -1,9 +1,10 @@
 -- What is put for an input, and how it ends.
-use Rattle.std.specs.Prelude.{◌≡◌, ◌⊎◌, ℕ, ◌++◌, Bool, true, false, List, [], ◌∷◌, length, map, slice_get, slice_index_or, Option, Some, None, ⊤}
+use Rattle.std.specs.Prelude.{◌≡◌, ◌⊎◌, ℕ, ◌<◌, ◌++◌, Bool, true, false, List, [], ◌∷◌, length, map, slice_get, slice_index_or, Option, Some, None, ⊤}
 use Rattle.si_intake.specs.declared.items.Item.{Item as Told}
 use Rattle.si_intake.specs.declared.items.What.{What}
 use Rattle.si_intake.specs.declared.items.What.TheVariants.{Line, ReadFault, NoMemory, End}
 use Rattle.si_intake.specs.Ends.{Putting}
+use Rattle.si_intake.specs.Items.{of_source}
 use Rattle.si_text.specs.Inputs.{Item, items_of}
 use Rattle.si_run.specs.Runs.{MayBeTooLong}
 
@@ -47,3 +48,14 @@ pub record IsRead (left : Option (List ℕ)) (failed : Bool) (old new : Putting)
 pub record AreRead (lefts : List (Option (List ℕ))) (failed : List Bool) (olds news : List Putting) : Type 0 where
   pub many : length news ≡ length olds
   pub each : (i : ℕ) (old new : Putting) → slice_get olds i ≡ Some old → slice_get news i ≡ Some new → IsRead (slice_index_or lefts i None) (slice_index_or failed i false) old new
+
+-- what an input told: its first items, and then how it ended
+pub record HasTold (left : Option (List ℕ)) (failed : Bool) (source : ℕ) (tells : List Told) : Type 0 where
+  pub items : List Item
+  pub last : What
+  pub tells_all : tells ≡ map (told_item source) items ++ told source last ∷ []
+  pub ends : EndsSo left failed items last
+
+-- these are what all inputs told, and of each of them it is what that one told, in its order
+pub record AreTold (lefts : List (Option (List ℕ))) (failed : List Bool) (taken : List Told) : Type 0 where
+  pub each : (i : ℕ) → i < length lefts → HasTold (slice_index_or lefts i None) (slice_index_or failed i false) i (of_source i taken)

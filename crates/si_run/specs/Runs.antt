@@ -17,6 +17,7 @@ use Rattle.si_run.specs.declared.faults.RunFault.{RunFault}
 use Rattle.si_run.specs.declared.faults.RunFault.TheVariants as fault
 use Rattle.si_run.specs.Interleavings.{IsInterleaving}
 use Rattle.si_run.specs.Outputs.{SourcedItem, Terms, from_source, output_of, status_of}
+use Rattle.si_run.specs.GateLaws.{IsGate}
 
 -- the options are in range
 pub record IsRunnable (options : Options) : Type 0 where
@@ -29,9 +30,20 @@ pub record IsRunnable (options : Options) : Type 0 where
 abbrev pub every_by : Option NonZeroU64 → Option ℕ
 every_by every = option_map non_zero_u64_get every
 
--- what the options say of the text: nothing of the shards, so their number changes none
+-- what the options say of the texts: nothing of the shards, so their number changes none
 abbrev pub terms_by : Options → Terms
-terms_by options = record { limit = options.limit; every = every_by options.every; only_new = options.only_new; explain = options.explain; expected = options.expected }
+terms_by options = record {
+  limit = options.limit;
+  every = every_by options.every;
+  only_new = options.only_new;
+  explain = options.explain;
+  expected = options.expected;
+  shows = options.shows_progress;
+}
+
+-- the status is that of these items, and clean exactly where they show snapshot isolation
+abbrev pub IsStatus : Terms → List SourcedItem → ExitStatus → Type 0
+IsStatus terms items status = (status ≡ status_of terms items) × IsGate terms items status
 
 -- ---- one input
 
@@ -39,7 +51,7 @@ terms_by options = record { limit = options.limit; every = every_by options.ever
 abbrev pub WritesOutput : Terms → Option (List ℕ) → Option (List ℕ) → Option (List ℕ) → ExitStatus → Type 0
 WritesOutput terms None old new status = ⊤
 WritesOutput terms (Some bytes) old new status =
-    Appends old new (output_of terms (from_source 0 (items_of bytes))) × (status ≡ status_of terms (from_source 0 (items_of bytes)))
+    Appends old new (output_of terms (from_source 0 (items_of bytes))) × IsStatus terms (from_source 0 (items_of bytes)) status
 
 -- as far as the writer tells, what was written is a beginning of that text
 abbrev pub AppendsBeginning : Option (List ℕ) → Option (List ℕ) → List ℕ → Type 0
@@ -66,7 +78,7 @@ all_known (Some bytes ∷ inputs) = option_map (λ all. bytes ∷ all) (all_know
 abbrev pub WritesSome : Terms → Option (List (List ℕ)) → Option (List ℕ) → Option (List ℕ) → ExitStatus → Type 0
 WritesSome terms None old new status = ⊤
 WritesSome terms (Some all) old new status =
-    (items : List SourcedItem) × IsInterleaving items (map items_of all) × Appends old new (output_of terms items) × (status ≡ status_of terms items)
+    (items : List SourcedItem) × IsInterleaving items (map items_of all) × Appends old new (output_of terms items) × IsStatus terms items status
 
 -- where the bytes of all inputs are known, what was written is the text of some interleaving of their items
 abbrev pub WritesInterleaved : Terms → List (Option (List ℕ)) → Option (List ℕ) → Option (List ℕ) → ExitStatus → Type 0

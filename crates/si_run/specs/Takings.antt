@@ -1,7 +1,10 @@
 -- What is decided and written for what is taken of the sources.
-use Rattle.std.specs.Prelude.{◌≡◌, ◌≢◌, ◌⊎◌, ℕ, ◌++◌, [], ◌∷◌, Bool, true, false, List, Option, Some, None, Result, IfOk, OnOk, IfErr}
+use Rattle.std.specs.Prelude.{◌≡◌, ◌≢◌, ◌⊎◌, ℕ, ◌++◌, [], ◌∷◌, Bool, true, false, List, Option, Some, None, Result, Ok, Err, IfOk, OnOk, IfErr, length}
 use Rattle.std.specs.List.{filter_map, list_any}
 use Rattle.std.specs.Io.KnownBytes.{Appends}
+use Rattle.si_model.specs.declared.edits.Edit.{Edit}
+use Rattle.si_model.specs.declared.edits.Edit.TheVariants.{Arrive, Resolve, SetUp, Withdraw}
+use Rattle.si_text.specs.declared.faults.LineFault.{LineFault}
 use Rattle.si_intake.specs.declared.items.Item.{Item as Told}
 use Rattle.si_intake.specs.declared.items.What.{What}
 use Rattle.si_intake.specs.declared.items.What.TheVariants.{Line, ReadFault, NoMemory, End}
@@ -26,6 +29,14 @@ line_of item = line_told item.source item.what
 -- the lines among them, in order
 abbrev pub lines_among : List Told → List SourcedItem
 lines_among items = filter_map line_of items
+
+-- how many operations the edit of a line has, a set-up being one
+abbrev pub operations_in : Result Edit LineFault → ℕ
+operations_in (Ok (Arrive txn)) = length txn.ops
+operations_in (Ok (SetUp key value)) = 1
+operations_in (Ok (Resolve id outcome)) = 0
+operations_in (Ok (Withdraw id)) = 0
+operations_in (Err fault) = 0
 
 -- a source that tells this couldn't be read to its end
 abbrev pub is_fault : What → Bool

@@ -6,52 +6,68 @@ ghost use Rattle.si_intake.specs.Ends.{AllEnded};
 ghost use Rattle.si_text.specs.Devices.{lent};
 ghost use Rattle.si_run.specs.Outputs.{item_text, progress_after, report_at, sourced, start, status_at};
 ghost use Rattle.si_run.specs.Runs.{IsUnwritten};
-ghost use Rattle.si_run.specs.Takings.{IsAccepted, IsCutOff, IsDecided, IsUndone};
+ghost use Rattle.si_run.specs.Takings.{IsAccepted, IsCutOff, IsDecided, IsUndone, operations_in};
+ghost use Rattle.si_run.specs.Telling.{IsTold, ShowsNotes};
 
 use crate::engines::{Decision, Engine};
 use crate::sessions::Session;
+use crate::showing::Showing;
+use crate::telling::{tell_behind, tell_end};
 use crate::writing::write_all;
 use crate::{ExitStatus, RunFault};
 use si_checker::{Checker, Gate, Name, Place};
 use si_intake::{Accepter, Item, What};
 use si_model::Edit;
 use si_text::{ByteSink, LineFault, LineItem};
+use std::rt::Clock;
 use std::sync::Wait;
 
 /// Decides what the sources put until each has told its end, writes what is written for it and then the last report, and answers the
 /// status.
 ///
-/// At the first fault nothing more is decided or written, and what is left is taken and dropped.
-pub fn accept_all<N: Name, R: Wait, W: ByteSink, G: Gate>(
+/// At the first fault nothing more is decided or written. It is told before what is left is taken and dropped, which may take as long
+/// as some source gives nothing: until then the sources are stopped, each before its next read.
+pub fn accept_all<N: Name, R: Wait + Clock, W: ByteSink, E: ByteSink, G: Gate>(
     rt: &R,
     session: &Session<'_, N, G>,
     engine: &mut Engine<N>,
     accepter: &mut Accepter,
     writer: &mut W,
+    err: &mut E,
 ) -> Result<ExitStatus, RunFault>
     requires fresh { engine.old.progress ≡ start }
     requires untaken { accepter.old.taken ≡ [] }
     requires writer { (W.seen writer.old).failed ≡ false }
-    ensures { IsAccepted engine.old.terms accepter.old accepter.new (lent (W.seen writer.old) (W.seen writer.new)) engine.new.progress result }
+    ensures accepted { IsAccepted engine.old.terms accepter.old accepter.new (lent (W.seen writer.old) (W.seen writer.new)) engine.new.progress result }
+    ensures told { IsTold engine.old.terms.shows result (lent (E.seen err.old) (E.seen err.new)) }
 {
+    let shows = engine.shows();
     let mut text = Vec::new(session.alloc);
-    match decide_all(rt, session, &mut text, engine, accepter, writer) {
-        Ok(()) => finish(rt, session.checker, engine, &mut text, writer),
+    match decide_all(rt, session, &mut text, engine, accepter, writer, err) {
+        Ok(()) => {
+            let ended = finish(rt, session.checker, engine, &mut text, writer);
+            tell_end(err, shows, &ended);
+            ended
+        }
         Err(fault) => {
+            session.stop();
+            tell_behind(err, shows, fault);
             drop_all(rt, accepter);
             Err(fault)
         }
     }
 }
 
-/// Decides what the sources put until each has told its end, and writes what is written for it. The first fault ends it.
-fn decide_all<N: Name, R: Wait, W: ByteSink, G: Gate>(
+/// Decides what the sources put until each has told its end, and writes what is written for it. The first fault ends it. Where that is
+/// asked for, it shows how far it is.
+fn decide_all<N: Name, R: Wait + Clock, W: ByteSink, E: ByteSink, G: Gate>(
     rt: &R,
     session: &Session<'_, N, G>,
     text: &mut Vec<u8>,
     engine: &mut Engine<N>,
     accepter: &mut Accepter,
     writer: &mut W,
+    err: &mut E,
 ) -> Result<(), RunFault>
     requires fresh { engine.old.progress ≡ start }
     requires untaken { accepter.old.taken ≡ [] }
@@ -62,7 +78,9 @@ fn decide_all<N: Name, R: Wait, W: ByteSink, G: Gate>(
     ensures ok { OnOk result (IsDecided engine.old.terms accepter.new.taken (W.seen writer.old).written (W.seen writer.new).written engine.new.progress) }
     ensures works { OnOk result ((W.seen writer.new).failed ≡ false) }
     ensures err { IfErr result (IsCutOff engine.old.terms accepter.new.taken (lent (W.seen writer.old) (W.seen writer.new)) engine.new.progress) }
+    ensures shown { ShowsNotes engine.old.terms.shows (lent (E.seen err.old) (E.seen err.new)) }
 {
+    let mut showing = Showing::new(engine.shows());
     'items: for _turn in 0..u64::MAX {
         let Some(Item { source, what }) = accepter.take(rt) else {
             return Ok(());
@@ -75,6 +93,7 @@ fn decide_all<N: Name, R: Wait, W: ByteSink, G: Gate>(
             What::NoMemory => return Err(RunFault::Memory),
             What::End => {}
         }
+        showing.show(rt, err, engine.decided(), engine.found());
     }
     // No run comes here: it would have taken 2^64 - 1 items.
     for _ in rt.forever() {}
@@ -105,7 +124,7 @@ fn decide_line<N: Name, R: Wait, W: ByteSink, G: Gate>(
     text.clear();
     let decision = engine.decide(rt, session.checker, text, source, item)?;
     if decision == Decision::Accepted {
-        session.add(source, operations);
+        session.count_accepted(source, operations);
     }
     write_all(writer, text)?;
     session.gate.at(Place::Decided { source, line });
@@ -113,7 +132,9 @@ fn decide_line<N: Name, R: Wait, W: ByteSink, G: Gate>(
 }
 
 /// How many operations the edit has, a set-up being one.
-fn operations_of(answer: &Result<Edit, LineFault>) -> u64 {
+fn operations_of(answer: &Result<Edit, LineFault>) -> u64
+    ensures { result ≡ operations_in answer.now }
+{
     match answer {
         Ok(Edit::Arrive(txn)) => txn.ops.as_slice().len() as u64,
         Ok(Edit::SetUp(..)) => 1,

@@ -47,8 +47,11 @@ pub struct Engine<N: Name> {
     only_new: bool,
     explain: bool,
     expected: Option<u64>,
+    shows: bool,
     decided: u64,
     refused: u64,
+    // How many findings the last report had. It stands in lines of progress alone.
+    found: Option<u64>,
     // The violations at the last report on the way, where these tell only what changed.
     told: Vec<Finding>,
     of: PhantomData<N>,
@@ -60,7 +63,7 @@ impl<N: Name> Model for Engine<N> {
 
     ghost Value = { EngineState };
 
-    ghost view = { λ e. engine_state (record { limit = N.limit; every = every_by e.every; only_new = e.only_new; explain = e.explain; expected = e.expected }) e.pass.view e.decided e.refused e.told.items };
+    ghost view = { λ e. engine_state (record { limit = N.limit; every = every_by e.every; only_new = e.only_new; explain = e.explain; expected = e.expected; shows = e.shows }) e.pass.view e.decided e.refused e.told.items };
 
     ghost invariant = { λ e. IsEngine N.board e.pass e.decided e.refused e.told.items };
 }
@@ -81,11 +84,32 @@ impl<N: Name> Engine<N> {
             only_new: options.only_new,
             explain: options.explain,
             expected: options.expected,
+            shows: options.shows_progress,
             decided: 0,
             refused: 0,
+            found: None,
             told: Vec::new(alloc),
             of: PhantomData,
         }
+    }
+
+    /// Whether lines of progress are shown.
+    pub fn shows(&self) -> bool
+        ensures { result ≡ self.now.terms.shows }
+    {
+        self.shows
+    }
+
+    /// How many items were decided.
+    pub fn decided(&self) -> u64
+        ensures { result ≡ self.now.progress.decided }
+    {
+        self.decided
+    }
+
+    /// How many findings the last report on the way had, if there was one. No clause tells it: lines of progress alone have it.
+    pub fn found(&self) -> Option<u64> {
+        self.found
     }
 
     /// Decides an item, appends what is written for it, and answers what became of it.
@@ -227,6 +251,7 @@ impl<N: Name> Engine<N> {
             self.refused,
             self.explain,
         )?;
+        self.found = Some(settled.findings.len() as u64);
         Ok(())
     }
 
@@ -253,6 +278,7 @@ impl<N: Name> Engine<N> {
         print_changes(self.alloc, text, &self.told, &violations, self.explain)?;
         print_summary(self.alloc, text, transactions, count, self.refused, verdict)?;
         self.told = violations;
+        self.found = Some(count as u64);
         Ok(())
     }
 

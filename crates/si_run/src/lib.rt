@@ -13,12 +13,14 @@ pub mod laws;
 pub mod options;
 pub mod runs;
 mod sessions;
+pub mod showing;
 mod sources;
 pub mod statuses;
+pub mod telling;
 pub mod writing;
 
 pub use faults::RunFault;
 pub use options::Options;
-pub use runs::{run, run_gated};
+pub use runs::{run, run_gated, run_gated_telling, run_telling};
 pub use si_checker::{Gate, Place};
 pub use statuses::ExitStatus;

@@ -18,6 +18,8 @@ pub struct Options {
     pub explain: bool,
     /// How many committed transactions are to be present at the end, and none in doubt. Nothing is asked where it isn't given.
     pub expected: Option<u64>,
+    /// Whether the error device shows, in one line again and again, how far the run is. It changes no text.
+    pub shows_progress: bool,
     /// The most edits that are accepted, 1 to `MOST_EDITS`.
     pub limit: usize,
 }

@@ -4,7 +4,7 @@
 ghost use Rattle.std.specs.Prelude.{◌≡◌, ◌≤◌, All, [], false, length, map};
 ghost use Rattle.std.specs.Thread.{IsSend, IsSync};
 ghost use Rattle.si_intake.specs.declared.openings.TheConstants.{MOST_SOURCES};
-ghost use Rattle.si_text.specs.Devices.{each_failed, each_left, lent};
+ghost use Rattle.si_text.specs.Devices.{each_failed, each_foretold, lent};
 ghost use Rattle.si_words.specs.Seats.{seated};
 ghost use Rattle.si_words.specs.Views.{new_pass};
 ghost use Rattle.si_run.specs.Endings.{Ends, EndsOpened};
@@ -12,11 +12,14 @@ ghost use Rattle.si_run.specs.Outputs.{start};
 ghost use Rattle.si_run.specs.Readings.{AreRead};
 ghost use Rattle.si_run.specs.Runs.{terms_by};
 ghost use Rattle.si_run.specs.Takings.{IsAccepted, IsRunThrough, IsTried};
+ghost use Rattle.si_run.specs.Telling.{IsTold, IsToldIfTried};
 
 use crate::accepters::{accept_all, drop_all};
 use crate::engines::Engine;
+use crate::laws::gate_is_exact;
 use crate::sessions::{Session, can_start, work_all};
 use crate::sources::read_all;
+use crate::telling::{Unheard, refuse, tell_behind};
 use crate::{ExitStatus, Options, RunFault};
 use si_checker::gates::Open;
 use si_checker::{Checker, Gate, Name, Parts, Pass, open};
@@ -26,6 +29,7 @@ use std::alloc::Global;
 use std::hash::RandomState;
 use std::marker::Brand;
 use std::mem::forget;
+use std::rt::Clock;
 use std::sync::Wait;
 use std::thread::{Threads, join_mut};
 
@@ -40,7 +44,7 @@ const ROOM: usize = 64;
 /// anything is read or written.
 ///
 /// The memory of the checker isn't given back: the program ends after it.
-pub fn run<R: Threads + Wait + Sync, S: ByteSource + Send, W: ByteSink>(
+pub fn run<R: Threads + Wait + Clock + Sync, S: ByteSource + Send, W: ByteSink>(
     rt: &R,
     alloc: Global,
     hash: RandomState,
@@ -56,8 +60,39 @@ pub fn run<R: Threads + Wait + Sync, S: ByteSource + Send, W: ByteSink>(
     run_gated(rt, alloc, hash, inputs, writer, options, &Open)
 }
 
+/// As `run`, and a fault is told on `err` by its one line as soon as it is met, whatever the sources still give: once it is told each of
+/// them is read no further, but a read that has begun is waited for. Where the options ask for it, `err` shows before, in one line again and
+/// again, how many lines are decided, how many a second lately, and how many findings the last report had; that line is gone in the end.
+pub fn run_telling<
+    R: Threads + Wait + Clock + Sync,
+    S: ByteSource + Send,
+    W: ByteSink,
+    E: ByteSink,
+>(
+    rt: &R,
+    alloc: Global,
+    hash: RandomState,
+    inputs: &mut [S],
+    writer: &mut W,
+    err: &mut E,
+    options: Options,
+) -> Result<ExitStatus, RunFault>
+    requires some { (1 ≤ length inputs.old) × (length inputs.old ≤ MOST_SOURCES) }
+    requires inputs { All (λ s. (S.seen s).failed ≡ false) inputs.old }
+    requires writer { (W.seen writer.old).failed ≡ false }
+    ensures ends { Ends options (lent (map S.seen inputs.old) (map S.seen inputs.new)) (lent (W.seen writer.old) (W.seen writer.new)) result }
+    ensures told { IsTold options.shows_progress result (lent (E.seen err.old) (E.seen err.new)) }
+{
+    run_gated_telling(rt, alloc, hash, inputs, writer, err, options, &Open)
+}
+
 /// As `run`, where threads tell the gate where they are.
-pub fn run_gated<R: Threads + Wait + Sync, S: ByteSource + Send, W: ByteSink, G: Gate + Sync>(
+pub fn run_gated<
+    R: Threads + Wait + Clock + Sync,
+    S: ByteSource + Send,
+    W: ByteSink,
+    G: Gate + Sync,
+>(
     rt: &R,
     alloc: Global,
     hash: RandomState,
@@ -71,19 +106,57 @@ pub fn run_gated<R: Threads + Wait + Sync, S: ByteSource + Send, W: ByteSink, G:
     requires writer { (W.seen writer.old).failed ≡ false }
     ensures { Ends options (lent (map S.seen inputs.old) (map S.seen inputs.new)) (lent (W.seen writer.old) (W.seen writer.new)) result }
 {
-    let (parts, mut passes) = open(alloc, hash, options.shards, 1, options.limit)?;
-    let Some(pass) = passes.pop() else {
-        return Err(RunFault::Memory);
+    let mut unheard = Unheard;
+    let err = &mut unheard;
+    run_gated_telling(rt, alloc, hash, inputs, writer, err, options, gate)
+}
+
+/// As `run_telling`, where threads tell the gate where they are.
+pub fn run_gated_telling<
+    R: Threads + Wait + Clock + Sync,
+    S: ByteSource + Send,
+    W: ByteSink,
+    E: ByteSink,
+    G: Gate + Sync,
+>(
+    rt: &R,
+    alloc: Global,
+    hash: RandomState,
+    inputs: &mut [S],
+    writer: &mut W,
+    err: &mut E,
+    options: Options,
+    gate: &G,
+) -> Result<ExitStatus, RunFault>
+    requires some { (1 ≤ length inputs.old) × (length inputs.old ≤ MOST_SOURCES) }
+    requires inputs { All (λ s. (S.seen s).failed ≡ false) inputs.old }
+    requires writer { (W.seen writer.old).failed ≡ false }
+    ensures ends { Ends options (lent (map S.seen inputs.old) (map S.seen inputs.new)) (lent (W.seen writer.old) (W.seen writer.new)) result }
+    ensures told { IsTold options.shows_progress result (lent (E.seen err.old) (E.seen err.new)) }
+{
+    let (parts, mut passes) = match open(alloc, hash, options.shards, 1, options.limit) {
+        Ok(opened) => opened,
+        Err(fault) => {
+            let fault = RunFault::from(fault);
+            tell_behind(err, options.shows_progress, fault);
+            return Err(fault);
+        }
     };
-    run_named::<Brand, _, _, _, _>(rt, alloc, hash, parts, pass, inputs, writer, options, gate)
+    let Some(pass) = passes.pop() else {
+        return refuse(err, options.shows_progress);
+    };
+    run_named::<Brand, _, _, _, _, _>(
+        rt, alloc, hash, parts, pass, inputs, writer, err, options, gate,
+    )
 }
 
 /// Runs the checker of these parts.
 fn run_named<
     N: Name + Send + Sync,
-    R: Threads + Wait + Sync,
+    R: Threads + Wait + Clock + Sync,
     S: ByteSource + Send,
     W: ByteSink,
+    E: ByteSink,
     G: Gate + Sync,
 >(
     rt: &R,
@@ -93,6 +166,7 @@ fn run_named<
     pass: Pass,
     inputs: &mut [S],
     writer: &mut W,
+    err: &mut E,
     options: Options,
     gate: &G,
 ) -> Result<ExitStatus, RunFault>
@@ -104,14 +178,21 @@ fn run_named<
     requires options { options.limit ≡ N.limit }
     requires alone { N.board.passes ≡ 1 }
     requires pass { pass ≡ seated N.board.table (new_pass N.board.shards 0) }
-    ensures { EndsOpened (terms_by options) (lent (map S.seen inputs.old) (map S.seen inputs.new)) (lent (W.seen writer.old) (W.seen writer.new)) result }
+    ensures ends { EndsOpened (terms_by options) (lent (map S.seen inputs.old) (map S.seen inputs.new)) (lent (W.seen writer.old) (W.seen writer.new)) result }
+    ensures told { IsTold options.shows_progress result (lent (E.seen err.old) (E.seen err.new)) }
 {
     if !can_start(rt) {
-        return Err(RunFault::Memory);
+        return refuse(err, options.shows_progress);
     }
-    let (mut ends, mut accepter) = si_intake::open(alloc, inputs.len(), ROOM)?;
-    let checker = Checker::<N>::new(alloc, parts)?;
-    let session = Session::new(alloc, hash, &checker, gate, inputs.len())?;
+    let Ok((mut ends, mut accepter)) = si_intake::open(alloc, inputs.len(), ROOM) else {
+        return refuse(err, options.shows_progress);
+    };
+    let Ok(checker) = Checker::<N>::new(alloc, parts) else {
+        return refuse(err, options.shows_progress);
+    };
+    let Ok(session) = Session::new(alloc, hash, &checker, gate, inputs.len()) else {
+        return refuse(err, options.shows_progress);
+    };
     let mut engine = Engine::new(alloc, pass, options);
     let ended = read_and_accept(
         rt,
@@ -119,10 +200,12 @@ fn run_named<
         &mut engine,
         &mut accepter,
         writer,
+        err,
         inputs,
         ends.as_mut_slice(),
     );
     let _taken = gather(ends, accepter);
+    gate_is_exact();
     drop(session);
     // The program ends after a run: to give back each piece of the checker's memory before would take a tenth of its time.
     forget(checker);
@@ -133,9 +216,10 @@ fn run_named<
 /// refused.
 fn read_and_accept<
     N: Name + Send + Sync,
-    R: Threads + Wait + Sync,
+    R: Threads + Wait + Clock + Sync,
     S: ByteSource + Send,
     W: ByteSink,
+    E: ByteSink,
     G: Gate + Sync,
 >(
     rt: &R,
@@ -143,6 +227,7 @@ fn read_and_accept<
     engine: &mut Engine<N>,
     accepter: &mut Accepter,
     writer: &mut W,
+    err: &mut E,
     inputs: &mut [S],
     ends: &mut [SourceEnd],
 ) -> Result<ExitStatus, RunFault>
@@ -152,41 +237,53 @@ fn read_and_accept<
     requires engine { engine.old.progress ≡ start }
     requires accepter { accepter.old.taken ≡ [] }
     requires writer { (W.seen writer.old).failed ≡ false }
-    ensures sources { AreRead (each_left (map S.seen inputs.old)) (each_failed (map S.seen inputs.new)) ends.old ends.new }
+    ensures sources { AreRead (each_foretold (map S.seen inputs.old) (map S.seen inputs.new)) (each_failed (map S.seen inputs.new)) ends.old ends.new }
     ensures accepted { IsRunThrough engine.old.terms accepter.old accepter.new (lent (W.seen writer.old) (W.seen writer.new)) engine.new.progress result }
+    ensures told { IsTold engine.old.terms.shows result (lent (E.seen err.old) (E.seen err.new)) }
 {
+    let shows = engine.shows();
     let mut sources = ||
         requires { IsSync R.row × IsSync N.row × IsSend N.row × IsSync G.row × IsSend S.row
             × (length inputs.now ≡ length ends.now) × All (λ s. (S.seen s).failed ≡ false) inputs.now × All (λ e. e.put ≡ []) ends.now }
-        ensures { AreRead (each_left (map S.seen inputs.entry.now)) (each_failed (map S.seen inputs.exit.now)) ends.entry.now ends.exit.now }
+        ensures { AreRead (each_foretold (map S.seen inputs.entry.now) (map S.seen inputs.exit.now)) (each_failed (map S.seen inputs.exit.now)) ends.entry.now ends.exit.now }
     { read_all(rt, session, inputs, ends) };
     let mut others = || -> Option<Result<ExitStatus, RunFault>>
         requires { IsSync R.row × IsSync N.row × IsSend N.row × IsSync G.row
             × (engine.now.progress ≡ start) × (accepter.now.taken ≡ []) × ((W.seen writer.now).failed ≡ false) }
-        ensures { IsTried engine.entry.now.terms accepter.entry.now accepter.exit.now (lent (W.seen writer.entry.now) (W.seen writer.exit.now)) engine.exit.now.progress result }
-    { work_and_accept(rt, session, engine, accepter, writer) };
+        ensures { IsTried engine.entry.now.terms accepter.entry.now accepter.exit.now (lent (W.seen writer.entry.now) (W.seen writer.exit.now)) engine.exit.now.progress result
+            × IsToldIfTried engine.entry.now.terms.shows result (lent (E.seen err.entry.now) (E.seen err.exit.now)) }
+    { work_and_accept(rt, session, engine, accepter, writer, err) };
     let ((), tried) = join_mut(rt, &mut sources, &mut others);
     match tried {
         Some(ended) => ended,
         None => {
+            let refused = refuse(err, shows);
             drop_all(rt, accepter);
-            Err(RunFault::Memory)
+            refused
         }
     }
 }
 
 /// Accepts in this thread, beside the workers, and then lets these end; or answers none where the sources don't begin.
-fn work_and_accept<N: Name + Send + Sync, R: Threads + Wait + Sync, W: ByteSink, G: Gate + Sync>(
+fn work_and_accept<
+    N: Name + Send + Sync,
+    R: Threads + Wait + Clock + Sync,
+    W: ByteSink,
+    E: ByteSink,
+    G: Gate + Sync,
+>(
     rt: &R,
     session: &Session<'_, N, G>,
     engine: &mut Engine<N>,
     accepter: &mut Accepter,
     writer: &mut W,
+    err: &mut E,
 ) -> Option<Result<ExitStatus, RunFault>>
     requires engine { engine.old.progress ≡ start }
     requires accepter { accepter.old.taken ≡ [] }
     requires writer { (W.seen writer.old).failed ≡ false }
-    ensures { IsTried engine.old.terms accepter.old accepter.new (lent (W.seen writer.old) (W.seen writer.new)) engine.new.progress result }
+    ensures tried { IsTried engine.old.terms accepter.old accepter.new (lent (W.seen writer.old) (W.seen writer.new)) engine.new.progress result }
+    ensures told { IsToldIfTried engine.old.terms.shows result (lent (E.seen err.old) (E.seen err.new)) }
 {
     if !session.have_sources_begun(rt) {
         return None;
@@ -196,9 +293,10 @@ fn work_and_accept<N: Name + Send + Sync, R: Threads + Wait + Sync, W: ByteSink,
     { work_all(rt, session) };
     let mut accept = || -> Result<ExitStatus, RunFault>
         requires { (engine.now.progress ≡ start) × (accepter.now.taken ≡ []) × ((W.seen writer.now).failed ≡ false) }
-        ensures { IsAccepted engine.entry.now.terms accepter.entry.now accepter.exit.now (lent (W.seen writer.entry.now) (W.seen writer.exit.now)) engine.exit.now.progress result }
+        ensures { IsAccepted engine.entry.now.terms accepter.entry.now accepter.exit.now (lent (W.seen writer.entry.now) (W.seen writer.exit.now)) engine.exit.now.progress result
+            × IsTold engine.entry.now.terms.shows result (lent (E.seen err.entry.now) (E.seen err.exit.now)) }
     {
-        let ended = accept_all(rt, session, engine, accepter, writer);
+        let ended = accept_all(rt, session, engine, accepter, writer, err);
         engine.close(rt, session.checker);
         ended
     };

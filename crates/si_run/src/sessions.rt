@@ -6,7 +6,7 @@ use si_model::OutOfMemory;
 use std::alloc::Global;
 use std::hash::RandomState;
 use std::sync::Wait;
-use std::sync::atomic::{AtomicU64, Ordering};
+use std::sync::atomic::{AtomicBool, AtomicU64, Ordering};
 use std::thread::{Threads, map_indices, spawn};
 use std::time::Duration;
 
@@ -25,7 +25,8 @@ const LOOKS: u64 = 10_000;
 /// How long it sleeps between two looks, in microseconds.
 const SLEEP_MICROS: u64 = 1_000;
 
-/// The checker, the gate, whether a source has begun, and how many operations of each source's items were accepted.
+/// The checker, the gate, whether a source has begun, how many operations of each source's items were accepted, and whether the sources
+/// are to read no further.
 #[derive(Drop)]
 pub struct Session<'a, N: Name, G> {
     pub alloc: Global,
@@ -34,6 +35,7 @@ pub struct Session<'a, N: Name, G> {
     pub gate: &'a G,
     sources: AtomicU64,
     accepted: Vec<AtomicU64>,
+    pub stopped: AtomicBool,
 }
 
 impl<'a, N: Name, G: Gate> Session<'a, N, G> {
@@ -56,7 +58,13 @@ impl<'a, N: Name, G: Gate> Session<'a, N, G> {
             gate,
             sources: AtomicU64::new(AWAITED),
             accepted,
+            stopped: AtomicBool::new(false),
         })
+    }
+
+    /// Lets each source end before its next read.
+    pub fn stop(&self) {
+        self.stopped.store(true, Ordering::SeqCst);
     }
 
     /// Says that a source begins, and answers whether the accepter waits for it.
@@ -89,7 +97,7 @@ impl<'a, N: Name, G: Gate> Session<'a, N, G> {
     }
 
     /// Adds so many to the operations of the source that were accepted.
-    pub fn add(&self, source: usize, count: u64) {
+    pub fn count_accepted(&self, source: usize, count: u64) {
         if let Some(accepted) = self.accepted.get(source) {
             accepted.fetch_add(count, Ordering::SeqCst);
         }

@@ -1,7 +1,7 @@
 //! The sources: each is read to its end by a thread of its own, which puts its items for the accepter.
 ghost use Rattle.std.specs.Prelude.{◌≡◌, ◌+◌, ◌-◌, ◌^◌, ◌<◌, ◌≤◌, ◌↔◌, [], false, All, IsTrue, List, length, map, min};
 ghost use Rattle.std.specs.Thread.{IsSend, IsSync};
-ghost use Rattle.si_text.specs.Devices.{each_failed, each_left};
+ghost use Rattle.si_text.specs.Devices.{each_failed, each_foretold, foretold};
 ghost use Rattle.si_text.specs.Inputs.{Item as LineRead};
 ghost use Rattle.si_text.specs.LineBuffers.{IsFresh};
 ghost use Rattle.si_run.specs.Readings.{AreRead, EndsSo, HasPut, IsRead};
@@ -69,7 +69,7 @@ pub fn read_all<
     requires many { length inputs.old ≡ length ends.old }
     requires works { All (λ s. (S.seen s).failed ≡ false) inputs.old }
     requires fresh { All (λ e. e.put ≡ []) ends.old }
-    ensures { AreRead (each_left (map S.seen inputs.old)) (each_failed (map S.seen inputs.new)) ends.old ends.new }
+    ensures { AreRead (each_foretold (map S.seen inputs.old) (map S.seen inputs.new)) (each_failed (map S.seen inputs.new)) ends.old ends.new }
 {
     if inputs.is_empty() {
         return;
@@ -94,17 +94,17 @@ fn read_both<N: Name + Send + Sync, R: Threads + Wait + Sync, S: ByteSource + Se
     requires many { length inputs.old ≡ length ends.old }
     requires others_work { All (λ s. (S.seen s).failed ≡ false) inputs.old }
     requires others_fresh { All (λ e. e.put ≡ []) ends.old }
-    ensures first { IsRead (S.seen input.old).left (S.seen input.new).failed end.old end.new }
-    ensures others { AreRead (each_left (map S.seen inputs.old)) (each_failed (map S.seen inputs.new)) ends.old ends.new }
+    ensures first { IsRead (foretold (S.seen input.old).left (S.seen input.new).left) (S.seen input.new).failed end.old end.new }
+    ensures others { AreRead (each_foretold (map S.seen inputs.old) (map S.seen inputs.new)) (each_failed (map S.seen inputs.new)) ends.old ends.new }
 {
     let mut first = ||
         requires { ((S.seen input.now).failed ≡ false) × (end.now.put ≡ []) }
-        ensures { IsRead (S.seen input.entry.now).left (S.seen input.exit.now).failed end.entry.now end.exit.now }
+        ensures { IsRead (foretold (S.seen input.entry.now).left (S.seen input.exit.now).left) (S.seen input.exit.now).failed end.entry.now end.exit.now }
     { read(rt, session, input, end) };
     let mut others = ||
         requires { IsSync R.row × IsSync N.row × IsSend N.row × IsSync G.row × IsSend S.row
             × (length inputs.now ≡ length ends.now) × All (λ s. (S.seen s).failed ≡ false) inputs.now × All (λ e. e.put ≡ []) ends.now }
-        ensures { AreRead (each_left (map S.seen inputs.entry.now)) (each_failed (map S.seen inputs.exit.now)) ends.entry.now ends.exit.now }
+        ensures { AreRead (each_foretold (map S.seen inputs.entry.now) (map S.seen inputs.exit.now)) (each_failed (map S.seen inputs.exit.now)) ends.entry.now ends.exit.now }
     { read_all(rt, session, inputs, ends) };
     join_mut(rt, &mut first, &mut others);
 }
@@ -118,7 +118,7 @@ pub fn read<N: Name, R: Wait, S: ByteSource, G: Gate>(
 )
     requires works { (S.seen input.old).failed ≡ false }
     requires fresh { end.old.put ≡ [] }
-    ensures { IsRead (S.seen input.old).left (S.seen input.new).failed end.old end.new }
+    ensures { IsRead (foretold (S.seen input.old).left (S.seen input.new).left) (S.seen input.new).failed end.old end.new }
 {
     let what = put_lines(rt, session, input, end);
     let source = end.source();
@@ -134,7 +134,7 @@ fn put_lines<N: Name, R: Wait, S: ByteSource, G: Gate>(
 ) -> What
     requires works { (S.seen input.old).failed ≡ false }
     requires fresh { end.old.put ≡ [] }
-    ensures { (items : List LineRead) × HasPut end.old end.new items × EndsSo (S.seen input.old).left (S.seen input.new).failed items result }
+    ensures { (items : List LineRead) × HasPut end.old end.new items × EndsSo (foretold (S.seen input.old).left (S.seen input.new).left) (S.seen input.new).failed items result }
 {
     if !session.begin() {
         return What::NoMemory;
@@ -158,11 +158,11 @@ fn put_read<N: Name, R: Wait, S: ByteSource, G: Gate>(
     requires works { (S.seen input.old).failed ≡ false }
     requires fresh { end.old.put ≡ [] }
     requires buffer { IsFresh lines.old }
-    ensures { (items : List LineRead) × HasPut end.old end.new items × EndsSo (S.seen input.old).left (S.seen input.new).failed items result }
+    ensures { (items : List LineRead) × HasPut end.old end.new items × EndsSo (foretold (S.seen input.old).left (S.seen input.new).left) (S.seen input.new).failed items result }
 {
     let source = end.source();
     'items: for _turn in 0..u64::MAX {
-        match lines.next_item(input, &mut kept.keys) {
+        match lines.next_item(input, &mut kept.keys, &session.stopped) {
             Ok(Some(item)) => {
                 let line = item.0;
                 session.gate.at(Place::Put { source, line });
@@ -172,6 +172,8 @@ fn put_read<N: Name, R: Wait, S: ByteSource, G: Gate>(
             Ok(None) => return What::End,
             Err(InputFault::DeviceFailed) => return What::ReadFault,
             Err(InputFault::OutOfMemory) => return What::NoMemory,
+            // The accepter has met a fault, and drops what comes from here on.
+            Err(InputFault::Stopped) => return What::NoMemory,
         }
         if kept.are_many() {
             kept.keep_within(session.accepted(source));

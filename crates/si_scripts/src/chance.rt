@@ -16,6 +16,7 @@ pub struct Dice {
 }
 
 impl Dice {
+    /// Dice that begin at this state: the same throws follow from the same one.
     pub fn new(state: u64) -> Dice {
         Dice { state }
     }

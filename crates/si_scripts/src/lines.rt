@@ -30,6 +30,7 @@ pub(crate) fn halves<'a>(
     text.split_once(mark).ok_or(ScriptFault::Wanted(wanted))
 }
 
+/// The number that the word is.
 pub(crate) fn number(word: &str) -> Result<u64, ScriptFault> {
     match word.parse::<u64>() {
         Ok(number) => Ok(number),

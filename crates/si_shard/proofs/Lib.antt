@@ -1,6 +1,7 @@
 pub mod OnKeys
 pub mod Beginnings
 pub mod ArrivalPlaces
+pub mod CountedArrivals
 pub mod KeyChanges
 pub mod Crossing
 pub mod EachKey

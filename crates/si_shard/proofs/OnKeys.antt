@@ -59,7 +59,7 @@ module _ (x : List ℕ) (c : Change) (old new : KeyStates) (s : Kept) (is_bare h
 
   shown : (R : OnKey) → Shows cases R s → (b : Bool) → is_bare ≡ b → ShowsAt x (standing b s) R
   shown R r true e = (r.indexes.history, (left.bare R r).0 e)
-  shown R r false e = (key, r)
+  shown R r false e = (key, r, λ bare. true≢false (sym ((left.bare R r).1 bare) ∙ e))
 
   made : IsMadeAt x c old new
   made Q on can =
@@ -101,10 +101,10 @@ found_stays x old had has_findings told same y = by (same_key x y) refl
     by false e = refl
 
 -- whether something was found on the key is told of what is kept of it
-pub told_before : (x : List ℕ) (s : Kept) (Q : OnKey) (test had : Bool) → ShowsAt x (Some s) Q → ((M : OnKey) → Shows cases M s → (test ≡ true) ↔ HasFinding s.key M) → had ≡ test
+pub told_before : (x : List ℕ) (s : Kept) (Q : OnKey) (test had : Bool) → s.key ≡ x → Shows cases Q s → ((M : OnKey) → Shows cases M s → (test ≡ true) ↔ HasFinding s.key M) → had ≡ test
     → (had ≡ true) ↔ HasFinding x Q
-told_before x s Q test had shown tells same =
-    let told = subst (λ y. (test ≡ true) ↔ HasFinding y Q) shown.0 (tells Q shown.1) in
+told_before x s Q test had key shows tells same =
+    let told = subst (λ y. (test ≡ true) ↔ HasFinding y Q) key (tells Q shows) in
     ((λ e. told.0 (sym same ∙ e)), (λ h. same ∙ told.1 h))
 
 -- what the calls of one change give: what is kept was changed, and it stayed or was dropped

@@ -1,5 +1,5 @@
 -- The arrivals of present transactions among the stored edits. All of it is this project's choice.
-use Rattle.std.specs.Prelude.{◌≡◌, ℕ, true, ◌&&◌, nat_eq, if◌then◌else◌, List, ◌++◌, length, Some, None, Option, ⊤, slice_get}
+use Rattle.std.specs.Prelude.{◌≡◌, ℕ, Bool, true, false, ◌&&◌, nat_eq, if◌then◌else◌, List, ◌++◌, length, Some, None, Option, ⊤, slice_get}
 use Rattle.std.specs.List.{Contains}
 use Rattle.std.specs.HashMap.{get}
 use Rattle.std.specs.Option.{option_map}
@@ -45,6 +45,13 @@ IsReadyFor id (edit.Withdraw u) edits at = AreArrivals id edits (present edits).
 IsReadyFor id (edit.SetUp x v) edits at = ⊤
 
 -- ---- one edit
+
+-- whether the edit is an arrival that is something on a key of the shard
+abbrev pub is_arrival_on : ShardId → Edit → Bool
+is_arrival_on id (edit.Arrive T) = is_touched id T.ops
+is_arrival_on id (edit.Resolve u o) = false
+is_arrival_on id (edit.Withdraw u) = false
+is_arrival_on id (edit.SetUp x v) = false
 
 -- an arrival after the transaction was resolved
 abbrev pub resolved_arrival : Outcome → Arrival → Arrival

@@ -15,10 +15,10 @@ use Rattle.si_shard.specs.declared.key_changes.Change.{Change}
 use Rattle.si_shard.specs.declared.key_states.KeyStates.{KeyStates}
 use Rattle.si_shard.specs.KeyChanges.{CanChange, changed_on}
 
--- what is kept of the key x shows Q, or nothing is kept and Q is bare
+-- what is kept of the key x shows Q, which isn't bare, or nothing is kept and Q is bare
 abbrev pub ShowsAt : List ℕ → Option Kept → OnKey → Type 0
 ShowsAt x None Q = IsOfHistory Q × IsBare Q
-ShowsAt x (Some s) Q = (s.key ≡ x) × Shows cases Q s
+ShowsAt x (Some s) Q = (s.key ≡ x) × Shows cases Q s × (IsBare Q → ⊥)
 
 -- something is found
 abbrev pub HasFinding : List ℕ → OnKey → Type 0

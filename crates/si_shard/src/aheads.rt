@@ -1,5 +1,7 @@
 //! Looks ahead at what is kept of keys, so that a processor fetches it for many of them side by side. Nothing depends on what is seen.
 
+ghost use Rattle.std.specs.Prelude.{◌≡◌, []};
+
 use crate::key_states::KeyStates;
 use si_model::Key;
 use std::alloc::Global;
@@ -18,7 +20,10 @@ pub struct Ahead {
 }
 
 impl Ahead {
-    pub fn new(alloc: Global) -> Self {
+    /// No place was looked for.
+    pub fn new(alloc: Global) -> Self
+        ensures { result.places.items ≡ [] }
+    {
         Ahead {
             places: Vec::new(alloc),
             seen: 0,
@@ -33,8 +38,10 @@ impl Ahead {
     }
 
     /// Reads the states of the keys, first the heads of all and then the ends of what they hold, so that each is fetched while the
-    /// others are.
-    pub fn look(&mut self, keys: &KeyStates) {
+    /// others are. None is left to be looked at.
+    pub fn look(&mut self, keys: &KeyStates)
+        ensures { self.new.places.items ≡ [] }
+    {
         self.seen = self.seen ^ keys.look_at(&self.places);
         self.places.clear();
     }

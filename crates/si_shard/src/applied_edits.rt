@@ -14,7 +14,7 @@ use crate::key_changes::{KnownTxn, TxnHead};
 use crate::key_states::KeyStates;
 use crate::shard_ids::ShardId;
 use crate::single_edits::make_each;
-use crate::stored_edits::Stored;
+use crate::stored_edits::StoredEdits;
 use si_model::{Edit, Finding, Op, OutOfMemory, Status};
 use std::alloc::Global;
 use std::hash::RandomState;
@@ -49,7 +49,7 @@ impl Applied {
 
     /// Applies the stored edits from that place on, behind those that are applied, until memory is refused to one of them. Answers where
     /// it came to: behind the last one if all are applied, and else at the one to which memory was refused.
-    pub fn apply_from(&mut self, stored: &Stored, from: usize, id: ShardId) -> usize
+    pub fn apply_from(&mut self, stored: &StoredEdits, from: usize, id: ShardId) -> usize
         requires shards { 0 < id.shards }
         requires within { from ≤ length stored.now }
         requires applied { AreApplied id (take from stored.now) self.old }
@@ -68,7 +68,7 @@ impl Applied {
     }
 
     /// Applies the stored edit at that place, where those before it are applied.
-    fn apply(&mut self, stored: &Stored, place: usize, id: ShardId) -> Result<(), OutOfMemory>
+    fn apply(&mut self, stored: &StoredEdits, place: usize, id: ShardId) -> Result<(), OutOfMemory>
         requires shards { 0 < id.shards }
         requires within { place < length stored.now }
         requires applied { AreApplied id (take place stored.now) self.old }
@@ -83,7 +83,7 @@ impl Applied {
     /// Applies the edit behind the first so many, where its arrival is known if it asks for one.
     fn apply_prepared(
         &mut self,
-        stored: &Stored,
+        stored: &StoredEdits,
         first: usize,
         edit: &Edit,
         id: ShardId,
@@ -100,7 +100,7 @@ impl Applied {
     }
 
     /// Looks ahead once for so many edits of those from the first place on, before the one at the second is applied.
-    fn look_from(&mut self, stored: &Stored, from: usize, place: usize, id: ShardId)
+    fn look_from(&mut self, stored: &StoredEdits, from: usize, place: usize, id: ShardId)
         requires shards { 0 < id.shards }
         requires onward { from ≤ place }
         requires within { place ≤ length stored.now }
@@ -116,11 +116,12 @@ impl Applied {
 
     /// Reads what is kept of the keys of these edits, all at once, so that a processor has it near when they are applied. A transaction
     /// of many operations reads its own keys ahead, and a resolution whose arrival isn't known yet leads to no key.
-    fn look_ahead(&mut self, stored: &Stored, from: usize, end: usize, id: ShardId)
+    fn look_ahead(&mut self, stored: &StoredEdits, from: usize, end: usize, id: ShardId)
         requires shards { 0 < id.shards }
         requires onward { from ≤ end }
         requires within { end ≤ length stored.now }
-        ensures { self.new ≡ record self.old { ahead = self.new.ahead } }
+        ensures others { self.new ≡ record self.old { ahead = self.new.ahead } }
+        ensures looked { self.new.ahead.places.items ≡ [] }
     {
         for place in from..end {
             if let Some(txn) = self.txn_of(stored, from, stored.get(place)) {
@@ -157,7 +158,12 @@ impl Applied {
 
     /// The edit's transaction before the edit, which comes behind the first so many. A resolution and a withdrawal have that of the known
     /// arrival, if there is one, and a set-up has none.
-    fn txn_of<'a>(&self, stored: &'a Stored, first: usize, edit: &'a Edit) -> Option<KnownTxn<'a>>
+    fn txn_of<'a>(
+        &self,
+        stored: &'a StoredEdits,
+        first: usize,
+        edit: &'a Edit,
+    ) -> Option<KnownTxn<'a>>
         requires { first ≤ length stored.now }
         ensures { known result ≡ txn_for (get nat_eq self.now.arrivals.by_id) (take first stored.now) edit.now }
     {

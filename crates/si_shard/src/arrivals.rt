@@ -1,12 +1,12 @@
 //! Where the transactions that are present arrived among the stored edits of one shard.
 
-ghost use Rattle.std.specs.Prelude.{◌≡◌, ◌<◌, ◌≤◌, ◌-◌, [], length, nat_eq, take, OnOk};
+ghost use Rattle.std.specs.Prelude.{◌≡◌, ◌<◌, ◌≤◌, [], length, nat_eq, count_by, slice_range, take, OnOk};
 ghost use Rattle.std.specs.HashMap.{get};
 ghost use Rattle.si_model.specs.Journals.{present};
-ghost use Rattle.si_shard.specs.Arrivals.{AreArrivals, AreKnown, IsReadyFor, SetsArrival};
+ghost use Rattle.si_shard.specs.Arrivals.{AreArrivals, AreKnown, IsReadyFor, SetsArrival, is_arrival_on};
 
 use crate::shard_ids::ShardId;
-use crate::stored_edits::Stored;
+use crate::stored_edits::StoredEdits;
 use si_hashing::NumberHash;
 use si_model::{Edit, OutOfMemory, Status, TxnId};
 use std::alloc::Global;
@@ -39,7 +39,7 @@ impl Arrivals {
         ensures { (id : ShardId) → AreKnown id [] result }
     {
         Arrivals {
-            by_id: HashMap::with_hasher(alloc, NumberHash::new(hash)),
+            by_id: HashMap::with_hasher(alloc, NumberHash::with_secret(hash)),
             known: 0,
         }
     }
@@ -47,7 +47,7 @@ impl Arrivals {
     /// Catches up with the first so many of the stored edits where the edit, which comes after them, asks for an arrival.
     pub fn prepare(
         &mut self,
-        stored: &Stored,
+        stored: &StoredEdits,
         first: usize,
         edit: &Edit,
         id: ShardId,
@@ -66,7 +66,12 @@ impl Arrivals {
 
     /// Enters those of the first so many edits that aren't known, in order. Room is made for all arrivals at once, so that no smaller tables
     /// are left behind.
-    fn catch_up(&mut self, stored: &Stored, first: usize, id: ShardId) -> Result<(), OutOfMemory>
+    fn catch_up(
+        &mut self,
+        stored: &StoredEdits,
+        first: usize,
+        id: ShardId,
+    ) -> Result<(), OutOfMemory>
         requires shards { 0 < id.shards }
         requires within { first ≤ length stored.now }
         requires known { AreKnown id (take first stored.now) self.old }
@@ -122,19 +127,28 @@ fn enter(
 }
 
 /// How many of the stored edits from one place to another are arrivals that are something on a key of the shard: for so many room is made.
-fn arrivals_between(stored: &Stored, from: usize, end: usize, id: ShardId) -> usize
+fn arrivals_between(stored: &StoredEdits, from: usize, end: usize, id: ShardId) -> usize
     requires shards { 0 < id.shards }
     requires onward { from ≤ end }
     requires within { end ≤ length stored.now }
-    ensures { result ≤ end - from }
+    ensures { result ≡ count_by (is_arrival_on id) (slice_range stored.now from end) }
 {
     let mut count = 0;
     for place in from..end {
-        if let Edit::Arrive(txn) = stored.get(place)
-            && id.is_touched(txn.ops.as_slice())
-        {
+        if is_arrival_on(stored.get(place), id) {
             count += 1;
         }
     }
     count
+}
+
+/// Whether the edit is an arrival that is something on a key of the shard.
+fn is_arrival_on(edit: &Edit, id: ShardId) -> bool
+    requires { 0 < id.shards }
+    ensures { result ≡ is_arrival_on id edit.now }
+{
+    match edit {
+        Edit::Arrive(txn) => id.is_touched(txn.ops.as_slice()),
+        Edit::Resolve(..) | Edit::Withdraw(_) | Edit::SetUp(..) => false,
+    }
 }

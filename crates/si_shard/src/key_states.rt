@@ -44,12 +44,13 @@ struct AfterChange {
 }
 
 impl KeyStates {
+    /// Nothing is known of any key.
     pub fn new(alloc: Global, hash: RandomState) -> Self
         ensures { (x : List ℕ) → IsOn result x empty_key }
     {
         KeyStates {
             alloc,
-            states: IndexMap::with_hasher(alloc, KeyHash::new(hash)),
+            states: IndexMap::with_hasher(alloc, KeyHash::with_secret(hash)),
             found: BTreeSet::new(alloc),
         }
     }
@@ -160,6 +161,7 @@ fn keep_found(found: &mut BTreeSet<Key>, key: &Key, left: AfterChange) -> Result
     Ok(())
 }
 
+/// What a change left on a key that had findings before, or none.
 fn left_on(kept: &KeyFindings<Cases>, had_findings: bool) -> AfterChange
     ensures left { IsLeft result.is_bare result.has_findings kept.now }
     ensures had { result.had_findings ≡ had_findings }

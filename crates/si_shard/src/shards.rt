@@ -16,7 +16,7 @@ use crate::laws::findings_are_of_shards;
 use crate::merging::merge_in_order;
 use crate::shard_ids::ShardId;
 use crate::shared_edits::SharedEdits;
-use crate::stored_edits::Stored;
+use crate::stored_edits::StoredEdits;
 use si_judge::KeyFault;
 use si_model::laws::order_is_strict;
 use si_model::{Edit, Finding, Number, OutOfMemory};
@@ -36,7 +36,7 @@ pub struct Shard {
     hash: RandomState,
     id: ShardId,
     // Those that are nothing on the shard's keys too: a rebuild begins from all of them.
-    stored: Stored,
+    stored: StoredEdits,
     // What these made of the shard's keys, unless it is spoiled.
     applied: Applied,
     // True from the beginning of an edit until it is whole, and so until a rebuild once memory was refused to an edit.
@@ -66,7 +66,7 @@ impl Shard {
             alloc,
             hash,
             id: ShardId { shard, shards },
-            stored: Stored::new(alloc),
+            stored: StoredEdits::new(alloc),
             applied: Applied::new(alloc, hash),
             spoiled: false,
         }
@@ -94,8 +94,8 @@ impl Shard {
         Ok(())
     }
 
-    /// Stores the edits, which have the numbers after the last one stored, one after the other until memory is refused to one of them:
-    /// then those before it stay stored, and the shard is spoiled. One that was spoiled before stores none.
+    /// Stores the edits, which have the numbers after the last one stored, and mends the findings on the shard's keys. Where memory is
+    /// refused some first of them stay stored, or none, and the shard is spoiled. One that was spoiled before stores none.
     ///
     /// They are not copied, and so other shards may store the same.
     pub fn apply_first(&mut self, edits: SharedEdits)
@@ -242,7 +242,7 @@ pub fn put_all_in_order(found: &mut Vec<Finding>)
 /// Applies the edits behind the first so many. Where memory was refused to one of them they are all let go.
 fn apply_behind(
     applied: &mut Applied,
-    stored: &mut Stored,
+    stored: &mut StoredEdits,
     first: usize,
     id: ShardId,
 ) -> Result<(), OutOfMemory>
@@ -265,7 +265,7 @@ fn apply_behind(
 fn applied_from(
     alloc: Global,
     hash: RandomState,
-    stored: &Stored,
+    stored: &StoredEdits,
     id: ShardId,
 ) -> Result<Applied, OutOfMemory>
     requires shards { 0 < id.shards }

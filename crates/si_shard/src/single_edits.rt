@@ -1,6 +1,6 @@
 //! Edits that go straight to the keys of their transactions.
 
-ghost use Rattle.std.specs.Prelude.{◌≡◌, ◌↔◌, ◌<◌, ◌≤◌, ◌==◌, ◌&&◌, ℕ, List, IsTrue, IfOk, OnOk, Some, Option, length, slice_get};
+ghost use Rattle.std.specs.Prelude.{◌≡◌, ◌↔◌, ◌<◌, ◌≤◌, ◌==◌, ◌&&◌, ℕ, List, IsTrue, IfOk, OnOk, Some, Option, [], length, slice_get};
 ghost use Rattle.si_model.specs.declared.edits.Edit.TheVariants as variant;
 ghost use Rattle.si_model.specs.declared.numbers.Value.{Value as Written};
 ghost use Rattle.si_model.specs.declared.operations.Op.{Op as Operation};
@@ -43,6 +43,7 @@ pub fn make_each(
     }
 }
 
+/// Sets up the key, if it is one of this shard.
 fn make_set_up(
     keys: &mut KeyStates,
     key: &Key,
@@ -59,6 +60,7 @@ fn make_set_up(
     Ok(())
 }
 
+/// Makes the edit on each key of this shard that the transaction accesses.
 fn make_accessed(
     alloc: Global,
     keys: &mut KeyStates,
@@ -142,6 +144,7 @@ fn look_from(
     from: usize,
 )
     requires { from ≤ length list.now }
+    ensures { ahead.old.places.items ≡ [] → ahead.new.places.items ≡ [] }
 {
     if operations <= MOST_AHEAD || from % MOST_AHEAD != 0 {
         return;

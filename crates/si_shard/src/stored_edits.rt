@@ -13,7 +13,7 @@ use std::marker::Model;
 ///
 /// Contracts see the list of all.
 #[derive(Drop)]
-pub struct Stored {
+pub struct StoredEdits {
     alloc: Global,
     pieces: Vec<Piece>,
     // So many stand in the pieces.
@@ -28,7 +28,7 @@ struct Piece {
     edits: SharedEdits,
 }
 
-impl Model for Stored {
+impl Model for StoredEdits {
     ghost use Rattle.std.specs.Prelude.{◌++◌, List};
     ghost use Rattle.si_model.specs.declared.edits.Edit.{Edit};
     ghost use Rattle.si_shard.specs.StoredEdits.{AreStored, joined};
@@ -40,12 +40,12 @@ impl Model for Stored {
     ghost invariant = { λ s. AreStored s.pieces.items s.shared s.own.items };
 }
 
-impl Stored {
+impl StoredEdits {
     /// None yet.
     pub fn new(alloc: Global) -> Self
         ensures { result ≡ [] }
     {
-        Stored {
+        StoredEdits {
             alloc,
             pieces: Vec::new(alloc),
             shared: 0,

@@ -70,6 +70,7 @@ fn searched_from<K: Ord + Copy + Drop, V: Copy + Drop>(
     }
 }
 
+/// Where the key stands, or where it would.
 fn searched<K: Ord + Copy + Drop, V: Copy + Drop>(
     entries: &[(K, V)],
     key: K,

@@ -21,7 +21,7 @@ use std::collections::BTreeMap;
 use std::ops::Bound;
 
 /// Where an entry that comes or goes would move more others than this, all go into a tree, so that no order of keys, however
-/// chosen, makes a change cost more.
+/// chosen, makes a change cost more. The clauses below name the number itself, so that it is this one.
 pub const MOST_MOVED: usize = 256;
 
 /// The entries side by side, or in a tree once an entry would have moved too many others. It stays a tree.
@@ -32,13 +32,13 @@ pub enum Form<K: Ord, V> {
 }
 
 impl<K: Ord + Copy + Drop, V: Copy + Drop> Form<K, V> {
-    /// Where the entries stay side by side, at most `MOST_MOVED` of them move.
+    /// Where the entries stay side by side, at most 256 of them move.
     #[tactic(auto, using(crate::proofs::Moves::few_move))]
     pub fn insert(&mut self, alloc: Global, key: K, value: V) -> Result<(), AllocError>
         requires { IsStrictlySortedBy K.cmp (keys_of (entries_in self.old)) }
         ensures ok { OnOk result (entries_in self.new ≡ insert_entry K.cmp (entries_in self.old) key value) }
         ensures err { OnErr result (entries_in self.new ≡ entries_in self.old) }
-        ensures moved { OnOk result (MovesAtMost MOST_MOVED self.old self.new) }
+        ensures moved { OnOk result (MovesAtMost 256 self.old self.new) }
         ensures tree { StaysTree self.old self.new }
         ensures rising { IsStrictlySortedBy K.cmp (keys_of (entries_in self.new)) }
     {
@@ -59,8 +59,8 @@ impl<K: Ord + Copy + Drop, V: Copy + Drop> Form<K, V> {
     fn grown(&self, alloc: Global, key: K, value: V) -> Result<Option<BTreeMap<K, V>>, AllocError>
         requires { IsStrictlySortedBy K.cmp (keys_of (entries_in self.now)) }
         ensures entries { IfOk result (λ grown. IfSome grown (λ tree. tree.entries ≡ insert_entry K.cmp (entries_in self.now) key value)) }
-        ensures many { IfOk result (λ grown. IfSome grown (λ _. MOST_MOVED < moved_by_one K.cmp self.now key)) }
-        ensures few { IfOk result (λ grown. IfNone grown (moved_by_one K.cmp self.now key ≤ MOST_MOVED)) }
+        ensures many { IfOk result (λ grown. IfSome grown (λ _. 256 < moved_by_one K.cmp self.now key)) }
+        ensures few { IfOk result (λ grown. IfNone grown (moved_by_one K.cmp self.now key ≤ 256)) }
     {
         match self {
             Form::Flat(entries) if entries.len() > MOST_MOVED => {
@@ -99,8 +99,8 @@ impl<K: Ord + Copy + Drop, V: Copy + Drop> Form<K, V> {
     ) -> Result<Option<BTreeMap<K, V>>, AllocError>
         requires { IsStrictlySortedBy K.cmp (keys_of (entries_in self.now)) }
         ensures entries { IfOk result (λ made. IfSome made (λ tree. tree.entries ≡ entries_in self.now)) }
-        ensures many { IfOk result (λ made. IfSome made (λ _. MOST_MOVED < moved_without_one K.cmp self.now key)) }
-        ensures few { IfOk result (λ made. IfNone made (moved_without_one K.cmp self.now key ≤ MOST_MOVED)) }
+        ensures many { IfOk result (λ made. IfSome made (λ _. 256 < moved_without_one K.cmp self.now key)) }
+        ensures few { IfOk result (λ made. IfNone made (moved_without_one K.cmp self.now key ≤ 256)) }
     {
         match self {
             Form::Flat(entries) if entries.len() > MOST_MOVED => {
@@ -113,6 +113,7 @@ impl<K: Ord + Copy + Drop, V: Copy + Drop> Form<K, V> {
         }
     }
 
+    /// What stands at the key.
     pub fn get(&self, key: K) -> Option<V>
         requires { IsStrictlySortedBy K.cmp (keys_of (entries_in self.now)) }
         ensures { result ≡ lookup (is_at (K.cmp key)) (entries_in self.now) }
@@ -126,6 +127,7 @@ impl<K: Ord + Copy + Drop, V: Copy + Drop> Form<K, V> {
         }
     }
 
+    /// The entry with the greatest key below this one.
     pub fn below(&self, key: K) -> Option<(K, V)>
         requires { IsStrictlySortedBy K.cmp (keys_of (entries_in self.now)) }
         ensures { IsLastBelow K.cmp (entries_in self.now) key result }
@@ -136,6 +138,7 @@ impl<K: Ord + Copy + Drop, V: Copy + Drop> Form<K, V> {
         }
     }
 
+    /// The entry with the least key above this one.
     pub fn above(&self, key: K) -> Option<(K, V)>
         requires { IsStrictlySortedBy K.cmp (keys_of (entries_in self.now)) }
         ensures { IsFirstAbove K.cmp (entries_in self.now) key result }
@@ -146,6 +149,7 @@ impl<K: Ord + Copy + Drop, V: Copy + Drop> Form<K, V> {
         }
     }
 
+    /// Adds an entry where its neighbours let it, as the chooser says.
     pub fn add_between<E: Drop, C: Choice<K, V, E>>(
         &self,
         low: Bound<K>,
@@ -163,6 +167,7 @@ impl<K: Ord + Copy + Drop, V: Copy + Drop> Form<K, V> {
         }
     }
 
+    /// The first entry whose value passes the test.
     pub fn find<T: ValueTest<V>>(&self, test: &T) -> Option<(K, V)>
         ensures { result ≡ find (λ e. T.passes test.now e.1) (entries_in self.now) }
     {
@@ -172,6 +177,7 @@ impl<K: Ord + Copy + Drop, V: Copy + Drop> Form<K, V> {
         }
     }
 
+    /// The entry with the greatest key.
     pub fn last(&self) -> Option<(K, V)>
         ensures { result ≡ slice_get (entries_in self.now) (length (entries_in self.now) - 1) }
     {
@@ -187,6 +193,7 @@ impl<K: Ord + Copy + Drop, V: Copy + Drop> Form<K, V> {
         }
     }
 
+    /// How many entries there are.
     pub fn len(&self) -> usize
         ensures { result ≡ length (entries_in self.now) }
     {

@@ -18,3 +18,4 @@ pub mod KindConditions
 pub mod LineConditions
 pub mod WrittenLines
 pub mod ToldEdits
+pub mod LeftBehind

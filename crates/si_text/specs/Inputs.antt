@@ -53,6 +53,7 @@ items_of bytes = items_after 0 bytes
 
 -- the known bytes behind so many lines give these items, and the rest of them stands behind so many more
 abbrev pub Yields : ℕ → Option (List ℕ) → ℕ → Option (List ℕ) → List Item → Type 0
-Yields before None after new items = ⊤
-Yields before (Some bytes) after None items = ⊥
+Yields before None after None items = ⊤
+Yields before None after (Some rest) items = ⊥
+Yields before (Some bytes) after None items = ⊤
 Yields before (Some bytes) after (Some rest) items = items_after before bytes ≡ items ++ items_after after rest

@@ -5,6 +5,7 @@ pub mod Texts
 pub mod Printing
 pub mod Inputs
 pub mod Devices
+pub mod Streams
 pub mod Memory
 pub mod LineBuffers
 pub mod Conditions

@@ -34,8 +34,9 @@ pub record Passes (old new : LineBuffer) (items : List Item) : Type 0 where
 
 -- reads are counted, and lines end, no more often than known bytes are taken: so an input of fewer than 2^64 - 1 bytes spends no buffer
 abbrev pub CountsBytes : LineBuffer → Option (List ℕ) → LineBuffer → Option (List ℕ) → Type 0
-CountsBytes old None new rest = ⊤
-CountsBytes old (Some left) new None = ⊥
+CountsBytes old None new None = ⊤
+CountsBytes old None new (Some rest) = ⊥
+CountsBytes old (Some left) new None = ⊤
 CountsBytes old (Some left) new (Some rest) =
     (reads_made new + length rest ≤ reads_made old + length left)
     × (lines_ended new + length (bytes_held new ++ rest) ≤ lines_ended old + length (bytes_held old ++ left))

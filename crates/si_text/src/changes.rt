@@ -20,13 +20,6 @@ use std::alloc::Global;
 use std::cmp::Ordering;
 
 /// Leaves the violations alone, in their order.
-///
-/// # Examples
-///
-/// ```
-/// let mut found = report.findings;
-/// keep_violations(&mut found); // `unknown` and `doubt` are gone
-/// ```
 pub fn keep_violations(findings: &mut Vec<Finding>)
     ensures { findings.new.items ≡ violations_of findings.old.items }
 {
@@ -35,12 +28,6 @@ pub fn keep_violations(findings: &mut Vec<Finding>)
 
 /// Appends what changed since these violations were told: each finding that isn't one of them, as in a report, and then a line for
 /// each of them that isn't found any more. If memory is refused, the bytes are as before.
-///
-/// # Examples
-///
-/// ```
-/// print_changes(rt.alloc(), &mut out, told.as_slice(), found.as_slice(), false)?; // gone stale key="x" txn=2 op=0 read=initial missed=1
-/// ```
 pub fn print_changes(
     alloc: Global,
     out: &mut Vec<u8>,

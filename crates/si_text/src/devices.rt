@@ -2,9 +2,10 @@
 
 ghost use Rattle.std.specs.Prelude.{◌≡◌, ◌≤◌, ◌<◌, ◌||◌, length, is_err, IfOk};
 ghost use Rattle.std.specs.Io.{ReadsAtMost, WritesAtMost};
-ghost use Rattle.std.specs.Io.KnownBytes.{ReadConsumes, WriteAppends};
-ghost use Rattle.si_text.specs.Devices.{Input, Output, turned_by};
+ghost use Rattle.std.specs.Io.KnownBytes.{WriteAppends};
+ghost use Rattle.si_text.specs.Devices.{Input, MayGive, Output, turned_by};
 
+use std::io;
 use thiserror::Error;
 
 /// A device failed: the read gave no byte, or the write took none.
@@ -25,9 +26,14 @@ pub trait ByteSource {
     fn read(&mut self, buffer: &mut [u8]) -> Result<usize, DeviceFailed>
         requires { 0 < length buffer.old }
         ensures bound { ReadsAtMost result buffer.new }
-        ensures bytes { ReadConsumes (seen self.old).left (seen self.new).left result buffer.new }
+        ensures bytes { MayGive (seen self.old).left (seen self.new).left result buffer.new }
         ensures failed { (seen self.new).failed ≡ ((seen self.old).failed || is_err result) }
         ensures turned { (seen self.new).turned ≡ turned_by (is_err result) (seen self.old).turned };
+
+    /// Why a read failed, in the words of who failed it, where it has any. No clause tells it: it is for who looks for the cause.
+    fn cause(&self) -> Option<io::Error> {
+        None
+    }
 }
 
 /// What bytes are written to.
@@ -45,6 +51,11 @@ pub trait ByteSink {
         ensures bound { WritesAtMost result bytes.now }
         ensures bytes { WriteAppends (seen self.old).written (seen self.new).written result bytes.now }
         ensures failed { (seen self.new).failed ≡ ((seen self.old).failed || is_err result) };
+
+    /// Why a write failed, in the words of who failed it, where it has any. No clause tells it: it is for who looks for the cause.
+    fn cause(&self) -> Option<io::Error> {
+        None
+    }
 }
 
 impl<S: ByteSource> ByteSource for &mut S {
@@ -53,6 +64,10 @@ impl<S: ByteSource> ByteSource for &mut S {
     fn read(&mut self, buffer: &mut [u8]) -> Result<usize, DeviceFailed> {
         ByteSource::read(&mut **self, buffer)
     }
+
+    fn cause(&self) -> Option<io::Error> {
+        ByteSource::cause(&**self)
+    }
 }
 
 impl<W: ByteSink> ByteSink for &mut W {
@@ -60,5 +75,9 @@ impl<W: ByteSink> ByteSink for &mut W {
 
     fn write(&mut self, bytes: &[u8]) -> Result<usize, DeviceFailed> {
         ByteSink::write(&mut **self, bytes)
+    }
+
+    fn cause(&self) -> Option<io::Error> {
+        ByteSink::cause(&**self)
     }
 }

@@ -10,12 +10,6 @@ use si_model::{Edge, Evidence, Kind, Label, OutOfMemory, TxnId, evidence_of};
 use std::alloc::Global;
 
 /// Appends the line of an evidence. If memory is refused, the bytes are as before.
-///
-/// # Examples
-///
-/// ```
-/// print_evidence(rt.alloc(), &mut out, &evidence)?; //   G-SI(b) 2-rw->1 1-st->2
-/// ```
 pub fn print_evidence(
     _alloc: Global,
     out: &mut Vec<u8>,

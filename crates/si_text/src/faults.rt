@@ -20,12 +20,6 @@ pub enum Field {
 
 impl Field {
     /// The member's name, as a line spells it.
-    ///
-    /// # Examples
-    ///
-    /// ```
-    /// let name = Field::Start.name(); // start
-    /// ```
     pub fn name(&self) -> &'static str
         ensures { result.now ≡ field_name self.now }
     {
@@ -75,12 +69,6 @@ pub enum LineFault {
 
 impl LineFault {
     /// The number that a refused line is printed with. Want of memory has none.
-    ///
-    /// # Examples
-    ///
-    /// ```
-    /// let code = LineFault::NotJson.code(); // Some(2)
-    /// ```
     pub fn code(&self) -> Option<u64>
         ensures { result ≡ fault_code self.now }
     {

@@ -32,12 +32,6 @@ impl Model for KnownKeys {
 
 impl KnownKeys {
     /// No key is known yet. The secret key of the hash is what keeps a text from being chosen for the hash of another.
-    ///
-    /// # Examples
-    ///
-    /// ```
-    /// let mut keys = KnownKeys::new(rt.alloc(), RandomState::new(rt)?);
-    /// ```
     pub fn new(alloc: Global, hash: RandomState) -> Self
         ensures { result ≡ [] }
     {
@@ -59,12 +53,6 @@ impl KnownKeys {
 
     /// The key with this text. Of a longer one it is a copy of the known one, which shares its text, or else a new one, which is
     /// known from then on unless another known text has its hash.
-    ///
-    /// # Examples
-    ///
-    /// ```
-    /// let key = keys.key("accounts/00000018/balance in cents")?;
-    /// ```
     pub fn key(&mut self, text: &str) -> Result<Key, OutOfMemory>
         requires { IsKeyText text.now }
         ensures key { IfOk result (λ key. key ≡ text.now) }
@@ -76,12 +64,6 @@ impl KnownKeys {
     }
 
     /// How many keys are known.
-    ///
-    /// # Examples
-    ///
-    /// ```
-    /// let known = keys.len(); // longer keys alone: a short one is never kept
-    /// ```
     pub fn len(&self) -> usize
         ensures { result ≡ length self.now }
     {
@@ -89,14 +71,6 @@ impl KnownKeys {
     }
 
     /// Forgets the keys that came after the first so many.
-    ///
-    /// # Examples
-    ///
-    /// ```
-    /// let known = keys.len();
-    /// let item = buffer.next_item(&mut source, &mut keys)?;
-    /// keys.truncate(known); // the keys of that line are forgotten
-    /// ```
     pub fn truncate(&mut self, len: usize)
         ensures { self.new ≡ take len self.old }
     {

@@ -43,5 +43,5 @@ pub use read_items::LineItem;
 pub use read_lines::{InputFault, LineBuffer};
 pub use reasons::Reason;
 pub use shortages::Shortage;
-pub use streams::{StdSink, StdSource};
+pub use streams::{Foreseen, StdSink, StdSource};
 pub use verdicts::Verdict;

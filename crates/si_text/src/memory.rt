@@ -3,7 +3,7 @@
 ghost use Rattle.std.specs.Prelude.{◌≡◌, ◌≤◌, ◌<◌, ◌+◌, ◌||◌, ◌==◌, Some, Ok, [], length, drop, min, true, false, vec_len, is_err, IfOk};
 ghost use Rattle.std.specs.Io.{ReadsAtMost, WritesAtMost};
 ghost use Rattle.std.specs.Io.KnownBytes.{ReadConsumes, WriteAppends};
-ghost use Rattle.si_text.specs.Devices.{turned_by};
+ghost use Rattle.si_text.specs.Devices.{MayGive, turned_by};
 
 use crate::devices::{ByteSink, ByteSource, DeviceFailed};
 use std::alloc::Global;
@@ -23,13 +23,6 @@ impl MemorySource {
     ghost use Rattle.si_text.specs.Memory.{most_given};
 
     /// A source of these bytes, in pieces of at most so many.
-    ///
-    /// # Examples
-    ///
-    /// ```
-    /// let bytes = b"{}\n".to_vec(rt.alloc())?;
-    /// let mut source = MemorySource::new(bytes, 1); // gives one byte at a read
-    /// ```
     pub fn new(bytes: Vec<u8>, piece: usize) -> Self
         requires { 1 ≤ piece }
         ensures left { (⟦<MemorySource as ByteSource>⟧.seen result).left ≡ Some bytes.items }
@@ -81,12 +74,6 @@ impl MemorySink {
     ghost use Rattle.si_text.specs.Memory.{most_taken};
 
     /// An empty sink that takes pieces of at most so many bytes.
-    ///
-    /// # Examples
-    ///
-    /// ```
-    /// let mut sink = MemorySink::new(rt.alloc(), 7); // takes up to seven bytes at a write
-    /// ```
     pub fn new(alloc: Global, piece: usize) -> Self
         requires { 1 ≤ piece }
         ensures written { (⟦<MemorySink as ByteSink>⟧.seen result).written ≡ Some [] }
@@ -101,12 +88,6 @@ impl MemorySink {
     }
 
     /// What was written so far.
-    ///
-    /// # Examples
-    ///
-    /// ```
-    /// let text = sink.as_slice();
-    /// ```
     pub fn as_slice(&self) -> &[u8]
         ensures { (⟦<MemorySink as ByteSink>⟧.seen self.now).written ≡ Some result.now }
     {
@@ -155,12 +136,6 @@ impl<S: ByteSource> FailingSource<S> {
     ghost use Rattle.si_text.specs.Memory.{reads_left, source_behind};
 
     /// A source whose first `reads` reads are those of the other one, and all later ones fail.
-    ///
-    /// # Examples
-    ///
-    /// ```
-    /// let mut source = FailingSource::new(MemorySource::new(bytes, 7), 3); // the fourth read fails, and each one after it
-    /// ```
     pub fn new(source: S, reads: u64) -> Self
         ensures left { (⟦<FailingSource<S> as ByteSource>⟧.seen result).left ≡ (S.seen source).left }
         ensures failed { (⟦<FailingSource<S> as ByteSource>⟧.seen result).failed
@@ -186,7 +161,7 @@ impl<S: ByteSource> ByteSource for FailingSource<S> {
     fn read(&mut self, buffer: &mut [u8]) -> Result<usize, DeviceFailed>
         requires { 0 < length buffer.old }
         ensures bound { ReadsAtMost result buffer.new }
-        ensures bytes { ReadConsumes (source_seen S.seen self.old).left (source_seen S.seen self.new).left
+        ensures bytes { MayGive (source_seen S.seen self.old).left (source_seen S.seen self.new).left
             result buffer.new }
         ensures failed { (source_seen S.seen self.new).failed
             ≡ ((source_seen S.seen self.old).failed || is_err result) }
@@ -221,12 +196,6 @@ impl<W: ByteSink> FailingSink<W> {
     ghost use Rattle.si_text.specs.Memory.{writes_left, sink_behind};
 
     /// A sink whose first `writes` writes are those of the other one, and all later ones fail.
-    ///
-    /// # Examples
-    ///
-    /// ```
-    /// let mut sink = FailingSink::new(MemorySink::new(rt.alloc(), 7), 0); // each write fails
-    /// ```
     pub fn new(sink: W, writes: u64) -> Self
         ensures written { (⟦<FailingSink<W> as ByteSink>⟧.seen result).written ≡ (W.seen sink).written }
         ensures failed { (⟦<FailingSink<W> as ByteSink>⟧.seen result).failed ≡ (W.seen sink).failed }

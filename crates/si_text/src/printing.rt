@@ -14,12 +14,6 @@ use si_model::{Finding, Key, Kind, OutOfMemory, Refusal, TxnId};
 use std::alloc::Global;
 
 /// Appends the line of a finding. If memory is refused, the bytes are as before.
-///
-/// # Examples
-///
-/// ```
-/// print_finding(rt.alloc(), &mut out, &finding)?; // stale key="x" txn=2 op=0 read=initial missed=1
-/// ```
 pub fn print_finding(
     _alloc: Global,
     out: &mut Vec<u8>,
@@ -35,12 +29,6 @@ pub fn print_finding(
 
 /// Appends the line of a refused item: its source, counted from 0, its line, counted from 1, and why it is refused.
 /// If memory is refused, the bytes are as before.
-///
-/// # Examples
-///
-/// ```
-/// print_refusal(rt.alloc(), &mut out, 0, 3, &reason)?; // refused source=0 line=3 code=12 reason=id-present
-/// ```
 pub fn print_refusal(
     _alloc: Global,
     out: &mut Vec<u8>,
@@ -61,12 +49,6 @@ pub fn print_refusal(
 /// there are, and how many items were refused so far. With `explain` each finding of the kinds 4 to 8, which is a phenomenon, is
 /// followed by the line of its evidence. The answer is the verdict that the summary tells. If memory is refused, the bytes are as
 /// before.
-///
-/// # Examples
-///
-/// ```
-/// let verdict = print_report(rt.alloc(), &mut out, world.len(), found.as_slice(), 0, true)?;
-/// ```
 pub fn print_report(
     alloc: Global,
     out: &mut Vec<u8>,
@@ -86,13 +68,6 @@ pub fn print_report(
 }
 
 /// Appends a report as [`print_report`] does, with the line of what the run is short of, if it is short, right before the summary.
-///
-/// # Examples
-///
-/// ```
-/// let shortage = Some(Shortage { committed: 3, expected: 5, in_doubt });
-/// let verdict = print_last_report(rt.alloc(), &mut out, 3, found.as_slice(), 0, false, &shortage)?; // short committed=3 expected=5 indoubt=0
-/// ```
 pub fn print_last_report(
     alloc: Global,
     out: &mut Vec<u8>,
@@ -114,12 +89,6 @@ pub fn print_last_report(
 
 /// Appends a summary: how many transactions are present, how many findings there are, how many items were refused so far, and the
 /// verdict. If memory is refused, the bytes are as before.
-///
-/// # Examples
-///
-/// ```
-/// print_summary(rt.alloc(), &mut out, 3, 0, 0, Verdict::Clean)?; // transactions=3 findings=0 refused=0 verdict=clean
-/// ```
 pub fn print_summary(
     _alloc: Global,
     out: &mut Vec<u8>,
@@ -139,6 +108,7 @@ pub fn print_summary(
 
 // ---- findings
 
+/// Appends the line of a finding.
 pub(crate) fn put_finding(out: &mut Vec<u8>, finding: &Finding) -> Result<(), OutOfMemory>
     ensures { Appends result out.old.items out.new.items (finding_text finding.now) }
 {

@@ -17,13 +17,6 @@ pub const MOST_LINE_BYTES: usize = 1_048_576;
 
 /// The edit that a line is, without its line feed, or the first fault that applies. Members that the line's kind
 /// doesn't name are ignored.
-///
-/// # Examples
-///
-/// ```
-/// let edit = read_edit(rt.alloc(), br#"{"do":"withdraw","id":7}"#)?; // Edit::Withdraw(TxnId(7))
-/// let fault = read_edit(rt.alloc(), b"[]"); // Err(LineFault::NotObject)
-/// ```
 pub fn read_edit(alloc: Global, line: &[u8]) -> Result<Edit, LineFault>
     ensures { Gives result (edit_of line.now) }
 {

@@ -2,7 +2,8 @@
 
 ghost use Rattle.std.specs.Prelude.{◌≡◌, ◌≤◌, ◌<◌, ◌+◌, ◌^◌, ◌-◌, ◌∷◌, ◌++◌, ◌||◌, ◌⊎◌, List, ℕ, [], true, false, not, length, is_err, IfOk, OnOk, OnErr, IfErr, IsNone, take, vec_len, MatchBool};
 ghost use Rattle.std.specs.Option.{option_to_list};
-ghost use Rattle.std.specs.Io.KnownBytes.{Consumes, IsAtEnd, Keeps};
+ghost use Rattle.std.specs.Io.KnownBytes.{IsAtEnd};
+ghost use Rattle.si_text.specs.Devices.{MayConsume};
 ghost use Rattle.si_text.specs.Inputs.{has_line_feed, item_of, items_after, Yields};
 ghost use Rattle.si_text.specs.declared.read_edits.TheConstants.{MOST_LINE_BYTES};
 
@@ -13,6 +14,7 @@ use crate::read_items::{LineItem, item_of, length_to_line_feed};
 use crate::read_pieces::Piece;
 use si_model::OutOfMemory;
 use std::alloc::{AllocError, Global};
+use std::sync::atomic::{AtomicBool, Ordering};
 use thiserror::Error;
 
 /// The most reads of one source that give bytes. The next one counts as failed.
@@ -27,6 +29,9 @@ pub enum InputFault {
     /// The growth of some memory was refused.
     #[error("out of memory")]
     OutOfMemory,
+    /// The caller's flag says that nothing more is to be read.
+    #[error("stopped")]
+    Stopped,
 }
 
 impl From<DeviceFailed> for InputFault {
@@ -72,12 +77,6 @@ impl LineBuffer {
     ghost use Rattle.si_text.specs.LineBuffers.{lines_ended, bytes_held, bytes_to_come, CountsBytes, IsFresh, IsSpent, Passes};
 
     /// A buffer before the first line.
-    ///
-    /// # Examples
-    ///
-    /// ```
-    /// let mut lines = LineBuffer::new(rt.alloc())?;
-    /// ```
     pub fn new(alloc: Global) -> Result<Self, OutOfMemory>
         ensures { IfOk result IsFresh }
     {
@@ -92,17 +91,12 @@ impl LineBuffer {
 
     /// The next line that isn't blank; none at the end of the source. After an error the lines to come are as before.
     ///
-    /// # Examples
-    ///
-    /// ```
-    /// while let Some((line, answer)) = lines.next_item(&mut source, &mut keys)? {
-    ///     take(line, answer); // the line's number, and its edit or its fault
-    /// }
-    /// ```
+    /// Before each read it looks at the flag, also in the middle of a line, and reads no more once that is true.
     pub fn next_item<S: ByteSource>(
         &mut self,
         source: &mut S,
         keys: &mut KnownKeys,
+        stop: &AtomicBool,
     ) -> Result<Option<LineItem>, InputFault>
         ensures items { IfOk result (λ item.
             Yields (lines_ended self.old) (bytes_to_come self.old (S.seen source.old).left)
@@ -126,10 +120,15 @@ impl LineBuffer {
         ensures steady { OnOk result ((S.seen source.new).turned ≡ (S.seen source.old).turned) }
         ensures memory { IfErr result (λ fault. fault ≡ InputFault.OutOfMemory
             → (S.seen source.new).failed ≡ (S.seen source.old).failed) }
+        ensures stopped { IfErr result (λ fault. fault ≡ InputFault.Stopped
+            → (S.seen source.new).failed ≡ (S.seen source.old).failed) }
     {
         'pieces: loop {
             if let Some(item) = self.next_in_piece(keys)? {
                 return Ok(Some(item));
+            }
+            if stop.load(Ordering::SeqCst) {
+                return Err(InputFault::Stopped);
             }
             if !self.refill(source)? {
                 return self.last_item(keys);
@@ -234,11 +233,11 @@ impl LineBuffer {
     fn refill<S: ByteSource>(&mut self, source: &mut S) -> Result<bool, InputFault>
         requires { self.old.piece ≡ [] }
         ensures bytes { OnOk result
-            (Consumes (S.seen source.old).left (S.seen source.new).left self.new.piece) }
+            (MayConsume (S.seen source.old).left (S.seen source.new).left self.new.piece) }
         ensures end { IfOk result (λ some. MatchBool some (0 < length self.new.piece)
             ((self.new.piece ≡ []) × IsAtEnd (S.seen source.new).left)) }
         ensures err { OnErr result
-            ((self.new.piece ≡ []) × Keeps (S.seen source.old).left (S.seen source.new).left) }
+            ((self.new.piece ≡ []) × MayConsume (S.seen source.old).left (S.seen source.new).left []) }
         ensures device { IfErr result (λ fault. (fault ≡ InputFault.DeviceFailed)
             × (((S.seen source.new).failed ≡ true) ⊎ IsSpent self.new)) }
         ensures here { OnErr result

@@ -1,8 +1,8 @@
 //! The bytes that were read at once, of which lines are taken.
 
 ghost use Rattle.std.specs.Prelude.{◌≡◌, ◌≤◌, ◌||◌, [], length, drop, ◌<◌, IfOk, is_err, OnErr, MatchBool};
-ghost use Rattle.std.specs.Io.KnownBytes.{Consumes, IsAtEnd, Keeps};
-ghost use Rattle.si_text.specs.Devices.{turned_by};
+ghost use Rattle.std.specs.Io.KnownBytes.{IsAtEnd};
+ghost use Rattle.si_text.specs.Devices.{MayConsume, turned_by};
 
 use crate::devices::{ByteSource, DeviceFailed};
 use std::alloc::{AllocError, Global};
@@ -61,11 +61,11 @@ impl Piece {
     pub(crate) fn fill<S: ByteSource>(&mut self, source: &mut S) -> Result<bool, DeviceFailed>
         requires { self.old ≡ [] }
         ensures bytes { IfOk result
-            (λ some. Consumes (S.seen source.old).left (S.seen source.new).left self.new) }
+            (λ some. MayConsume (S.seen source.old).left (S.seen source.new).left self.new) }
         ensures end { IfOk result (λ some. MatchBool some (0 < length self.new)
             ((self.new ≡ []) × IsAtEnd (S.seen source.new).left)) }
         ensures err { OnErr result
-            ((self.new ≡ []) × Keeps (S.seen source.old).left (S.seen source.new).left) }
+            ((self.new ≡ []) × MayConsume (S.seen source.old).left (S.seen source.new).left []) }
         ensures failed { (S.seen source.new).failed ≡ ((S.seen source.old).failed || is_err result) }
         ensures turned { (S.seen source.new).turned ≡ turned_by (is_err result) (S.seen source.old).turned }
     {

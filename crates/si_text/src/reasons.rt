@@ -17,12 +17,6 @@ pub enum Reason {
 
 impl Reason {
     /// The number that the item is printed with. Want of memory has none.
-    ///
-    /// # Examples
-    ///
-    /// ```
-    /// let code = Reason::Refused(Refusal::Full).code(); // Some(11)
-    /// ```
     pub fn code(&self) -> Option<u64>
         ensures { result ≡ reason_code self.now }
     {

@@ -19,12 +19,6 @@ pub enum Verdict {
 
 impl Verdict {
     /// The verdict that these findings give.
-    ///
-    /// # Examples
-    ///
-    /// ```
-    /// let verdict = Verdict::of(report.findings.as_slice()); // Clean where there is none
-    /// ```
     pub fn of(findings: &[Finding]) -> Verdict
         ensures { result ≡ verdict_of findings.now }
     {
@@ -39,12 +33,6 @@ impl Verdict {
     }
 
     /// The verdict's word in a summary.
-    ///
-    /// # Examples
-    ///
-    /// ```
-    /// let word = Verdict::Violation.word(); // violation
-    /// ```
     pub fn word(&self) -> &'static str
         ensures { result.now ≡ verdict_text self.now }
     {

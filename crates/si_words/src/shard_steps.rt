@@ -40,7 +40,7 @@ impl Words {
     }
 
     /// Whether the words are closed. Once a shard's seat has found them closed it finds them so.
-    pub fn closed_at(&self, shard: &mut ShardSeat) -> bool
+    pub fn is_closed_at(&self, shard: &mut ShardSeat) -> bool
         requires own { shard.old.table ≡ self.now.table }
         ensures view { shard.new ≡ record shard.old { view = shard_closed result shard.old.view } }
         ensures stays { shard.old.view.closed ≡ true → result ≡ true }

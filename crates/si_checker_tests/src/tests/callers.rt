@@ -5,12 +5,13 @@
 ghost use Rattle.std.specs.Prelude.{◌≡◌, All};
 
 use super::each_growth::{by_report, by_turns};
-use super::large::{many_edits, many_reads, most_of_all};
+use super::large::{many_edits, many_in_doubt, many_reads, most_of_all};
 use super::long_runs::long_run;
 use super::threads::{held_shard, left};
-use super::turns::{elsewhere, turns};
+use super::turns::{elsewhere, no_workers, turns};
 use si_checker::{
-    AcceptFault, Checker, Gate, Name, Parts, Pass, Report, ReportFault, ShardReport, Worked, open,
+    AcceptFault, Checker, Gate, Name, Parts, Pass, Report, ReportFault, ShardReport, Statuses,
+    Worked, open,
 };
 use si_model::{Edit, Finding, Key, Number, OutOfMemory, Txn, Value, findings_of, is_history};
 use si_scripts::{WorkedRow, edit_of, found_text};
@@ -94,6 +95,14 @@ impl<'a, N: Name> Caller<'a, N> {
     ) -> Result<ShardReport, ReportFault> {
         assert!(rt; shard < self.checker.shards());
         self.checker.shard_report(rt, &mut self.pass, shard)
+    }
+
+    pub(super) fn statuses<R: Wait>(&mut self, rt: &R) -> Result<Statuses, OutOfMemory> {
+        self.checker.statuses(rt, &mut self.pass)
+    }
+
+    pub(super) fn await_workers<R: Wait>(&mut self, rt: &R) {
+        self.checker.await_workers(rt, &mut self.pass);
     }
 
     pub(super) fn rebuild<R: Wait + Abort>(&self, rt: &R, shard: usize) -> Result<(), OutOfMemory> {
@@ -195,6 +204,8 @@ pub(super) enum Alone {
     ByTurns(WorkedRow),
     ManyEdits,
     ManyReads,
+    ManyInDoubt,
+    NoWorkers,
 }
 
 /// Plays the row on a new checker of so many shards and passes, whose journal takes so many edits.
@@ -286,6 +297,8 @@ fn play_alone<N: Name, R: Wait + Abort + AllocGlobal + Print>(
         Alone::ByTurns(row) => by_turns(rt, &mut caller, row),
         Alone::ManyEdits => many_edits(rt, &mut caller),
         Alone::ManyReads => many_reads(rt, &mut caller),
+        Alone::ManyInDoubt => many_in_doubt(rt, &mut caller),
+        Alone::NoWorkers => no_workers(rt, &mut caller),
     }
     drop(caller);
     drop(callers);

@@ -1,6 +1,6 @@
 //! What is asked again after each refused growth.
 //!
-//! A plain run refuses no memory. `.ci/refused_allocations` runs each of these tests once for each of its allocations, which is
+//! A plain run refuses no memory. `tests/refused_allocations` runs each of these tests once for each of its allocations, which is
 //! refused in that run. What wanted it is told, and asked again, after a rebuild where a shard was spoiled. The end is the same
 //! whatever was refused.
 

@@ -1,4 +1,4 @@
-//! More edits, reads, shards and passes than a body that gives up beyond some number would stand.
+//! More edits, reads, transactions in doubt, shards and passes than a body that gives up beyond some number would stand.
 
 use super::turns::numbered;
 use super::*;
@@ -47,11 +47,14 @@ fn many_edits_are_applied_and_rebuilt(rt: HostRuntime) {
     play(&rt, (1, 1, 10_000), Row::Alone(Alone::ManyEdits));
 }
 
-/// A transaction 2 that reads nothing from `x`, 4,000 times.
+/// As many operations as a transaction may have.
+const MOST_OPS: u64 = 4_096;
+
+/// A transaction 2 that reads nothing from `x`, as often as it may.
 fn submit_reads<N: Name, R: Wait + Abort + AllocGlobal>(rt: &R, caller: &mut Caller<'_, N>) {
     let mut words = String::new(rt.alloc());
     words.push_str("arrive 2 3 4").expect(rt, "memory");
-    for _ in 0..4_000u64 {
+    for _ in 0..MOST_OPS {
         words.push_str(" x?null").expect(rt, "memory");
     }
     caller.submits(rt, edit(rt, words.as_str()), 2);
@@ -60,7 +63,7 @@ fn submit_reads<N: Name, R: Wait + Abort + AllocGlobal>(rt: &R, caller: &mut Cal
 /// The stale reads, in order.
 fn stale_reads<R: Abort + AllocGlobal>(rt: &R) -> String {
     let mut text = String::from_str(rt.alloc(), STALE).expect(rt, "memory");
-    for op in 1..4_000u64 {
+    for op in 1..MOST_OPS {
         let read = format!(in rt.alloc();
             " x Stale {{ txn: TxnId(2), op: {op}, read: None, missed: TxnId(1) }}"
         );
@@ -92,6 +95,38 @@ pub(super) fn many_reads<N: Name, R: Wait + Abort + AllocGlobal>(
 #[test]
 fn many_reads_of_one_key_come_and_go(rt: HostRuntime) {
     play(&rt, (2, 1, 100), Row::Alone(Alone::ManyReads));
+}
+
+/// How many transactions are in doubt.
+const DOUBTFUL: u64 = 1_001;
+
+/// Many transactions are in doubt, and each is told.
+pub(super) fn many_in_doubt<N: Name, R: Wait + Abort + AllocGlobal>(
+    rt: &R,
+    caller: &mut Caller<'_, N>,
+) {
+    for id in 1..=DOUBTFUL {
+        let words = format!(in rt.alloc(); "arrive {id} 1 indoubt").expect(rt, "memory");
+        caller.submits(rt, edit(rt, words.as_str()), id);
+    }
+    let statuses = caller.statuses(rt).expect(rt, "memory");
+    are_same(rt, statuses.committed, 0);
+    are_from_one(rt, &statuses.in_doubt);
+}
+
+/// These are the ids from 1 on of all that are in doubt.
+fn are_from_one(rt: &impl Abort, ids: &[TxnId]) {
+    are_same(rt, ids.len() as u64, DOUBTFUL);
+    let mut wanted = 0u64;
+    for id in ids {
+        wanted = wanted.saturating_add(1);
+        are_same(rt, *id, TxnId(wanted));
+    }
+}
+
+#[test]
+fn each_of_many_in_doubt_is_told(rt: HostRuntime) {
+    play(&rt, (1, 1, 2_000), Row::Alone(Alone::ManyInDoubt));
 }
 
 /// As many shards and passes as there may be.

@@ -32,6 +32,27 @@ fn one_worker_turns_by_turns(rt: HostRuntime) {
     play(&rt, (1, 1, 100), Row::Alone(Alone::Turns));
 }
 
+/// Where nobody works, a caller that waits for workers returns, and what is left for them stays left.
+pub(super) fn no_workers<N: Name, R: Wait + Abort + AllocGlobal>(
+    rt: &R,
+    caller: &mut Caller<'_, N>,
+) {
+    caller.await_workers(rt);
+    submit_seventy(rt, caller);
+    caller.await_workers(rt);
+    are_same(rt, (caller.issued(), caller.watermark()), (70, 0));
+    caller.look(rt, (70, 70, 0), "");
+    caller.await_workers(rt);
+    are_same(rt, (caller.issued(), caller.watermark()), (70, 70));
+}
+
+#[test]
+fn nobody_waits_for_workers_that_are_not_there(rt: HostRuntime) {
+    for shards in [1, 2, 16] {
+        play(&rt, (shards, 1, 100), Row::Alone(Alone::NoWorkers));
+    }
+}
+
 /// A report shows what another thread submitted.
 pub(super) fn elsewhere<N: Name + Send + Sync, R: Threads + Wait + Abort + AllocGlobal + Sync>(
     rt: &R,

@@ -346,9 +346,9 @@ fn look_by_own_seat(
     issue(words, &mut book, &mut pass);
     words.see(&mut pass, &mut book);
     are_same(rt, words.issued_at(&mut shard), 1);
-    assert!(rt; !words.closed_at(&mut shard));
+    assert!(rt; !words.is_closed_at(&mut shard));
     words.close(&mut book);
-    assert!(rt; words.closed_at(&mut shard));
+    assert!(rt; words.is_closed_at(&mut shard));
 }
 
 #[test]

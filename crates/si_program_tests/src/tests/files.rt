@@ -1,6 +1,6 @@
 //! The program over files.
 
-use super::{Host, words_of, writes};
+use super::{Any, Host, words_of, writes};
 use si_cli::{NamedFiles, StdFiles};
 use std::test::Fail;
 use std::{env, fs, process};
@@ -45,7 +45,7 @@ fn is_read<H: Host, F: NamedFiles>(rt: &H, files: &F, path: &str) {
 
 #[test]
 fn a_file_is_read(rt: HostRuntime) -> Result<(), Fail> {
-    let files = StdFiles::new(&rt);
+    let files = StdFiles::<_, Any>::new(&rt);
     let name = format!(in rt.alloc(); "sicheck-test-{}", process::id(rt.process()))?;
     let path = env::temp_dir(&rt)?.join(rt.alloc(), name.as_str())?;
     fs::write(&rt, path.as_path(), STALE.as_bytes())?;
@@ -58,7 +58,7 @@ fn a_file_is_read(rt: HostRuntime) -> Result<(), Fail> {
 
 #[test]
 fn files_that_cannot_be_read(rt: HostRuntime) {
-    let files = StdFiles::new(&rt);
+    let files = StdFiles::<_, Any>::new(&rt);
     let missing = "check no/such/file.jsonl";
     answers(&rt, &files, missing, ("", CANNOT_OPEN, 2));
     let cannot_read = "sicheck: cannot read source 0\n";

@@ -1,7 +1,7 @@
 //! What help tells: lines that fit a terminal, the forms of the input, how stamps are written, what ends with which status.
 
-use super::{Host, are_same, outcome, text_of, words_of};
-use si_cli::{NamedFiles, StdFiles};
+use super::{Any, Host, are_same, are_same_at, outcome, text_of, words_of};
+use si_cli::{NamedFiles, SettingsFault, StdFiles, settings_of};
 
 /// How many columns a line of help has at most.
 const COLUMNS: usize = 80;
@@ -34,12 +34,50 @@ const KINDS: &str =
 
 #[test]
 fn help_tells_how_to_log(rt: HostRuntime) {
-    let files = StdFiles::new(&rt);
+    let files = StdFiles::<_, Any>::new(&rt);
     for line in ["--help", "check --help"] {
         tells(&rt, &files, line, TO_LOG);
         tells(&rt, &files, line, KINDS);
     }
     let usage =
-        "Usage: sicheck check [--shards K] [--every N [--new]] [--explain] [--expect N]\n                     [FILE]...\n";
+        "Usage: sicheck check [--shards K] [--every N [--new]] [--explain] [--expect N]\n                     [--progress] [FILE]...\n";
     tells(&rt, &files, "check --help", usage);
+}
+
+/// What `clap`'s own definition of the command tells of these words.
+fn told_by_clap(rt: &impl Host, words: &[&str]) -> String {
+    match settings_of(rt.alloc(), words) {
+        Err(SettingsFault::Line(error)) => {
+            format!(in rt.alloc(); "{error}").expect(rt, "memory")
+        }
+        _ => panic!(rt; "clap tells nothing"),
+    }
+}
+
+/// On the words of this line the program tells what `clap` tells, byte for byte.
+fn tells_the_same<H: Host, F: NamedFiles>(rt: &H, files: &F, line: &str) {
+    let words = words_of(rt, line);
+    let outcome = outcome(rt, files, words.as_slice(), "");
+    are_same_at(rt, outcome.status, 0, line);
+    let told = told_by_clap(rt, words.as_slice());
+    are_same_at(rt, text_of(rt, outcome.out.as_slice()), told.as_str(), line);
+}
+
+#[test]
+fn own_texts_are_those_of_clap(rt: HostRuntime) {
+    let files = StdFiles::<_, Any>::new(&rt);
+    for line in [
+        "-h",
+        "--help",
+        "help",
+        "--help check",
+        "help check",
+        "check -h",
+        "check --help",
+        "check --every 3 a --help",
+        "-V",
+        "--version",
+    ] {
+        tells_the_same(&rt, &files, line);
+    }
 }

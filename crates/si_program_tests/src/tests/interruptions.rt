@@ -1,6 +1,6 @@
 //! Reads and writes that a signal interrupts are tried again.
 
-use super::{PLAIN, are_same, ended, is_text};
+use super::{Any, PLAIN, are_same, ended, is_text};
 use si_cli::ExitStatus;
 use si_text::{StdSink, StdSource};
 use std::io;
@@ -49,16 +49,18 @@ impl Write for Halting {
 
 #[test]
 fn interrupted_calls_are_tried_again(rt: HostRuntime) {
-    let mut source = StdSource::new(Interrupted {
+    let reader = Interrupted {
         bytes: b"[]\n",
         turn: 0,
-    });
+    };
+    let mut source = StdSource::<_, Any>::new(reader, 0);
     let mut writer = Halting {
         bytes: Vec::new(rt.alloc()),
         halts: false,
     };
     let mut sink = StdSink::new(&mut writer);
     let ended = ended(&rt, &mut source, &mut sink, PLAIN);
+    drop(sink);
     are_same(&rt, ended.ok(), Some(ExitStatus::Open));
     let expected =
         "refused source=0 line=1 code=3 reason=not-object\ntransactions=0 findings=0 refused=1 verdict=clean\n";

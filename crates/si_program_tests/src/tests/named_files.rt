@@ -1,9 +1,9 @@
 //! The program over a file in memory: its options, and a file that is missing or fails.
 
-ghost use Rattle.std.specs.Prelude.{Some, not};
+ghost use Rattle.std.specs.Prelude.{None, not};
 ghost use Rattle.std.specs.Str.{bytes_eq};
 
-use super::{Host, ProgramEnd, are_same, is_text, outcome, words_of, writes};
+use super::{Any, Host, ProgramEnd, are_same, is_text, outcome, words_of, writes};
 use si_cli::{CannotOpen, NamedFiles};
 use si_text::StdSource;
 use si_text::memory::FailingSource;
@@ -17,15 +17,16 @@ struct OneFile<'a> {
 }
 
 impl<'a> NamedFiles for OneFile<'a> {
-    type Source = FailingSource<StdSource<&'a [u8]>>;
+    type Source = FailingSource<StdSource<&'a [u8], Any>>;
 
-    ghost seen = { λ files. record { bytes = λ _. Some files.bytes.now; may_lack = λ name. not (bytes_eq name files.name.now) } };
+    ghost seen = { λ files. record { bytes = λ _ _. None; may_lack = λ name. not (bytes_eq name files.name.now) } };
 
-    fn open(&self, name: &str) -> Result<FailingSource<StdSource<&'a [u8]>>, CannotOpen> {
+    fn open(&self, name: &str, place: usize) -> Result<Self::Source, CannotOpen> {
         if name == self.name {
-            Ok(FailingSource::new(StdSource::new(self.bytes), self.reads))
+            let source = StdSource::new(self.bytes, place);
+            Ok(FailingSource::new(source, self.reads))
         } else {
-            Err(CannotOpen)
+            Err(CannotOpen(None))
         }
     }
 }

@@ -3,7 +3,7 @@
 ghost use Rattle.std.specs.Prelude.{◌≡◌, false};
 
 use super::{
-    Host, PLAIN, ProgramEnd, answer, are_same, are_same_at, bytes_of, ended, halves, is_text,
+    Any, Host, PLAIN, ProgramEnd, answer, are_same, are_same_at, bytes_of, ended, halves, is_text,
     outcome, text_of, words_of, writes,
 };
 use si_cli::{
@@ -19,7 +19,7 @@ const LOST_UPDATE: &str =
 
 #[test]
 fn versions(rt: HostRuntime) {
-    let files = StdFiles::new(&rt);
+    let files = StdFiles::<_, Any>::new(&rt);
     for option in ["--version", "-V"] {
         let words = words_of(&rt, option);
         let told = ("sicheck 0.1.0\n", "", 0);
@@ -89,11 +89,14 @@ const COMMAND_LINES: &str = "
     check --expect=1 --expect=1 | 2 complains
     check --expect=0 | 20 writes
     check --expect=16777216 | 20 writes
+    check --progress | 20 does both
+    check --progress=1 | 2 complains
+    check --progress --progress | 2 complains
     check --version | 2 complains";
 
 #[test]
 fn command_lines(rt: HostRuntime) {
-    let files = StdFiles::new(&rt);
+    let files = StdFiles::<_, Any>::new(&rt);
     for row in COMMAND_LINES.trim().lines() {
         ends_so(&rt, &files, row);
     }
@@ -109,7 +112,7 @@ fn every_told(rt: &impl Host, every: Option<NonZeroU64>) -> String {
 }
 
 /// `4 - plain`: how many shards, after how many lines a report comes, and whether its findings are `explained`; then `new`, if
-/// only what changed is told on the way, and `expects 1`, if so many are expected.
+/// only what changed is told on the way, `expects 1`, if so many are expected, and `shows`, if lines of progress are shown.
 fn options_told(rt: &impl Host, options: Options) -> String {
     let every = every_told(rt, options.every);
     let explained = if options.explain {
@@ -118,10 +121,12 @@ fn options_told(rt: &impl Host, options: Options) -> String {
         "plain"
     };
     let asked = asked_told(rt, options);
-    format!(in rt.alloc(); "{} {every} {explained}{asked}", options.shards).expect(rt, "memory")
+    let shows = if options.shows_progress { " shows" } else { "" };
+    let text = format!(in rt.alloc(); "{} {every} {explained}{asked}{shows}", options.shards);
+    text.expect(rt, "memory")
 }
 
-/// The last two of these.
+/// The two before the last of these.
 fn asked_told(rt: &impl Host, options: Options) -> String {
     let new = if options.only_new { " new" } else { "" };
     let told = match options.expected {
@@ -129,6 +134,48 @@ fn asked_told(rt: &impl Host, options: Options) -> String {
         Some(expected) => format!(in rt.alloc(); "{new} expects {expected}"),
     };
     told.expect(rt, "memory")
+}
+
+/// What makes a line of progress go away.
+const ERASURE: &str = "\r\x1b[K";
+
+/// Without its lines of progress, of which the last is gone, the error device has this.
+fn is_told_behind(rt: &impl Host, err: &[u8], wanted: &str) {
+    let text = text_of(rt, err);
+    let (shown, told) = text.rsplit_once(ERASURE).expect(rt, "an erasure");
+    is_text(rt, told.as_bytes(), wanted);
+    assert!(rt; shown.starts_with("\r\x1b[Ksicheck: waiting for standard input"));
+    assert!(rt; !shown.contains("\n"));
+}
+
+#[test]
+fn progress_is_shown_and_gone(rt: HostRuntime) {
+    let files = StdFiles::<_, Any>::new(&rt);
+    let plain = outcome(&rt, &files, words_of(&rt, "check").as_slice(), LOST_UPDATE);
+    let words = words_of(&rt, "check --progress");
+    let shown = outcome(&rt, &files, words.as_slice(), LOST_UPDATE);
+    are_same(&rt, shown.status, plain.status);
+    are_same(&rt, shown.out.as_slice(), plain.out.as_slice());
+    is_told_behind(&rt, shown.err.as_slice(), "");
+}
+
+#[test]
+fn fault_is_told_behind_progress(rt: HostRuntime) {
+    let files = StdFiles::<_, Any>::new(&rt);
+    let words = words_of(&rt, "check --progress");
+    let mut input = FailingSource::new(MemorySource::new(bytes_of(&rt, LOST_UPDATE), 16), 2);
+    let mut out = MemorySink::new(rt.alloc(), 4096);
+    let mut err = MemorySink::new(rt.alloc(), 4096);
+    let status = answer(
+        &rt,
+        &files,
+        words.as_slice(),
+        &mut input,
+        &mut out,
+        &mut err,
+    );
+    are_same(&rt, status, 2);
+    is_told_behind(&rt, err.as_slice(), "sicheck: cannot read source 0\n");
 }
 
 /// What the words ask for.
@@ -176,6 +223,9 @@ const ASKED: &str = "
     check --expect 0 | 4 - plain expects 0 |
     check --expect=16777216 a | 4 - plain expects 16777216 | a
     check --expect 3 --every 2 --new | 4 2 plain new expects 3 |
+    check --progress | 4 - plain shows |
+    check --expect 3 --progress a | 4 - plain expects 3 shows | a
+    check -- --progress | 4 - plain | --progress
     check -- --new | 4 - plain | --new";
 
 #[test]
@@ -208,7 +258,7 @@ fn new_wants_reports_on_the_way(rt: HostRuntime) {
     let complaint = ("", "sicheck: --new without --every\n", 2);
     writes(
         &rt,
-        &StdFiles::new(&rt),
+        &StdFiles::<_, Any>::new(&rt),
         words.as_slice(),
         LOST_UPDATE,
         complaint,
@@ -282,7 +332,7 @@ fn the_program_cannot_write<H: Host, F: NamedFiles>(rt: &H, files: &F) {
 
 #[test]
 fn faults_in_words(rt: HostRuntime) {
-    let files = StdFiles::new(&rt);
+    let files = StdFiles::<_, Any>::new(&rt);
     the_program_cannot_read(&rt, &files);
     the_program_cannot_write(&rt, &files);
 }

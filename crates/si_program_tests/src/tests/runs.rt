@@ -5,8 +5,9 @@ mod failures;
 mod gates;
 mod orders;
 mod sources;
+mod telling;
 
-use super::{Host, PLAIN, are_same, secret_key};
+use super::{Host, PLAIN, are_same, is_text, secret_key};
 use si_run::{ExitStatus, Gate, Options, RunFault, run, run_gated};
 use si_text::memory::{MemorySink, MemorySource};
 

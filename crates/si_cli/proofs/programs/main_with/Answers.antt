@@ -1,4 +1,4 @@
-use Rattle.std.proofs.Common.{inl, inr, refl}
+use Rattle.std.proofs.Common.{inr}
 use Rattle.si_cli.proofs.programs.main_with.Goals as goal
 
 pub returns-in-Ok : goal.returns-in-Ok

@@ -9,7 +9,9 @@ use Rattle.si_run.specs.Readings.{told}
 use Rattle.si_run.specs.Engines.{EngineState}
 use Rattle.si_run.specs.Takings.{IsDecided, IsUndone}
 use Rattle.std.specs.Io.KnownBytes.{Appends}
+use Rattle.si_run.specs.Telling.{ShowsNotes}
 use Rattle.si_run.proofs.Beginnings.{decided_one, end_decided, line_decided}
+use Rattle.si_run.proofs.Shown.{shows_none, shows_on}
 use Rattle.si_run.proofs.accepters.decide_all.Goals.{in-Line+in_ok-decide_line-in-Line, in-End}
 use Rattle.si_run.proofs.accepters.decide_all.Goals as goal
 
@@ -80,6 +82,10 @@ items-preserved g c =
     let before = c.items.accepter.taken in
     let taken = taken_is c.items.accepter c.take.new.self c.in-Some.field-0 c.in-Some.ensures.taken in
     let same : c.take.new.self ≡ record c.args.accepter.now { taken = c.take.new.self.taken } = search rules in
+    let heard = g.E.ByteSink.seen in
+    let shows = c.show.ensures.shows ∙ at.shows in
+    let shown = shows_on terms.shows (heard c.args.err.now) (heard c.items.err) (heard c.show.new.err) at.shown
+    (subst (λ b. ShowsNotes b (lent (heard c.items.err) (heard c.show.new.err))) at.shows c.show.ensures.shown) in
     elim c.match-what.branch [
       | in-Line+in_ok-decide_line-in-Line w ↦ (
           let line = sourced source w.in-Line.item in
@@ -99,6 +105,8 @@ items-preserved g c =
                 (item_text c.items.engine.terms p line) at.way adds text_is state);
             turns = (let t = at.turns in omega arith);
             works = ap (λ x. (seen x).failed) w.writer-is ∙ w.in_ok-decide_line-in-Line.ensures.works;
+            shows = shows;
+            shown = shown;
           }
           )
       | in-End w ↦ (
@@ -114,6 +122,8 @@ items-preserved g c =
                 (end_decided terms before (seen c.args.writer.now).written (seen c.items.writer).written p source at.way)));
             turns = (let t = at.turns in let d = ap (λ (e : EngineState). e.progress.decided) state in omega arith);
             works = ap (λ x. (seen x).failed) w.writer-is ∙ at.works;
+            shows = shows;
+            shown = shown;
           }
           )
     ]

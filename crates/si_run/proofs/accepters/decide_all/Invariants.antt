@@ -1,8 +1,10 @@
 use Rattle.std.proofs.Common.{◌≡◌, ◌≤◌, false}
+use Rattle.si_text.specs.Devices.{lent}
 use Rattle.si_run.specs.Takings.{IsDecided}
+use Rattle.si_run.specs.Telling.{ShowsNotes}
 use Rattle.si_run.proofs.accepters.decide_all.Given as goal
 
--- all that was taken is decided, and what is written for it was written
+-- all that was taken is decided, and what is written for it was written, and nothing but lines of progress was shown
 abbrev pub invariant-items : goal.invariant-items
 invariant-items g l =
     let seen = g.W.ByteSink.seen in
@@ -12,6 +14,8 @@ invariant-items g l =
       way : IsDecided l.fn.engine.terms l.accepter.taken (seen l.fn.writer).written (seen l.writer).written l.engine.progress;
       turns : l.engine.progress.decided ≤ l._turn;
       works : (seen l.writer).failed ≡ false;
+      shows : l.showing.shows ≡ l.fn.engine.terms.shows;
+      shown : ShowsNotes l.fn.engine.terms.shows (lent (g.E.ByteSink.seen l.fn.err) (g.E.ByteSink.seen l.err));
     }
 
 abbrev pub invariant-loop : goal.invariant-loop

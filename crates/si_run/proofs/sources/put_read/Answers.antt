@@ -1,9 +1,9 @@
 use Rattle.std.proofs.Common.{◌≡◌, ◌++◌, ◌∷◌, [], List, inl, inr, refl, ◌∙◌, ◌-◌, ◌^◌, ◌≤◌, ℕ, ap, sym, arith}
 use Rattle.si_intake.specs.Ends.{Putting}
 use Rattle.si_text.specs.Inputs.{Item}
-use Rattle.si_text.specs.LineBuffers.{bytes_to_come}
+use Rattle.si_text.specs.LineBuffers.{bytes_held, bytes_to_come}
 use Rattle.si_run.specs.Readings.{HasPut, told_item}
-use Rattle.si_run.proofs.Runnings.{CountsBytes-none, CountsBytes-then, begins, first_read, goes_on, many_items, spends, unended}
+use Rattle.si_run.proofs.Runnings.{CountsBytes-none, CountsBytes-then, Yields-none, begins, first_read, goes_on, many_items, spends, unended}
 use Rattle.si_run.proofs.sources.put_read.Goals as goal
 
 -- the item was put with the number of its source
@@ -48,13 +48,14 @@ pub returns : goal.returns
 returns g c =
     let left = (g.S.ByteSource.seen c.args.input.now).left in
     let at = c.items.invariant in
+    let now = (g.S.ByteSource.seen c.items.input).left in
     let to_come = bytes_to_come c.items.lines (g.S.ByteSource.seen c.items.input).left in
     let most : 2 ^ 64 - 1 ≤ c.items._turn = omega arith in (
       at.way.items,
       at.way.puts,
       (
-        first_read left c.items.lines.lines to_come c.args.end.now c.items.end c.items._turn at.way,
-        inr (many_items left c.items.lines.lines to_come c.args.end.now c.items.end c.items._turn at.way most),
+        first_read left now now c.items.lines.lines c.items.lines.lines (bytes_held c.items.lines) (bytes_held c.items.lines) c.args.end.now c.items.end c.items._turn at.way (Yields-none c.items.lines.lines to_come),
+        inr (many_items left now c.items.lines.lines (bytes_held c.items.lines) c.args.end.now c.items.end c.items._turn at.way most),
       ),
     )
 
@@ -68,7 +69,8 @@ returns-in-Err-DeviceFailed g c =
       at.way.items,
       at.way.puts,
       (
-        first_read (seen c.args.input.now).left c.items.lines.lines (bytes_to_come c.items.lines (seen c.items.input).left) c.args.end.now c.items.end c.items._turn at.way,
+        first_read (seen c.args.input.now).left (seen c.items.input).left (seen c.next_item.new.source).left c.items.lines.lines c.next_item.new.self.lines
+            (bytes_held c.items.lines) (bytes_held c.next_item.new.self) c.args.end.now c.items.end c.items._turn at.way c.in-Err-DeviceFailed.ensures.err,
         elim (told refl) [
           | inl failed ↦ inl failed
           | inr spent ↦ inr (spends at.counts.0 c.next_item.new.self (seen c.args.input.now).left (seen c.next_item.new.source).left at.counts.1 counts spent)

@@ -47,12 +47,12 @@ pub returns-in-Some-clause-had : goal.returns-in-Some-clause-had
 returns-in-Some-clause-had c = λ Q on.
     let there : get same_key c.args.states.now c.args.key.now ≡ Some c.in-Some.kept.now = search rules in
     let shown = subst (λ o. ShowsAt c.args.key.now o Q) there on in
-    told_before c.args.key.now c.in-Some.kept.now Q c.has_findings-had_findings.result c.left_on.result.had_findings shown c.has_findings-had_findings.ensures c.left_on.ensures.had
+    told_before c.args.key.now c.in-Some.kept.now Q c.has_findings-had_findings.result c.left_on.result.had_findings shown.0 shown.1 c.has_findings-had_findings.ensures c.left_on.ensures.had
 
 pub returns-in_ok-insert-in-Ok-clause-had : goal.returns-in_ok-insert-in-Ok-clause-had
 returns-in_ok-insert-in-Ok-clause-had c = λ Q on.
     let none : get same_key c.args.states.now c.args.key.now ≡ None = search rules in
     let bare = subst (λ o. ShowsAt c.args.key.now o Q) none on in
     let key : c.new-kept.result.key ≡ c.args.key.now = search rules in
-    told_before c.args.key.now c.new-kept.result Q c.has_findings-had_findings-2.result c.left_on-left.result.had_findings (key, c.new-kept.ensures.shows Q bare.0 bare.1)
+    told_before c.args.key.now c.new-kept.result Q c.has_findings-had_findings-2.result c.left_on-left.result.had_findings key (c.new-kept.ensures.shows Q bare.0 bare.1)
     c.has_findings-had_findings-2.ensures c.left_on-left.ensures.had

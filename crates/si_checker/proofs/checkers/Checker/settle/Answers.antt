@@ -21,3 +21,11 @@ returns-clause-empty g c =
     let exact = c.emptiness_is_exact.ensures (present J) (c.present_is_history.ensures J accepted) in
     let found = returns-clause-found g c in
     ((λ e. exact.0 (sym found ∙ e)), (λ w. found ∙ exact.1 w))
+
+pub returns-clause-snapshot : goal.returns-clause-snapshot
+returns-clause-snapshot g c =
+    let J = edits_of c.args.locked_book.now.journal in
+    let accepted : IsAccepted J = subst (λ (b : BookView). IsAccepted (edits_of b.journal)) c.loop-k.invariant.0 c.journal-accepted.ensures.accepted in
+    let exact = c.snapshots_are_clean.ensures (present J) (c.present_is_history.ensures J accepted) in
+    let found = returns-clause-found g c in
+    ((λ e. exact.0 (sym found ∙ e)), (λ w. found ∙ exact.1 w))

@@ -21,6 +21,7 @@ invariant_of-self c = λ s.
       journal = search rules;
       accepted = search rules;
       room = grind (arith, common_steps);
+      few = kept.few;
       parts = subst (λ j. All (IsBlockOf j) inside.blocks.items) grown (parts_longer old more inside.blocks.items kept.parts);
       rest = subst (λ j. IfSome inside.left (IsPartOf j)) grown (rest_longer old more inside.left kept.rest);
     }

@@ -37,7 +37,7 @@ returns-in_default-findings_of-clause-fault c =
     let all = subst (λ J. length J ≤ n) c.journal-journal.ensures.journal c.if-position-journal.false in
     subst IsSettled c.self.view_is (is_settled c.self.inside.book c.self.inside.shards.items c.self.invariant n least all whole)
 
-found_is : (c : goal.After-emptiness_is_exact) → c.in-Ok.found.items ≡ findings (present c.args.self.now.journal)
+found_is : (c : goal.After-snapshots_are_clean) → c.in-Ok.found.items ≡ findings (present c.args.self.now.journal)
 found_is c =
     let n = c.least_position-position.result in
     let book = c.self.inside.book in
@@ -56,6 +56,12 @@ pub returns-clause-empty : goal.returns-clause-empty
 returns-clause-empty c =
     let accepted = subst (λ (M : Machine). IsAccepted M.journal) c.self.view_is c.journal-journal.ensures.accepted in
     let exact = c.emptiness_is_exact.ensures (present c.args.self.now.journal) (present_history c.args.self.now.journal accepted) in
+    ((λ e. exact.0 (sym (found_is c) ∙ e)), (λ w. found_is c ∙ exact.1 w))
+
+pub returns-clause-snapshot : goal.returns-clause-snapshot
+returns-clause-snapshot c =
+    let accepted = subst (λ (M : Machine). IsAccepted M.journal) c.self.view_is c.journal-journal.ensures.accepted in
+    let exact = c.snapshots_are_clean.ensures (present c.args.self.now.journal) (present_history c.args.self.now.journal accepted) in
     ((λ e. exact.0 (sym (found_is c) ∙ e)), (λ w. found_is c ∙ exact.1 w))
 
 pub returns-clause-settled : goal.returns-clause-settled

@@ -1,0 +1,52 @@
+-- What the exit status says. These laws are this project's.
+use Rattle.std.specs.Prelude.{◌≡◌, ◌↔◌, ◌⊎◌, ℕ, ◌≤◌, true, List, [], ◌++◌, Option, Some, None, ⊤}
+use Rattle.std.specs.List.{Contains}
+use Rattle.si_model.specs.declared.transactions.Txn.{Txn}
+use Rattle.si_model.specs.declared.findings.Finding.{Finding}
+use Rattle.si_model.specs.Parts.{Present}
+use Rattle.si_model.specs.Findings.{findings}
+use Rattle.si_model.specs.Journals.{present}
+use Rattle.si_graph.specs.Snapshots.{IsSnapshot}
+use Rattle.si_accept.specs.Statuses.{committed_among, doubtful_among}
+use Rattle.si_text.specs.Texts.{is_violation}
+use Rattle.si_run.specs.declared.statuses.ExitStatus.{ExitStatus}
+use Rattle.si_run.specs.declared.statuses.ExitStatus.TheVariants as exit
+use Rattle.si_run.specs.Outputs.{SourcedItem, Terms, output_of, short_line, status_of}
+use Rattle.si_run.specs.Laws.{accepted_after, refused_among}
+
+-- what is present after the accepted lines
+abbrev pub present_after : Terms → List SourcedItem → Present
+present_after terms items = present (accepted_after terms.limit [] items)
+
+-- where so many are expected, so many of the transactions are committed, and none is in doubt
+abbrev pub IsEnough : Option ℕ → List Txn → Type 0
+IsEnough None txns = ⊤
+IsEnough (Some expected) txns = (expected ≤ committed_among txns) × (doubtful_among txns ≡ [])
+
+-- the status of these items is that of a clean run exactly where none of them is refused, what is present in the end is a snapshot history,
+-- and it is as much as was expected
+abbrev pub IsGate : Terms → List SourcedItem → ExitStatus → Type 0
+IsGate terms items status =
+    (status ≡ exit.Clean)
+    ↔ ((refused_among terms.limit [] items ≡ 0) × IsSnapshot (present_after terms items) × IsEnough terms.expected (present_after terms items).txns)
+
+abbrev pub GateIsExact : Type 0
+GateIsExact = (terms : Terms) (items : List SourcedItem) → IsGate terms items (status_of terms items)
+
+-- it is that of a violation exactly where one is found
+abbrev pub ViolationIsExact : Type 0
+ViolationIsExact = (terms : Terms) (items : List SourcedItem) →
+    (status_of terms items ≡ exit.Violation)
+    ↔ ((f : Finding) × Contains (findings (present_after terms items)) f × (is_violation f.kind ≡ true))
+
+-- the same without a number that is expected
+abbrev pub unasked : Terms → Terms
+unasked terms = record terms { expected = None }
+
+-- a number that is expected turns the status of a clean run alone, into that of an open one, and brings one line, if any, before the last one
+abbrev pub ExpectAdds : Type 0
+ExpectAdds = (terms : Terms) (items : List SourcedItem) →
+    ((status_of terms items ≡ status_of (unasked terms) items)
+    ⊎ ((status_of (unasked terms) items ≡ exit.Clean) × (status_of terms items ≡ exit.Open)))
+    × ((head last : List ℕ) × (output_of (unasked terms) items ≡ head ++ last)
+    × (output_of terms items ≡ head ++ (short_line terms.expected (present_after terms items).txns ++ last)))
