@@ -3,11 +3,11 @@ import argparse
 import os
 import signal
 import sys
-from typing import Iterable, Iterator, List, Optional
+from typing import Iterable, Iterator, List
 
 from .faults import CheckFailed
 from .places import Files
-from .reports import Report, reports_in
+from .reports import last_report_in
 
 NAME = "python3 -m sicheck"
 
@@ -19,7 +19,8 @@ def parser() -> argparse.ArgumentParser:
     commands = words.add_subparsers(dest="command", required=True, metavar="COMMAND")
     told = commands.add_parser("json", help="an answer as a line of JSON for each finding, refused line and summary",
                                description="Reads an answer on standard input, and writes a line of JSON for each finding, each refused line "
-                                           "and each summary, with the file and line of each transaction that they name where LOG is given.")
+                                           "and each summary, with the file and line of each transaction that they name where LOG is given. "
+                                           "Of a report on the way it writes what came and what is gone, of the last one everything.")
     told.add_argument("logs", metavar="LOG", nargs="*", help="the files of the log, in the order of the check")
     told.add_argument("--last", action="store_true", help="only the last report, and all refused lines")
     counted = commands.add_parser("count", help="how many findings an answer has by kind and key",
@@ -34,35 +35,26 @@ def parser() -> argparse.ArgumentParser:
 
 
 def print_all(lines: Iterable[str]) -> None:
+    """Writes the lines as they come."""
     for line in lines:
         sys.stdout.buffer.write((line + "\n").encode("utf-8"))
+        if '"is":"summary"' in line:
+            sys.stdout.flush()
     sys.stdout.flush()
 
 
 def as_json(logs: List[str], only_last: bool) -> Iterator[str]:
     """The answer on standard input as lines of JSON."""
-    from .telling import json_lines
-    files = Files(logs) if logs else None
-    before: Optional[Report] = None
-    number, refused = 0, 0
-    for report in reports_in(sys.stdin.buffer.read(), files):
-        if before is not None and not only_last:
-            yield from json_lines(number, before, refused, files, False)
-            refused = len(before.refusals)
-        before, number = report, number + 1
-    if before is not None:
-        yield from json_lines(number, before, refused, files, True)
+    from .telling import json_reports
+    return json_reports(sys.stdin.buffer, Files(logs) if logs else None, only_last)
 
 
 def counts(only_kinds: bool) -> Iterator[str]:
     """The counts of the answer on standard input."""
     from .telling import count_lines
-    last = None
-    for last in reports_in(sys.stdin.buffer.read()):
-        pass
-    if last is not None:
-        yield from count_lines(last, not only_kinds)
-        yield f"transactions={last.transactions} findings={last.found} refused={last.refused} verdict={last.verdict}"
+    last = last_report_in(sys.stdin.buffer)
+    yield from count_lines(last, not only_kinds)
+    yield f"transactions={last.transactions} findings={last.found} refused={last.refused} verdict={last.verdict}"
 
 
 def in_order(names: List[str]) -> None:

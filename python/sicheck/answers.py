@@ -91,11 +91,12 @@ class Answer(NamedTuple):
     shortage: Optional[Shortage] = None
 
 
-SUMMARY = re.compile(r"transactions=(\d+) findings=(\d+) refused=(\d+) verdict=(clean|open|violation)")
-SHORT = re.compile(r"short committed=(\d+) expected=(\d+) indoubt=(\d+)(?: ids=(\d+(?:,\d+)*))?")
+NUMBER = "[0-9]{1,20}"  # Python takes no more than 4,300 digits for a number
+SUMMARY = re.compile(f"transactions=({NUMBER}) findings=({NUMBER}) refused=({NUMBER}) verdict=(clean|open|violation)")
+SHORT = re.compile(f"short committed=({NUMBER}) expected=({NUMBER}) indoubt=({NUMBER})(?: ids=({NUMBER}(?:,{NUMBER})*))?")
 # What a report on the way says is there no more.
 GONE = "gone "
-REFUSAL = re.compile(r"refused source=(\d+) line=(\d+) code=(\d+) reason=(.+)")
+REFUSAL = re.compile(f"refused source=({NUMBER}) line=({NUMBER}) code=({NUMBER}) reason=(.+)")
 HEAD = re.compile(r"(\w+) key=")
 FIELD = re.compile(r" (\w+)=(\w+)")
 READER = json.JSONDecoder()

@@ -1,19 +1,26 @@
 """Runs the program over a log, and reads its reports."""
 import os
+import re
 import shutil
 import subprocess
 import tempfile
 import threading
 from pathlib import Path
-from typing import IO, Any, Iterable, Iterator, List, Optional, Sequence, Tuple, Union
+from typing import IO, Iterable, Iterator, List, Optional, Sequence, Tuple, Union
 
 from .faults import CheckFailed
 from .following import Line, Until, is_over, lines_of_caller, lines_of_files, lines_of_growing_files
 from .places import FedLines, Files
 from .reports import Report, ReportReader
+from .saying import Said, is_watched
 
 MOST_SOURCES = 8
 MOST_SAID = 2_000  # letters of what the program said of a fault
+NEVER_BUILD = "SICHECK_NEVER_BUILD"  # with this variable a checkout that isn't built says so, and begins no build
+TOLD = "SICHECK_TOLD"  # into the file that this variable names a checkout writes where it runs a program that isn't proved
+PROVED = "SICHECK_PROVED"  # with this variable a checkout runs only the proved program
+UNPROVED = "/out/unproved/sicheck"  # where a checkout has the one that isn't
+SOURCE = re.compile(r"(open|read) source ([0-9]{1,3})\b")
 
 OnePath = Union[str, "os.PathLike[str]"]
 Paths = Union[OnePath, Iterable[OnePath]]
@@ -33,38 +40,50 @@ def program_path(program: Optional[OnePath] = None) -> str:
     return found
 
 
+def _is_unproved(program: str) -> bool:
+    """Whether the program that is named is itself one that a checkout has built without its proof."""
+    return os.path.realpath(shutil.which(program) or program).endswith(UNPROVED)
+
+
 def check(paths: Paths = (), *, lines: Optional[Iterable[Line]] = None, every: Optional[int] = None, explain: bool = False,
-          expect: Optional[int] = None, shards: Optional[int] = None, program: Optional[OnePath] = None) -> Report:
+          expect: Optional[int] = 1, shards: Optional[int] = None, program: Optional[OnePath] = None,
+          progress: Optional[bool] = None) -> Report:
     """Judges a whole log, and returns the report of its end: `sicheck.check(paths).assert_passed()` in a test.
 
     The log is in files, of which there may be any number, or comes as `lines`: texts, bytes or objects. `explain` asks for the evidence of
-    each violation. With `expect` the run has to end with at least so many committed transactions and none in doubt; else the report has
-    `short`, and its status is 10. `every` has reports made on the way, which `watch` gives; here they only are read. Raises `CheckFailed`
-    where the check couldn't be made.
+    each violation. The run has to end with at least `expect` committed transactions and none in doubt: else the report has `short`, and
+    doesn't pass. So say how many your test has committed; without it one is enough, and a log that lost all others passes. `expect=0` asks
+    only that nothing is in doubt, and `expect=None` for nothing: then an empty log passes, and one that is all in doubt. `every` has reports
+    made on the way, which `watch` gives; here they only are read. `progress` has the program show on standard error how far it is; where it
+    isn't given, it does so if that is a terminal. Raises `CheckFailed` where the check couldn't be made.
     """
     last = None
-    for last in _reports(_names(paths), lines, None, every, explain, expect, False, shards, program, 0.0):
+    for last in _reports(_names(paths), lines, None, every, explain, expect, False, shards, program, 0.0, progress):
         pass
     assert last is not None  # or the reading of the answer would have raised
     return last
 
 
 def watch(paths: Paths = (), *, lines: Optional[Iterable[Line]] = None, until: Optional[Until] = None, every: int = 100,
-          explain: bool = False, expect: Optional[int] = None, new: bool = False, shards: Optional[int] = None,
-          program: Optional[OnePath] = None, pause: float = 0.1) -> Iterator[Report]:
+          explain: bool = False, expect: Optional[int] = 1, new: bool = False, shards: Optional[int] = None,
+          program: Optional[OnePath] = None, pause: float = 0.1, progress: Optional[bool] = None) -> Iterator[Report]:
     """Gives a report after each `every` lines, and one at the end, while a test runs:
 
         for report in sicheck.watch(logs, until=test):
             if report.verdict == "violation":
                 test.terminate()
                 break
+        report.assert_passed()
 
-    With `until` (a process, a thread, an event or a function that says that the test is over) the files are followed while they grow, and
-    needn't be there at first. Without it files are read to their end, and named pipes until nobody writes to them; of these at most 8. With
-    `new` the program tells in the reports on the way what is new alone, which costs less where much is found: their findings are then the
-    violations of that moment. Whoever leaves the loop ends the check.
+    With `until` (a process, a thread, an event or a function that says that the test is over, and that no client writes any more) the files
+    are followed while they grow, and needn't be there at first; one that isn't there at the end, or was replaced or emptied meanwhile, is a
+    `CheckFailed`. Without it files are read to their end, and named pipes until nobody writes to them; of these at most 8. Whoever leaves
+    the loop ends the check. The last report alone is one of the whole run, and `expect`, as `check` has it, speaks of that one: a report on
+    the way may be clean too early, or find `unknown` and `doubt` whose lines are still to come. Whether the test itself ended well is for
+    the caller to ask. With `new` the program tells less on the way: of the violations those that came and those that are gone, and how many
+    findings there are; the findings of such a report are the violations of that moment. `progress` is that of `check`.
     """
-    return _reports(_names(paths), lines, until, every, explain, expect, new, shards, program, pause)
+    return _reports(_names(paths), lines, until, every, explain, expect, new, shards, program, pause, progress)
 
 
 def _names(paths: Paths) -> List[str]:
@@ -74,13 +93,13 @@ def _names(paths: Paths) -> List[str]:
 
 
 def _words(program: str, names: Sequence[str], every: Optional[int], explain: bool, expect: Optional[int], new: bool,
-           shards: Optional[int]) -> List[str]:
+           shards: Optional[int], shows: bool) -> List[str]:
     """The command line. A name that begins like an option is made to be none."""
     words = [program, "check"]
     for option, value in (("--shards", shards), ("--every", every), ("--expect", expect)):
         if value is not None:
             words += [option, str(value)]
-    words += ["--new"] * new + ["--explain"] * explain
+    words += ["--new"] * new + ["--explain"] * explain + ["--progress"] * shows
     return words + [f"./{name}" if name.startswith("-") else name for name in names]
 
 
@@ -90,7 +109,7 @@ def _input_of(names: List[str], lines: Optional[Iterable[Line]], until: Optional
     if lines is not None:
         if names:
             raise TypeError("the log is in files or comes as lines, and not both")
-        return Files([]), [], lines_of_caller(lines)
+        return Files([], "lines"), [], lines_of_caller(lines)
     if not names:
         raise TypeError("name the files of the log, or give its lines")
     if until is not None:
@@ -133,20 +152,31 @@ class _Feeding(threading.Thread):
 
 
 def _reports(names: List[str], lines: Optional[Iterable[Line]], until: Optional[Until], every: Optional[int], explain: bool,
-             expect: Optional[int], new: bool, shards: Optional[int], program: Optional[OnePath], pause: float) -> Iterator[Report]:
+             expect: Optional[int], new: bool, shards: Optional[int], program: Optional[OnePath], pause: float,
+             progress: Optional[bool]) -> Iterator[Report]:
     stop = threading.Event()
     files, given, fed = _input_of(names, lines, until, pause, stop)
-    words = _words(program_path(program), given, every, explain, expect, new, shards)
-    with tempfile.TemporaryFile() as said:
+    shows = is_watched() if progress is None else progress
+    words = _words(program_path(program), given, every, explain, expect, new, shards, shows)
+    is_unproved = _is_unproved(words[0])
+    if is_unproved and os.environ.get(PROVED):
+        raise CheckFailed(f"{words[0]} isn't proved, and {PROVED} asks for the proved program")
+    with Said(shows) as said, tempfile.NamedTemporaryFile() as told:
         try:
-            run = subprocess.Popen(words, stdin=subprocess.PIPE if fed else subprocess.DEVNULL, stdout=subprocess.PIPE, stderr=said)
+            run = subprocess.Popen(words, stdin=subprocess.PIPE if fed else subprocess.DEVNULL, stdout=subprocess.PIPE, stderr=said.to,
+                                   env={**os.environ, NEVER_BUILD: "1", TOLD: told.name})
         except OSError as fault:
             raise CheckFailed(f"cannot run {words[0]}: {fault.strerror}") from None
+        finally:
+            said.begin()
         feeding = _Feeding(fed, run, run.stdin, stop) if fed is not None and run.stdin is not None else None
         try:
             if feeding:
                 feeding.start()
-            yield from _read(run, ReportReader(files), said)
+            for report in _read(run, ReportReader(files), given, said):
+                # (it is told before the program runs, and so before any report)
+                is_unproved = is_unproved or os.fstat(told.fileno()).st_size > 0
+                yield report._replace(proved=False) if is_unproved else report
         except CheckFailed:
             if feeding and feeding.fault is not None:
                 raise feeding.fault
@@ -162,7 +192,13 @@ def _reports(names: List[str], lines: Optional[Iterable[Line]], until: Optional[
                 run.stdout.close()
 
 
-def _read(run: "subprocess.Popen[bytes]", reader: ReportReader, said: Any) -> Iterator[Report]:
+def _told_by(said: Said, given: List[str]) -> str:
+    """What the program said of a fault, with the names of its sources."""
+    told = said.text().strip()[:MOST_SAID]
+    return SOURCE.sub(lambda it: f"{it[1]} {given[int(it[2])]}" if int(it[2]) < len(given) else it[0], told)
+
+
+def _read(run: "subprocess.Popen[bytes]", reader: ReportReader, given: List[str], said: Said) -> Iterator[Report]:
     """The reports as they come. The status has to be the one that the last report asks for."""
     last, fault = None, None
     assert run.stdout is not None
@@ -180,8 +216,7 @@ def _read(run: "subprocess.Popen[bytes]", reader: ReportReader, said: Any) -> It
     except subprocess.TimeoutExpired:
         status = 0
     if status not in (0, 10, 20):
-        said.seek(0)
-        told = said.read().decode("utf-8", "backslashreplace").strip()[:MOST_SAID]
+        told = _told_by(said, given)
         ended = f"ended with the status {status}" if status >= 0 else f"was ended by the signal {-status}"
         raise CheckFailed(f"the program {ended}: {told or 'it said nothing'}")
     if fault is not None:

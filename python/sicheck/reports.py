@@ -1,16 +1,15 @@
 """Reports of the checker as objects, read from its answer line by line."""
 import re
-from typing import Any, Dict, Iterable, Iterator, List, NamedTuple, Optional, Tuple, Union
+from typing import Dict, Iterable, Iterator, List, NamedTuple, Optional, Tuple, Union
 
 from . import answers
-from .answers import HEAD, KINDS, LATER, OVERLAP, OWN, finding_of, refusal_of, summary_of
-from .faults import CheckFailed, Undecided, Violation
+from .answers import GONE, HEAD, KINDS, LATER, NUMBER, OVERLAP, OWN, finding_of, refusal_of, shortage_of, summary_of
+from .failing import HOW_TO_PROVE, message_of
+from .faults import CheckFailed, Undecided, Unproved, Violation
 from .places import FilePlace, Files, Places
 
-SHORT = re.compile(r"short committed=(\d+) expected=(\d+) indoubt=(\d+)(?: ids=(\d+(?:,\d+)*))?")
-GONE = "gone "
 DETAIL = re.compile(r" (\w+)=(\S+)")
-MOST_TOLD = 10  # findings in the message of an error
+WHOLE_NUMBER = re.compile(NUMBER)
 
 
 class Finding:
@@ -144,22 +143,24 @@ class Report(NamedTuple):
     gone: Tuple[Finding, ...]
     """The findings that the report before had, and that are there no more."""
     short: Optional[Short] = None
+    proved: bool = True
+    """Whether the program is the proved one; False where a checkout ran what it builds before its proof. Of an answer that is read from
+    elsewhere it isn't known, and taken to be so."""
 
     @property
     def status(self) -> int:
         """The exit status of a run that ends so: 0, 10 or 20."""
-        if self.verdict == "violation":
-            return 20
-        return 10 if self.verdict == "open" or self.refused or self.short else 0
+        return status_of(self, self.short)
 
     @property
     def passed(self) -> bool:
-        """Whether the status is 0: nothing was found, and no line refused."""
+        """Whether the status is 0: nothing was found, no line refused, and the run isn't short of what was expected of it. By which program,
+        the status doesn't tell: `proved` does."""
         return self.status == 0
 
     def __bool__(self) -> bool:
-        """So that `assert report` doesn't pass a violation."""
-        return self.passed
+        """Whether `assert_passed()` returns, so that `assert report` passes no violation, and none that a proved program might find."""
+        return self.passed and self.proved
 
     @property
     def violations(self) -> Tuple[Finding, ...]:
@@ -167,7 +168,8 @@ class Report(NamedTuple):
 
     def since(self, earlier: "Report") -> Tuple[Tuple[Finding, ...], Tuple[Finding, ...]]:
         """What is new against another report, and what of that one is gone."""
-        return _difference(earlier.findings, self.findings)
+        had, has = set(earlier.findings), set(self.findings)
+        return tuple(it for it in self.findings if it not in had), tuple(it for it in earlier.findings if it not in has)
 
     def counts(self) -> Dict[str, Dict[str, int]]:
         """How many findings there are by kind, and of each kind by key."""
@@ -177,35 +179,40 @@ class Report(NamedTuple):
             by_key[finding.key] = by_key.get(finding.key, 0) + 1
         return counts
 
-    def assert_passed(self) -> "Report":
-        """Raises `Violation` or `Undecided`, which are failed assertions to a test, unless the status is 0. Returns the report."""
+    def assert_passed(self, *, unproved: bool = False) -> "Report":
+        """Raises `Violation` or `Undecided`, which are failed assertions to a test, unless the status is 0, and `Unproved` where the program
+        isn't the proved one, unless `unproved` takes its word. Returns the report."""
         if self.status == 20:
-            raise Violation(self._message("snapshot isolation is violated", self.violations), self)
+            raise Violation(message_of("snapshot isolation is violated", self, self.violations), self)
         if self.status == 10:
-            raise Undecided(self._message("not everything could be judged", self.findings), self)
+            raise Undecided(message_of("not everything could be judged", self, self.findings), self)
+        if not (self.proved or unproved):
+            raise Unproved(f"nothing was found, but this build of sicheck isn't proved: {HOW_TO_PROVE}; assert_passed(unproved=True) takes "
+                           "its word", self)
         return self
 
-    def _message(self, head: str, findings: Tuple[Finding, ...]) -> str:
-        totals = ", ".join(f"{sum(by_key.values())} {kind}" for kind, by_key in self.counts().items()) or "no findings"
-        lines = [f"{head}: {totals} in {self.transactions} transactions, {self.refused} lines refused"]
-        for finding in findings[:MOST_TOLD]:
-            where = ", ".join(str(place) for places in finding.places.values() for place in places)
-            lines.append(f"  {finding}" + (f"   ({where})" if where else ""))
-        lines += [f"  {refusal}" for refusal in self.refusals[:MOST_TOLD]]
-        if self.short:
-            lines.append(f"  {self.short.committed} committed, {self.short.expected} expected, in doubt {self.short.indoubt}"
-                         + (f": {', '.join(map(str, self.short.ids))}" if self.short.ids else ""))
-        return "\n".join(lines)
+
+def status_of(summary: Union[answers.Summary, Report], short: Optional[Short]) -> int:
+    """The exit status of a run whose last report says so."""
+    if summary.verdict == "violation":
+        return 20
+    return 10 if summary.verdict == "open" or summary.refused or short else 0
 
 
-def _order(finding: Finding) -> Any:
+class Told(NamedTuple):
+    """What one report tells, against the one before."""
+    summary: answers.Summary
+    findings: Tuple[Finding, ...]
+    """All that it tells: everything, or with `--new` on the way what came."""
+    new: Tuple[Finding, ...]
+    gone: Tuple[Finding, ...]
+    refusals: Tuple[Refusal, ...]
+    """The lines refused since the report before."""
+    short: Optional[Short]
+
+
+def _order(finding: Finding) -> Tuple[bytes, int, int, int]:
     return finding.told.order()
-
-
-def _difference(before: Iterable[Finding], now: Iterable[Finding]) -> Tuple[Tuple[Finding, ...], Tuple[Finding, ...]]:
-    before, now = list(before), list(now)
-    had, has = set(before), set(now)
-    return tuple(it for it in now if it not in had), tuple(it for it in before if it not in has)
 
 
 class ReportReader:
@@ -219,16 +226,29 @@ class ReportReader:
     def __init__(self, files: Optional[Files] = None) -> None:
         self._files = files
         self._refusals: List[Refusal] = []
+        self._refused_before = 0
         self._told: List[Finding] = []
         self._gone: List[Finding] = []
         self._short: Optional[Short] = None
-        self._standing: Tuple[Finding, ...] = ()
+        self._standing: Dict[Finding, Finding] = {}
         self._count = 0
         self._is_open = False  # whether lines came since the last report
         self._is_whole = True  # whether the last report told everything
 
     def take(self, line: str) -> Optional[Report]:
         """The next line of the answer, without its end. Returns the report that it ends."""
+        told = self.read(line)
+        return None if told is None else self.report(told)
+
+    def report(self, told: Told) -> Report:
+        """The report that tells this, as long as no other one was read behind it."""
+        findings = told.findings if self._is_whole else tuple(sorted(self._standing.values(), key=_order))
+        summary = told.summary
+        return Report(summary.verdict, summary.transactions, summary.findings, summary.refused, findings, tuple(self._refusals), told.new,
+                      told.gone, told.short)
+
+    def read(self, line: str) -> Optional[Told]:
+        """The same, but returns what the report tells alone, which costs nothing for what stands as it stood."""
         self._count += 1
         line = line[:-1] if line.endswith("\r") else line
         summary = summary_of(line)
@@ -267,7 +287,7 @@ class ReportReader:
     def _refusal(self, refusal: answers.Refusal) -> Refusal:
         word, _, rest = refusal.reason.partition(" ")
         details: Dict[str, Union[int, str]] = {
-            name: int(value) if value.isdigit() else value for name, value in DETAIL.findall(" " + rest)}
+            name: int(value) if WHOLE_NUMBER.fullmatch(value) else value for name, value in DETAIL.findall(" " + rest)}
         place = refusal.place
         where = self._files.place(*place) if self._files else FilePlace(f"source {place.source}", place.line)
         return Refusal(refusal.code, word, details, where)
@@ -278,46 +298,66 @@ class ReportReader:
         self._told[-1].evidence = line.strip()
 
     def _shortfall(self, line: str) -> Short:
-        parts = SHORT.fullmatch(line)
-        if parts is None:
+        told = shortage_of(line)
+        if told is None:
             raise self._fault("is none that `sicheck check` writes")
-        ids = tuple(map(int, parts[4].split(","))) if parts[4] else ()
-        return Short(int(parts[1]), int(parts[2]), int(parts[3]), ids)
+        return Short(told.committed, told.expected, told.in_doubt, tuple(told.ids))
 
-    def _report(self, summary: Any) -> Report:
-        told, gone = self._told, self._gone
-        self._is_whole = len(told) == summary.findings
+    def _report(self, summary: answers.Summary) -> Told:
+        findings, gone = tuple(self._told), tuple(self._gone)
+        was_whole, self._is_whole = self._is_whole, len(findings) == summary.findings
         if self._is_whole:
-            findings = tuple(told)
-            new, gone_now = _difference(self._standing, findings)
+            now = {it: it for it in findings}
+            new = tuple(it for it in findings if it not in self._standing)
+            gone = tuple(sorted((it for it in self._standing if it not in now), key=_order))
+            self._standing = now
         else:
-            left = set(gone)
-            findings = tuple(sorted((it for it in (*self._standing, *told) if it not in left), key=_order))
-            new, gone_now = tuple(told), tuple(gone)
-        self._check(summary, findings)
-        self._standing = tuple(it for it in findings if it.is_violation) if not self._is_whole else findings
-        self._told, self._gone, self._is_open = [], [], False
-        short, self._short = self._short, None
-        return Report(summary.verdict, summary.transactions, summary.findings, summary.refused, findings, tuple(self._refusals), new,
-                      gone_now, short)
+            new = findings
+            if was_whole:  # what isn't told on the way
+                self._standing = {it: it for it in self._standing if it.is_violation}
+            for it in gone:
+                self._standing.pop(it, None)
+            self._standing.update((it, it) for it in findings)
+        self._check(summary)
+        refusals, self._refused_before = tuple(self._refusals[self._refused_before:]), len(self._refusals)
+        told = Told(summary, findings, new, gone, refusals, self._short)
+        self._told, self._gone, self._short, self._is_open = [], [], None, False
+        return told
 
-    def _check(self, summary: Any, findings: Tuple[Finding, ...]) -> None:
+    def _check(self, summary: answers.Summary) -> None:
         """The summary counts what stands before it; an answer that lost lines doesn't keep this."""
-        is_violated = any(it.is_violation for it in findings)
+        standing = self._standing
+        is_violated = any(it.is_violation for it in standing) if self._is_whole else bool(standing)
         verdict = "violation" if is_violated else "open" if summary.findings else "clean"
-        if (summary.verdict, summary.refused) != (verdict, len(self._refusals)) or summary.findings < len(findings):
+        if (summary.verdict, summary.refused) != (verdict, len(self._refusals)) or summary.findings < len(standing):
             raise self._fault(f"counts findings={summary.findings} refused={summary.refused} verdict={summary.verdict}, and the lines "
-                              f"before it are {len(findings)} findings, {len(self._refusals)} refused, {verdict}: lines are missing")
+                              f"before it are {len(standing)} findings, {len(self._refusals)} refused, {verdict}: lines are missing")
 
 
-def reports_in(data: bytes, files: Optional[Files] = None) -> Iterator[Report]:
-    """The reports of a whole answer. Lines end at line feeds alone, since keys may hold characters at which others would part them."""
+def lines_in(answer: Iterable[bytes]) -> Iterator[str]:
+    """The lines of an answer as texts without their ends. They end at line feeds alone, since keys may hold characters at which others
+    would part them."""
+    for line in answer:
+        try:
+            yield (line[:-1] if line.endswith(b"\n") else line).decode("utf-8")
+        except UnicodeDecodeError:
+            raise CheckFailed("the answer isn't UTF-8") from None
+
+
+def last_report_in(answer: Iterable[bytes]) -> Report:
+    """The last report of an answer."""
+    reader, last = ReportReader(), None
+    for line in lines_in(answer):
+        last = reader.read(line) or last
+    reader.end()
+    assert last is not None  # or its end would have raised
+    return reader.report(last)
+
+
+def reports_in(answer: Iterable[bytes], files: Optional[Files] = None) -> Iterator[Report]:
+    """The reports of an answer, of which the lines come one by one."""
     reader = ReportReader(files)
-    try:
-        text = data.decode("utf-8")
-    except UnicodeDecodeError:
-        raise CheckFailed("the answer isn't UTF-8") from None
-    for line in (text[:-1] if text.endswith("\n") else text).split("\n") if text else []:
+    for line in lines_in(answer):
         report = reader.take(line)
         if report is not None:
             yield report

@@ -1,26 +1,43 @@
 """An answer as lines of JSON, and its counts."""
 import json
-from typing import Any, Dict, Iterator, List, Optional
+from typing import Any, Dict, Iterable, Iterator, List, Optional
 
 from .places import Files
-from .reports import Finding, Refusal, Report, Short
+from .reports import Finding, Refusal, Report, ReportReader, Short, Told, lines_in, status_of
 
 
-def json_lines(number: int, report: Report, refused_before: int, files: Optional[Files], is_last: bool) -> Iterator[str]:
-    """A line of JSON for each refusal that came since the report before, each finding, what is short, and the summary."""
+def json_reports(answer: Iterable[bytes], files: Optional[Files], only_last: bool) -> Iterator[str]:
+    """An answer as lines of JSON. A report on the way is told by what came since the one before and what is gone, and the last one by
+    everything. It is told once the line behind it is there, or none: before, nobody knows whether it is the last."""
+    reader = ReportReader(files)
+    told, number, refusals = None, 0, []
+    for line in lines_in(answer):
+        if told is not None and not only_last:
+            yield from json_lines(number, told, told.new, told.refusals, files, False)
+        told = reader.read(line)
+        if told is not None:
+            number += 1
+            last = told
+            refusals += told.refusals
+    reader.end()
+    yield from json_lines(number, last, last.findings, refusals if only_last else last.refusals, files, True)
+
+
+def json_lines(number: int, told: Told, findings: Iterable[Finding], refusals: Iterable[Refusal], files: Optional[Files],
+               is_last: bool) -> Iterator[str]:
+    """The lines of one report: of each refusal, each of the findings, each that is gone, what is short, and the summary."""
     head = {"report": number}
-    for refusal in report.refusals[refused_before:]:
+    for refusal in refusals:
         yield _text({"is": "refusal", **head, **_refusal(refusal)})
-    if files:
-        files.places_of({number for finding in report.findings for number in finding.ids})
-    for finding in report.findings:
+    for finding in findings:
         yield _text({"is": "finding", **head, **_finding(finding, files)})
-    for finding in report.gone if number > 1 else ():
+    for finding in told.gone:
         yield _text({"is": "gone", **head, **_finding(finding, files)})
-    if report.short:
-        yield _text({"is": "short", **head, **_short(report.short)})
-    yield _text({"is": "summary", **head, "last": is_last, "transactions": report.transactions, "findings": report.found,
-                 "refused": report.refused, "verdict": report.verdict, "status": report.status})
+    if told.short:
+        yield _text({"is": "short", **head, **_short(told.short)})
+    summary = told.summary
+    yield _text({"is": "summary", **head, "last": is_last, "transactions": summary.transactions, "findings": summary.findings,
+                 "refused": summary.refused, "verdict": summary.verdict, "status": status_of(summary, told.short)})
 
 
 def _text(line: Dict[str, Any]) -> str:

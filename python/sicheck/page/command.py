@@ -97,7 +97,7 @@ def main(words, name=None):
 
 def complain(words):
     """Says it on standard error, where a key of the log may not change how a terminal shows it either."""
-    sys.stderr.write(f"findings_page: {with_escapes(words)}\n")
+    sys.stderr.write(f"sicheck page: {with_escapes(words)}\n")
 
 
 def fail(words):

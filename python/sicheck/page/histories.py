@@ -154,9 +154,22 @@ def step(current, edit):
     return (arrival, edit) if arrival.status == IN_DOUBT and resolved is None else False
 
 
+def ending(part):
+    """All that may be present of an id after the edits of one source, whose order is known: one record or None, or nothing where an edit
+    can't be accepted."""
+    current = None
+    for edit in part:
+        current = step(current, edit)
+        if current is False:
+            return []
+    return [current]
+
+
 def endings(parts):
     """All that may be present of an id after the edits of its parts, one part a source, in some order in which each edit
     can be accepted."""
+    if len(parts) == 1:
+        return ending(parts[0])
     start = (0,) * len(parts), None
     seen, waiting, ends = {start}, [start], []
     while waiting:
@@ -186,14 +199,20 @@ def end_of(number, parts):
     return candidates[0]
 
 
-def add_ghosts(history, edits, record):
-    """The arrivals of one id that aren't present, each with the withdrawals that may have taken it."""
+def add_ghosts(history, parts, record):
+    """The arrivals of one id that aren't present, each with the withdrawal that took it: the next one in its source, or where there is none
+    those that may have."""
     kept = {one.arrival.place for one in (record, *record.rivals)} if record else set()
-    withdrawals = tuple(edit for edit in edits if type(edit) is Withdrawal)
-    for edit in edits:
-        if type(edit) is Arrival and edit.place not in kept:
-            after = [other for other in withdrawals if other.place.source == edit.place.source and other.place > edit.place]
-            history.ghosts.append(Ghost(edit, tuple(after[:1]) or withdrawals, None))
+    withdrawals = tuple(edit for part in parts for edit in part if type(edit) is Withdrawal)
+    ghosts = []
+    for part in parts:
+        after = ()
+        for edit in reversed(part):
+            if type(edit) is Withdrawal:
+                after = edit,
+            elif type(edit) is Arrival and edit.place not in kept:
+                ghosts.append(Ghost(edit, after or withdrawals, None))
+    history.ghosts += sorted(ghosts, key=lambda ghost: ghost.arrival.place)
 
 
 def history_of(sources, refusals):
@@ -207,7 +226,7 @@ def history_of(sources, refusals):
         record = end_of(number, parts)
         if record:
             history.records[number] = record
-        add_ghosts(history, [edit for part in parts for edit in part], record)
+        add_ghosts(history, parts, record)
     for line in history.refused:
         if type(line.edit) is Arrival:
             history.ghosts.append(Ghost(line.edit, (), line.refusal))

@@ -1,5 +1,6 @@
 """For tests: a database in memory with snapshots, and clients that work on it by chance and log what they do."""
 import random
+import sqlite3
 import threading
 import time
 
@@ -34,6 +35,36 @@ class Database:
             for key, value in writes.items():
                 self.versions.setdefault(key, []).append((self.last, value))
             return self.last
+
+
+class StoredDatabase:
+    """The same in a file, and without a fault: what is committed outlives a client that is killed."""
+
+    def __init__(self, path):
+        self.rows = sqlite3.connect(path, isolation_level=None, timeout=60)
+        self.rows.execute("CREATE TABLE IF NOT EXISTS versions(key TEXT, number INTEGER, value INTEGER, writer INTEGER)")
+
+    def one(self, query, *values):
+        row = self.rows.execute(query, values).fetchone()
+        return row[0] if row else None
+
+    def begin(self):
+        return self.one("SELECT coalesce(max(number), 0) FROM versions")
+
+    def read(self, key, snapshot):
+        return self.one("SELECT value FROM versions WHERE key = ? AND number <= ? ORDER BY number DESC LIMIT 1", key, snapshot)
+
+    def commit(self, writes, snapshot, writer):
+        """The number of the commit; nobody else writes at the same time."""
+        self.rows.execute("BEGIN IMMEDIATE")
+        number = self.begin() + 1
+        self.rows.executemany("INSERT INTO versions VALUES (?, ?, ?, ?)", [(key, number, value, writer) for key, value in writes.items()])
+        self.rows.execute("COMMIT")
+        return number
+
+    def commit_of(self, writer):
+        """The number of the commit of the transaction, or None where it didn't commit."""
+        return self.one("SELECT number FROM versions WHERE writer = ?", writer)
 
 
 def run_client(database, log, seed, transactions, keys=4, pause=0.0):
@@ -90,13 +121,34 @@ def run_clients(database, logs, transactions, keys=4, pause=0.0):
         thread.join()
 
 
+class Logs(list):
+    """Logs that are closed together."""
+
+    def close(self):
+        for log in self:
+            log.close()
+
+    def __enter__(self):
+        return self
+
+    def __exit__(self, *_):
+        self.close()
+
+
 def logs_in(folder, count, **options):
-    return [sicheck.Log(f"{folder}/client-{number}.jsonl", client=number, **options) for number in range(1, count + 1)]
+    return Logs(sicheck.Log(f"{folder}/client-{number}.jsonl", client=number, **options) for number in range(1, count + 1))
 
 
 def stamp_by_rows(database, logs, transactions):
     """Clients of a database that tells no stamps: each has a row, to which its writers write their ids. They log after the run."""
     told = []  # triples of a transaction, the rows that its snapshot has, and whether it committed
+    sent = {}  # by transaction: its place in the order of commits
+    committing = threading.Lock()  # in the place of the locks that a writer holds on what it wrote, when it draws its place
+
+    def end(txn, writes, snapshot):
+        with committing:
+            sent[txn.id] = len(sent)
+            return database.commit(writes, snapshot) is not None
 
     def run(log):
         chance = random.Random(log.client)
@@ -108,18 +160,19 @@ def stamp_by_rows(database, logs, transactions):
                 work(database, txn, snapshot, writes, chance, 2)
             if writes:
                 writes[f"row/{log.client}"] = txn.id
-            told.append((txn, rows, not writes or database.commit(writes, snapshot) is not None))
+            told.append((txn, rows, not writes or end(txn, writes, snapshot)))
     threads = [threading.Thread(target=run, args=(log,)) for log in logs]
     for thread in threads:
         thread.start()
     for thread in threads:
         thread.join()
-    starts, commits = sicheck.numbers_by_snapshots(
-        {txn: lambda writer, rows=rows: rows[sicheck.client_of(writer)] >= writer for txn, rows, _ in told},
-        [txn.id for txn, _, is_committed in told if is_committed and txn.has_written])
+    writers = [txn.id for txn, _, is_committed in told if is_committed and txn.has_written]
+    starts, commits, forks = sicheck.numbers_by_snapshots(
+        {txn: lambda writer, rows=rows: rows[sicheck.client_of(writer)] >= writer for txn, rows, _ in told}, sorted(writers, key=sent.get))
     for txn, _, is_committed in told:
         txn.start = starts[txn]
         if is_committed:
             txn.commit(commits.get(txn.id))
         else:
             txn.abort()
+    return forks

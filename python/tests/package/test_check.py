@@ -13,7 +13,7 @@ from pathlib import Path
 
 import sicheck
 from sicheck import CheckFailed, FilePlace, Violation
-from small_database import Database, logs_in, run_client, run_clients, stamp_by_rows
+from small_database import Database, Logs, logs_in, run_client, run_clients
 
 TOP = Path(__file__).resolve().parents[3]
 
@@ -26,8 +26,7 @@ class FolderTest(unittest.TestCase):
 
     def logs(self, count, **options):
         logs = logs_in(self.folder, count, **options)
-        for log in logs:
-            self.addCleanup(log.close)
+        self.addCleanup(logs.close)
         return logs
 
     def paths(self, count):
@@ -73,6 +72,8 @@ class Checks(FolderTest):
         report = sicheck.check(lines=[line, json.dumps({**line, "id": 2}), (json.dumps({**line, "id": 3}) + "\n").encode()])
         self.assertEqual((report.transactions, report.status), (3, 0))
         self.assertEqual(sicheck.check(lines=[]).transactions, 0)
+        refusal, = sicheck.check(lines=[line, "[]"]).refusals
+        self.assertEqual(refusal.place, FilePlace("lines", 2))
 
     def test_lines_that_fail(self):
         def broken():
@@ -90,8 +91,11 @@ class Checks(FolderTest):
 
     def test_what_cannot_be_checked(self):
         missing = os.path.join(self.folder, "missing")
-        for call, words in ((lambda: sicheck.check(missing), "cannot open source 0"),
-                            (lambda: sicheck.check(self.folder), "cannot read source 0"),
+        sample = str(TOP / "samples" / "set_up.jsonl")
+        for call, words in ((lambda: sicheck.check(missing), f"cannot open {missing}$"),
+                            (lambda: sicheck.check([sample, self.folder]), f"cannot read {self.folder}$"),
+                            (lambda: sicheck.check([sample] * 8 + [missing]), f"cannot read {missing}: No such file"),
+                            (lambda: list(sicheck.watch(self.folder, until=lambda: True)), f"cannot read {self.folder}: Is a directory"),
                             (lambda: sicheck.check(missing, shards=17), "--shards"),
                             (lambda: sicheck.check(missing, program=missing), "cannot run .*: No such file"),
                             (lambda: sicheck.check(missing, program="/bin/true"), "no report at its end"),
@@ -127,8 +131,7 @@ class Clients(FolderTest):
 
     def test_healthy(self):
         for seed in range(3):
-            with self.subTest(seed), tempfile.TemporaryDirectory() as folder:
-                logs = logs_in(folder, 8)
+            with self.subTest(seed), tempfile.TemporaryDirectory() as folder, logs_in(folder, 8) as logs:
                 run_clients(Database(), logs, 60, keys=3 + seed, pause=0.0005)
                 report = sicheck.check([f"{folder}/client-{number}.jsonl" for number in range(1, 9)]).assert_passed()
                 self.assertGreater(report.transactions, 480)  # with the rolled-back parts
@@ -145,6 +148,41 @@ class Clients(FolderTest):
         self.assertEqual((report.verdict, report.refused), ("violation", 0))
         self.assertIn("future", report.counts())
 
+    def test_two_runs_on_one_database(self):
+        """The second one sets up what the first one left, under client numbers of its own. Under the same ones its logs have to go on, or
+        values come twice."""
+        database = Database()
+        for first in (1, 5):
+            logs = Logs(sicheck.Log(f"{self.folder}/client-{number}.jsonl", client=number) for number in range(first, first + 4))
+            with logs:
+                for key, versions in sorted(database.versions.items()):
+                    logs[0].set_up(key, versions[-1][1])
+                run_clients(database, logs, 40, pause=0.0002)
+            sicheck.check([f"{self.folder}/client-{log.client}.jsonl" for log in logs], expect=40).assert_passed()
+        with Logs(sicheck.Log(f"{self.folder}/client-{number}.jsonl", client=number, resume=True) for number in range(5, 9)) as logs:
+            run_clients(database, logs, 40, pause=0.0002)
+        sicheck.check([f"{self.folder}/client-{number}.jsonl" for number in range(5, 9)], expect=40).assert_passed()
+
+    def test_an_answer_that_is_lost(self):
+        """The database commits, and the client hears nothing: an error of the system leaves a doubt, and so does any once that was said."""
+        for fault, is_said in ((ConnectionError, False), (TimeoutError, False), (RuntimeError, True)):
+            with self.subTest(fault), tempfile.TemporaryDirectory() as folder, logs_in(folder, 2) as (first, second):
+                database = Database()
+                with self.assertRaises(fault), first.transaction(database.begin()) as txn:
+                    writes = {"x": txn.write("x")}
+                    if is_said:
+                        txn.in_doubt()
+                    database.commit(writes, 0)
+                    raise fault
+                with second.transaction(database.begin()) as txn:
+                    txn.read("x", database.read("x", 1))
+                    txn.commit()
+                paths = [f"{folder}/client-{number}.jsonl" for number in (1, 2)]
+                report = sicheck.check(paths)
+                self.assertEqual((report.status, report.counts(), report.short.indoubt), (10, {"doubt": {"x": 1}}, 1))
+                first.resolve(first.doubts[0], commit=1)
+                sicheck.check(paths, expect=2).assert_passed()
+
     def test_in_commit_order(self):
         """One client at a time is its own serial run, judged by the numbers of its commits alone."""
         log = sicheck.Log(f"{self.folder}/log", client=1, stamps=sicheck.COMMIT_ORDER)
@@ -153,21 +191,21 @@ class Clients(FolderTest):
         report = sicheck.check(f"{self.folder}/log").assert_passed()
         self.assertGreater(report.transactions, 200)
 
-    def test_numbers_by_snapshots(self):
-        """No stamps but a row for each client: healthy it is clean, and lost updates are found."""
-        for fault, verdict in ((None, "clean"), ("lost", "violation")):
-            with tempfile.TemporaryDirectory() as folder:
-                logs = logs_in(folder, 4)
-                stamp_by_rows(Database(fault), logs, 60)
-                report = sicheck.check([f"{folder}/client-{number}.jsonl" for number in range(1, 5)])
-                self.assertEqual((report.verdict, report.refused, report.transactions), (verdict, 0, 240))
-                self.assertLessEqual(set(report.counts()), {"overlap"})
-
-    def test_numbers_by_snapshots_by_hand(self):
-        """7 is seen before 5, which is seen before 6; 8 is seen by nobody. One who sees nothing starts at 0."""
-        snapshots = {"a": [], "b": [7], "c": [7, 5], "d": [5, 6, 7]}
-        starts, commits = sicheck.numbers_by_snapshots({name: seen.__contains__ for name, seen in snapshots.items()}, [5, 6, 7, 8])
-        self.assertEqual((starts, commits), ({"a": 0, "b": 1, "c": 2, "d": 3}, {7: 1, 5: 2, 6: 3, 8: 4}))
+    def test_reads_of_a_part_that_is_rolled_back(self):
+        """They are judged as the transaction's, but for those of what the part itself wrote."""
+        log, = self.logs(1)
+        with log.transaction(0) as txn:
+            txn.write("x")
+            txn.commit(1)
+        with log.transaction(1) as txn:
+            with txn.savepoint() as part:
+                part.read("x", None)
+                part.read("y", part.write("y"))
+                part.roll_back()
+            txn.commit()
+        report = sicheck.check(self.paths(1))
+        self.assertEqual([str(finding) for finding in report.findings], ['stale key="x" txn=1000002 op=0 read=initial missed=1000001'])
+        self.assertEqual(report.transactions, 3)
 
     def test_eight_threads_on_one_log(self):
         log, = self.logs(1)
@@ -175,13 +213,14 @@ class Clients(FolderTest):
         self.check_whole(sicheck.check(self.paths(1)), 800)
 
     def test_eight_logs_on_one_file(self):
-        logs = [sicheck.Log(f"{self.folder}/all", client=number) for number in range(1, 9)]
+        logs = Logs(sicheck.Log(f"{self.folder}/all", client=number) for number in range(1, 9))
+        self.addCleanup(logs.close)
         run_clients(Database(), logs, 100, pause=0.0002)
         self.check_whole(sicheck.check(f"{self.folder}/all"), 800)
 
     def test_eight_threads_on_one_open_file(self):
-        with open(f"{self.folder}/all", "w", encoding="utf-8") as file:
-            run_clients(Database(), [sicheck.Log(file, client=number) for number in range(1, 9)], 100)
+        with open(f"{self.folder}/all", "w", encoding="utf-8") as file, Logs(sicheck.Log(file, client=n) for n in range(1, 9)) as logs:
+            run_clients(Database(), logs, 100)
         self.check_whole(sicheck.check(f"{self.folder}/all"), 800)
 
     def test_eight_processes_on_one_pipe(self):
@@ -226,7 +265,7 @@ class Watching(FolderTest):
     def test_growing_files(self):
         """The files come, grow and end while they are followed; the last report is that of the whole log."""
         database = Database()
-        test = threading.Thread(target=lambda: run_clients(database, logs_in(self.folder, 3), 60, pause=0.002))
+        test = threading.Thread(target=lambda: run_clients(database, self.logs(3), 60, pause=0.002))
         reports = sicheck.watch(self.paths(3), until=test, every=20, pause=0.01)
         test.start()
         told = list(reports)
@@ -262,14 +301,47 @@ class Watching(FolderTest):
         reports.close()
         self.assertLess(time.monotonic() - begin, 20)
 
+    def test_a_file_that_never_comes(self):
+        """Its client may have logged elsewhere, so what the others did isn't the whole run."""
+        path = self.write("log", '{"do":"txn","id":1,"start":2,"status":"committed","commit":3,"ops":[]}\n')
+        missing = f"{self.folder}/missing"
+        with self.assertRaisesRegex(CheckFailed, f"cannot read {missing}: No such file"):
+            list(sicheck.watch([path, missing], until=lambda: True))
+
+    def test_lines_longer_than_one_read(self):
+        """What stands behind them is read too, where the test is over already."""
+        ops = ",".join(f'["r","{"k" * 126}{n % 10}",null]' for n in range(4096))
+        line = f'{{"do":"txn","id":%d,"start":2,"status":"committed","commit":2,"ops":[{ops}],"note":"{"x" * 460_000}"}}\n'
+        self.assertGreater(len(line), 1_000_000)
+        path = self.write("log", "".join(line % number for number in range(3)) + "[" * 3_000_000 + "\n" + line % 4)
+        *_, last = sicheck.watch(path, until=lambda: True, pause=0.01, expect=4)
+        self.assertEqual((last.transactions, [it.reason for it in last.refusals], last.short), (4, ["too-long"], None))
+
+    def test_followed_file_that_begins_anew(self):
+        """A test that clears its logs, when they are followed already, isn't judged by those of the run before it."""
+        line = '{"do":"txn","id":%d,"start":2,"status":"committed","commit":3,"ops":[["w","x",%d]]}\n'
+        for clear in (os.remove, lambda path: open(path, "w").close()):
+            path = self.write("log", line % (1, 1))
+            over = threading.Event()
+            reports = sicheck.watch(path, until=over, every=1, pause=0.01)
+            self.assertEqual(next(reports).transactions, 1)
+            clear(path)
+            self.write("log", line % (2, 2))
+            over.set()
+            with self.assertRaisesRegex(CheckFailed, "log was replaced, removed or cut off while it was followed"):
+                list(reports)
+
     def test_until(self):
         event = threading.Event()
         event.set()
         path = self.write("log", '{"do":"withdraw","id":1}')
-        for until in (event, lambda: True, threading.Thread(), subprocess.Popen(["true"])):
+        thread = threading.Thread(target=lambda: None)
+        threading.Timer(0.2, thread.start).start()  # before it has begun it isn't over
+        for until in (event, lambda: True, thread, subprocess.Popen(["true"])):
             self.assertEqual(list(sicheck.watch(path, until=until, pause=0.01))[-1].refused, 1)
             if isinstance(until, subprocess.Popen):
                 until.wait()
+        self.assertIsNotNone(thread.ident)
         with self.assertRaises(TypeError):
             list(sicheck.watch(path, until=3))
         os.mkfifo(f"{self.folder}/pipe")
@@ -332,13 +404,13 @@ from test_check import work_on
 database, path, count, how = sys.argv[2], sys.argv[3], int(sys.argv[4]), sys.argv[5]
 written = 0
 write = sicheck.writing.LineWriter._write_all
-def dying(self, line):
+def dying(self, text, before):
     global written
     written += 1
     if written <= count:
-        return write(self, line)
+        return write(self, text, before)
     if how != "before":
-        write(self, line if how == "after" else line[:len(line) // 2])
+        write(self, text if how == "after" else text[:len(text) // 2], before)
     os.kill(os.getpid(), signal.SIGKILL)
 sicheck.writing.LineWriter._write_all = dying
 with sicheck.Log(path, client=1) as log:

@@ -58,6 +58,54 @@ class Commands(unittest.TestCase):
         last = [json.loads(line) for line in run("json", "--last", given=given).stdout.splitlines()]
         self.assertEqual([it["is"] for it in last], ["refusal", "finding", "finding", "gone", "gone", "summary"])
 
+    def test_json_of_what_is_new(self):
+        """On the way a line tells what came and what is gone; the last report tells everything. Added up both are the same."""
+        lost = ['overlap key="x" first=%d second=%d\n' % (n, n + 1) for n in range(3)]
+        total = "transactions=4 findings=%d refused=0 verdict=violation\n"
+        given = lost[0] + total % 1 + lost[2] + total % 2 + "gone " + lost[0] + lost[1] + total % 2 + lost[1] + lost[2] + total % 2
+        told = [json.loads(line) for line in run("json", given=given.encode()).stdout.splitlines()]
+        self.assertEqual([(it["is"], it["report"], it.get("first")) for it in told], [
+            ("finding", 1, 0), ("summary", 1, None), ("finding", 2, 2), ("summary", 2, None), ("finding", 3, 1), ("gone", 3, 0),
+            ("summary", 3, None), ("finding", 4, 1), ("finding", 4, 2), ("summary", 4, None)])
+        self.assertEqual([it["last"] for it in told if it["is"] == "summary"], [False, False, False, True])
+
+    def test_json_as_it_comes(self):
+        """A report is told once the line behind it is there, while the answer goes on."""
+        lost, total = b'overlap key="x" first=1 second=2\n', b"transactions=2 findings=1 refused=0 verdict=violation\n"
+        with subprocess.Popen([sys.executable, "-m", "sicheck", "json"], stdin=subprocess.PIPE, stdout=subprocess.PIPE,
+                              env={**os.environ, "PYTHONPATH": str(PYTHON)}) as telling:
+            telling.stdin.write(lost + total + total)
+            telling.stdin.flush()
+            told = [json.loads(telling.stdout.readline())["is"] for _ in range(2)]
+            self.assertEqual(told, ["finding", "summary"])
+            rest = telling.communicate(lost + total)[0]
+        self.assertEqual(rest.count(b"\n"), 3)
+
+    def test_json_of_many_reports(self):
+        """Twice as many reports, of which each tells a finding more, take at most 2.5 times as long and as much room; the log is read once."""
+        sizes, times = [], []
+        with tempfile.TemporaryDirectory() as folder:
+            for count in (1_000, 2_000):
+                log, answer, found = f"{folder}/log", [], []
+                with open(log, "w", encoding="utf-8") as file:
+                    for n in range(count + 1):
+                        file.write(f'{{"do":"txn","id":{n},"start":0,"status":"committed","commit":{2 * n + 1},"ops":[["w","x",{n}]]}}\n')
+                for n in range(count):
+                    found.append(f'overlap key="x" first={n} second={n + 1}\n')
+                    answer += [found[-1], f"transactions={n + 2} findings={n + 1} refused=0 verdict=violation\n"]
+                answer += [*found, f"transactions={count + 1} findings={count} refused=0 verdict=violation\n"]
+                begin = os.times()
+                done = run("json", log, given="".join(answer).encode())
+                end = os.times()
+                self.assertEqual((done.returncode, done.stdout.count(b"\n")), (0, 3 * count + 1))
+                self.assertEqual(json.loads(done.stdout.splitlines()[2])["places"],
+                                 [{"id": 1, "file": log, "line": 2}, {"id": 2, "file": log, "line": 3}])
+                self.assertEqual(run("count", given="".join(answer).encode()).stdout.splitlines()[0], b"%d overlap" % count)
+                sizes.append(len(done.stdout))
+                times.append(end.children_user + end.children_system - begin.children_user - begin.children_system)
+        self.assertLess(sizes[1], 2.5 * sizes[0])
+        self.assertLess(times[1], 2.5 * times[0])
+
     def test_json_of_what_is_short(self):
         told = run("json", given=b"short committed=1 expected=2 indoubt=1 ids=7\ntransactions=2 findings=0 refused=0 verdict=clean\n")
         self.assertEqual(json.loads(told.stdout.splitlines()[0]), {
@@ -89,9 +137,7 @@ class Commands(unittest.TestCase):
 
     def test_page(self):
         done = run("page", "samples/stale_read.jsonl", "--answer", "samples/stale_read.out")
-        old = subprocess.run([sys.executable, "view/findings_page.py", "samples/stale_read.jsonl", "--answer", "samples/stale_read.out"],
-                             capture_output=True, cwd=TOP, check=False)
-        self.assertEqual((done.returncode, done.stdout), (0, old.stdout))
+        self.assertEqual(done.returncode, 0)
         self.assertIn(b"<article id=\"stale-x-3-0\"", done.stdout)
 
     def test_faults(self):

@@ -19,8 +19,10 @@ class LogTest(unittest.TestCase):
     def setUp(self):
         self.file = io.BytesIO()
         self.log = sicheck.Log(self.file, client=3)
+        self.addCleanup(lambda: self.log.close())
 
     def ordered(self, stamps):
+        self.log.close()
         self.log = sicheck.Log(self.file, client=3, stamps=stamps)
         return self.log
 
@@ -279,7 +281,7 @@ class Forbidden(LogTest):
         self.check_forbids("is over", txn.read, "x", 1)
         self.check_forbids("isn't in doubt", self.log.resolve, txn, commit=3)
         self.check_forbids("isn't in doubt", self.log.resolve, 17, aborted=True)
-        self.check_forbids("isn't in this log", self.log.withdraw, ID + 1)
+        self.check_forbids("has no line in this log yet", self.log.withdraw, ID + 1)
         self.log.withdraw(txn)
         self.check_forbids("isn't in this log", self.log.withdraw, txn)
         doubtful = self.log.transaction(1)
@@ -300,7 +302,7 @@ class Forbidden(LogTest):
         other = self.log.transaction()
         other.write("x")
         self.check_forbids("isn't known", other.commit, 5)
-        third = sicheck.Log(self.file, client=3, stamps=COMMIT_ORDER).transaction()
+        third = self.log.transaction(stamps=COMMIT_ORDER)
         self.check_forbids("order of commits", third.commit)
 
     def test_sizes(self):
@@ -346,7 +348,7 @@ class Forbidden(LogTest):
             sicheck.Log(self.file, client=1, stamps="after")
 
     def test_ids_end(self):
-        self.log._count = 999_998
+        self.log._counts = iter([999_999])
         self.assertEqual(self.log.transaction(1).id, 3_999_999)
         self.check_forbids("ids of the next client", self.log.transaction, 1)
 
@@ -424,7 +426,7 @@ class Files(unittest.TestCase):
         self.assertEqual(len(self.lines()), 2)
 
     def test_resume(self):
-        """The count goes on, set-up keys are known, and those in doubt can be resolved: one as it is, two by a line of their own."""
+        """Set-up keys are known, and those in doubt can be resolved: one as it is, two by a line of their own. Ids begin at the next block."""
         with self.log() as log:
             log.set_up("x", 1)
             for stamps in (AFTER, COMMIT_ORDER):
@@ -444,14 +446,14 @@ class Files(unittest.TestCase):
         log.resolve(ID, commit=5)
         log.resolve(ID + 1, commit=6)
         log.resolve(ID + 2, commit=7)
-        self.assertEqual(log.transaction(7).id, ID + 4)
+        self.assertEqual(log.transaction(7).id, 3_001_000)
         told = self.lines()
         self.assertEqual(told[6], b'{"do":"txn","id":3000005,"st')  # cut off, and closed by the next line
         self.assertEqual([json.loads(line) for line in told[7:]], [
             {"do": "resolve", "id": ID, "status": "committed", "commit": 11},
-            {"do": "withdraw", "id": ID + 1},
+            {"do": "withdraw", "id": ID + 1, "again": True},
             {"do": "txn", "id": ID + 1, "start": 12, "status": "committed", "commit": 13, "ops": [["w", "x", VALUE + 4096]]},
-            {"do": "withdraw", "id": ID + 2},
+            {"do": "withdraw", "id": ID + 2, "again": True},
             {"do": "txn", "id": ID + 2, "start": 10, "status": "committed", "commit": 15, "ops": [["w", "y", 7]]}])
         log.close()
         self.assertEqual(self.log(resume=True).doubts, ())

@@ -1,5 +1,8 @@
 """Runs with `--expect` and `--new`: what the program says of them, worked out by hand, and that reports of what is new add up."""
 import json
+import os
+import subprocess
+import sys
 import tempfile
 import unittest
 from pathlib import Path
@@ -38,10 +41,25 @@ class Expected(unittest.TestCase):
         self.check([], 0, 0, None)
         self.check([], 1, 10, Short(0, 1, 0, ()))
 
+    def test_by_default(self):
+        """A committed transaction, and none in doubt; only where nothing is asked for pass an empty log and one that is all in doubt."""
+        good, doubt = txn(1, 2, "committed", ["w", "x", 1], commit=3), txn(2, 2, "indoubt", ["w", "y", 2])
+        for lines, short in (([], Short(0, 1, 0, ())), ([doubt], Short(0, 1, 1, (2,))), ([good, doubt], Short(1, 1, 1, (2,))),
+                             ([txn(3, 2, "aborted")], Short(0, 1, 0, ())), ([good], None)):
+            *_, last = sicheck.watch(lines=lines, every=1)
+            for report in (sicheck.check(lines=lines), last):
+                self.assertEqual((report.status, report.short), (10 if short else 0, short))
+                if short:
+                    with self.assertRaisesRegex(Undecided, f"{short.committed} committed, 1 expected, in doubt {short.indoubt}"):
+                        report.assert_passed()
+            *_, last = sicheck.watch(lines=lines, expect=None)
+            for report in (sicheck.check(lines=lines, expect=None), last):
+                self.assertEqual((report.assert_passed().status, report.short), (0, None))
+
     def test_doubt(self):
-        """Doubt alone is clean without the option. Of 22 in doubt the least 20 are told; resolved or withdrawn they are in doubt no more."""
+        """Doubt alone is clean where nothing is expected. Of 22 in doubt the least 20 are told; resolved or withdrawn they are in doubt no more."""
         lines = [txn(number, 2, "indoubt", ["w", "x", number]) for number in range(22, 0, -1)]
-        self.assertEqual(sicheck.check(lines=lines).status, 0)
+        self.assertEqual(sicheck.check(lines=lines, expect=None).status, 0)
         report = self.check(lines, 0, 10, Short(0, 0, 22, tuple(range(1, 21))))
         with self.assertRaisesRegex(Undecided, "in doubt 22: 1, 2, 3"):
             report.assert_passed()
@@ -77,8 +95,8 @@ class New(unittest.TestCase):
     def test_adds_up(self):
         """Of faulty runs by chance: after each line the violations are those that a run tells which tells everything."""
         for fault in ("lost", "newest"):
-            with self.subTest(fault), tempfile.TemporaryDirectory() as folder:
-                run_clients(Database(fault), logs_in(folder, 3), 40, keys=2, pause=0.0005)
+            with self.subTest(fault), tempfile.TemporaryDirectory() as folder, logs_in(folder, 3) as logs:
+                run_clients(Database(fault), logs, 40, keys=2, pause=0.0005)
                 # In the order of the files one after the other, so that much comes late.
                 lines = [line for number in (3, 1, 2) for line in Path(folder, f"client-{number}.jsonl").read_text().splitlines()]
                 whole = list(sicheck.watch(lines=lines, every=3))
@@ -98,6 +116,30 @@ class New(unittest.TestCase):
     def test_program_wants_every(self):
         with self.assertRaisesRegex(CheckFailed, "--new"):
             list(sicheck.watch(lines=[], every=None, new=True))
+
+
+class Progress(unittest.TestCase):
+    """The program's lines of progress go on to standard error, each in the place of the one before, and none is left; a fault's own lines
+    are the caller's."""
+
+    def run_check(self, words):
+        code = f"import sicheck\ntry:\n    print(sicheck.check({words}).verdict)\nexcept sicheck.CheckFailed as fault:\n    print(fault)\n"
+        return subprocess.run([sys.executable, "-B", "-c", code], env={**os.environ, "PYTHONPATH": str(TOP / "python")},
+                              stdout=subprocess.PIPE, stderr=subprocess.PIPE, check=True)
+
+    def test_shown_and_gone(self):
+        ran = self.run_check("lines=[], expect=None, progress=True")
+        self.assertEqual(ran.stdout, b"clean\n")
+        self.assertIn(ran.stderr, (b"", b"\r\x1b[Ksicheck: waiting for standard input\r\x1b[K"))  # it may be gone before it is read
+
+    def test_cause_of_a_fault(self):
+        ran = self.run_check("'/', progress=True")
+        told = b"the program ended with the status 2: sicheck: cannot read /\nsicheck: /: Is a directory (os error 21)\n"
+        self.assertEqual((ran.stdout, ran.stderr), (told, b""))
+
+    def test_none_where_nobody_looks(self):
+        ran = self.run_check("lines=[], expect=None")
+        self.assertEqual((ran.stdout, ran.stderr), (b"clean\n", b""))
 
 
 if __name__ == "__main__":

@@ -1,4 +1,5 @@
 """Answers worked out by hand from docs/FORMAT.md, and what is read from them."""
+import io
 import unittest
 
 from sicheck import CheckFailed, FilePlace, Short, Undecided, Violation
@@ -15,7 +16,7 @@ def summary(transactions, findings, refused, verdict):
 
 
 def read(text, names=()):
-    return list(reports_in(text.encode("utf-8"), Files(names) if names else None))
+    return list(reports_in(io.BytesIO(text.encode("utf-8")), Files(names) if names else None))
 
 
 def texts(findings):
@@ -156,7 +157,7 @@ class Faults(unittest.TestCase):
             with self.subTest(text), self.assertRaisesRegex(CheckFailed, words):
                 read(text)
         with self.assertRaisesRegex(CheckFailed, "UTF-8"):
-            list(reports_in(b"\xff"))
+            list(reports_in([b"\xff"]))
 
     def test_line_ends(self):
         """Windows' ends are taken, and a key may hold what parts lines elsewhere."""

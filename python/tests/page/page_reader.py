@@ -1,6 +1,7 @@
 """For tests: makes a page of lines and an answer, and reads it back, looking whether its tags nest and its pictures parse."""
 import io
 import json
+import os
 import re
 import subprocess
 import sys
@@ -14,7 +15,7 @@ from xml.etree import ElementTree
 from sicheck.page.command import page_of, settings
 from sicheck.page.histories import Source
 
-SCRIPT = Path(__file__).parents[3] / "view" / "findings_page.py"
+PYTHON = Path(__file__).resolve().parents[2]
 VOID = {"meta", "br"}
 
 
@@ -66,7 +67,7 @@ class Tags(HTMLParser):
 
 
 class Result:
-    """What a run of the script gave: its status, its page and its complaint."""
+    """What a run of the command gave: its status, its page and its complaint."""
 
     def __init__(self, status, page, complaint):
         self.status, self.page, self.complaint = status, page, complaint
@@ -125,9 +126,10 @@ class PageTest(unittest.TestCase):
             self.addCleanup(source.close)
         return found
 
-    def run_script(self, *words):
-        """The script by itself, on these words."""
-        done = subprocess.run([sys.executable, str(SCRIPT), *words], capture_output=True, check=False)
+    def run_command(self, *words):
+        """The command `python3 -m sicheck page`, on these words."""
+        env = {**os.environ, "PYTHONPATH": str(PYTHON)}
+        done = subprocess.run([sys.executable, "-m", "sicheck", "page", *words], env=env, capture_output=True, check=False)
         return Result(done.returncode, done.stdout.decode("utf-8"), done.stderr.decode("utf-8"))
 
     def words(self, logs, answer, *options):

@@ -3,7 +3,7 @@ import unittest
 
 from sicheck.answers import Finding, Refusal, answer_of
 from sicheck.page.fitting import fitted_keys
-from sicheck.page.histories import Misfit, history_of
+from sicheck.page.histories import Misfit, TooManyOrders, history_of
 from sicheck.page.judgement import findings_of, key_histories
 from sicheck.log_lines import Place
 from page_reader import PageTest, committed, lines, unfinished
@@ -51,6 +51,18 @@ class Present(PageTest):
     def test_order_of_files_may_decide_nothing(self):
         history = self.history(lines(committed(1, 2, 3)), lines({"do": "withdraw", "id": 1}, committed(1, 4, 5)))
         self.assertEqual((history.records[1].start, history.unsure()), (4, []))
+
+    def test_an_id_that_comes_and_goes(self):
+        """In one file its order is known, however often it does so; in several it is followed to an end."""
+        often = lines(*[edit for start in range(10_001) for edit in (committed(1, start, start), {"do": "withdraw", "id": 1})])
+        history = self.history(often + lines(committed(1, 2, 3)))
+        self.assertEqual((history.records[1].start, history.unsure(), len(history.ghosts)), (2, [], 10_001))
+        self.assertEqual({(ghost.arrival.start, ghost.withdrawals[0].place.line) for ghost in history.ghosts},
+                         {(start, 2 * start + 2) for start in range(10_001)})
+        with self.assertRaisesRegex(TooManyOrders, "transaction 1 comes and goes too often in several files"):
+            self.history(often, lines(committed(1, 2, 3)))
+        with self.assertRaisesRegex(Misfit, "can't all be accepted"):
+            self.history(often + lines({"do": "withdraw", "id": 1}))
 
     def test_what_no_order_allows(self):
         one = lines(committed(1, 2, 3))

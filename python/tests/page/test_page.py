@@ -21,7 +21,7 @@ def sample(name):
 
 
 class Kinds(PageTest):
-    """One history for each kind, as docs/LOGGING.md has it, with what its sentence has to say."""
+    """One history for each kind, as docs/FINDINGS.md has it, with what its sentence has to say."""
 
     def finding(self, edits, answer, verdict="violation"):
         """The page of one finding, its address, and what its article says."""
@@ -325,7 +325,7 @@ class Misfits(PageTest):
     def check_misfit(self, logs, answer, words):
         result = self.page(logs, answer)
         self.assertEqual(result.status, 1)
-        self.assertIn("findings_page: answer and log don't belong together: ", result.complaint)
+        self.assertIn("sicheck page: answer and log don't belong together: ", result.complaint)
         self.assertIn(words, result.complaint)
         self.check_form(result)
         self.assertIn("Answer and log don't belong together", result.tags().texts["h1"])
@@ -352,7 +352,7 @@ class Misfits(PageTest):
         self.assertIn(r'unknown key="\u202ex" txn=1', result.complaint)
 
     def check_failure(self, words, *arguments):
-        result = self.run_script(*arguments)
+        result = self.run_command(*arguments)
         self.assertEqual((result.status, result.page), (2, ""))
         self.assertIn(words, result.complaint)
         self.assertNotIn("Traceback", result.complaint)
@@ -372,18 +372,18 @@ class Misfits(PageTest):
                            self.write("odd", "odd\n" + sample("samples/stale_read.out")))
         self.check_failure("--each", log, "--answer", answer, "--each", "0")
 
-    def test_script_writes_the_page(self):
+    def test_command_writes_the_page(self):
         words = self.words(sample("samples/stale_read.jsonl"), sample("samples/stale_read.out"))
         page = self.page(sample("samples/stale_read.jsonl"), sample("samples/stale_read.out")).page
-        result = self.run_script(*words)
+        result = self.run_command(*words)
         self.assertEqual((result.status, result.page, result.complaint), (0, page, ""))
-        result = self.run_script(words[0], "--answer", self.write("other", sample("samples/lost_update.out")))
+        result = self.run_command(words[0], "--answer", self.write("other", sample("samples/lost_update.out")))
         self.assertEqual(result.status, 1)
         self.assertIn("answer and log don't belong together", result.complaint)
         self.assertIn("Answer and log don't belong together", result.tags().texts["h1"][0])
 
     def test_help(self):
-        result = self.run_script("--help")
+        result = self.run_command("--help")
         self.assertEqual((result.status, result.complaint), (0, ""))
         self.assertIn("--answer ANSWER", result.page)
 
@@ -405,7 +405,7 @@ class Bounds(PageTest):
     def test_hundred_thousand_findings(self):
         log, answer = self.many(100, 1000)
         begin = time.monotonic()
-        page = self.checked(self.run_script(*self.words(log, answer)))
+        page = self.checked(self.run_command(*self.words(log, answer)))
         self.assertLess(time.monotonic() - begin, 60)
         self.assertLess(len(page.page), 4_000_000)
         tags = page.tags()
