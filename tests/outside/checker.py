@@ -1,0 +1,300 @@
+"""Judges logs in a way of its own, to be held against the program: written from docs/FORMAT.md and the definitions' sentences alone, by walking lists.
+
+It has no index, no shards, no threads and nothing that is mended: each report judges all that is present from the beginning. Where a
+comment quotes a page, it is FORMAT's, unless it names the other one. What the pages leave to serde_json isn't drawn (drawing.py).
+"""
+import json
+from dataclasses import dataclass, field, replace
+
+MOST_BYTES, MOST_OPS, MOST_KEY, MOST_DEPTH = 1_048_576, 4_096, 128, 127
+NUMBERS = {"unknown": 1, "doubt": 2, "own": 3, "aborted": 4, "intermediate": 5, "future": 6, "stale": 7, "overlap": 8}
+FIELDS = {"txn": ("id", "start", "status", "commit", "ops"), "resolve": ("id", "status", "commit"), "withdraw": ("id",), "setup": ("key", "value")}
+CODES = {"too-long": 1, "not-json": 2, "not-object": 3, "bad-kind": 4, "bad-field": 5, "bad-status": 6, "too-many-ops": 7, "bad-op": 8,
+         "id-present": 12, "no-such": 13, "not-in-doubt": 14, "stamp-order": 15, "stamp-taken": 16, "value-twice": 17, "value-taken": 18,
+         "set-up-twice": 19, "set-up-taken": 20, "value-set-up": 21}  # fmt: skip
+
+
+class Refused(Exception):
+    """A line that is refused, with its reason and the details."""
+
+
+@dataclass
+class Txn:
+    id: int
+    start: int
+    status: str
+    commit: int  # of a committed one, and else None
+    ops: list  # of ("r" or "w", key, value); the value of a read may be None
+
+    def writes(self):
+        return [(key, value) for word, key, value in self.ops if word == "w"]
+
+    def last_write(self, key, before=None):
+        """The value of the last write of the key, or of the last one before an operation."""
+        values = [value for word, other, value in self.ops[:before] if word == "w" and other == key]
+        return values[-1] if values else None
+
+    def installs(self, key):
+        """Whether it installs a version of the key: "it committed and writes the key" (`Installs`)."""
+        return self.status == "committed" and self.last_write(key) is not None
+
+
+@dataclass
+class Present:
+    """What the accepted edits leave: transactions in the order of arrival, and the values that keys were set up with."""
+
+    txns: list = field(default_factory=list)
+    initial: list = field(default_factory=list)
+
+    def set_up(self, key):
+        return next((value for other, value in self.initial if other == key), None)
+
+    def versions(self, key):
+        """The installers of the key in the order of their commit stamps: the version order."""
+        return sorted((it for it in self.txns if it.installs(key)), key=lambda it: it.commit)
+
+
+# ---- lines in
+
+
+def depth_of(text):
+    """How deep the brackets of a JSON text nest, those in strings aside."""
+    depth = most = 0
+    within = escaped = False
+    for it in text:
+        if within:
+            within, escaped = escaped or it != '"', it == "\\" and not escaped
+        else:
+            within = it == '"'
+            depth += (it in "[{") - (it in "]}")
+            most = max(most, depth)
+    return most
+
+
+def members(pairs):
+    """An object: "Of members with one name the last counts." A surrogate without its other half can't be encoded."""
+    json.dumps(pairs, ensure_ascii=False).encode()
+    return dict(pairs)
+
+
+def not_a_constant(word):
+    raise ValueError(word)
+
+
+def value_of(line):
+    """The JSON value of a line. A number that is none by FORMAT, of a sign, a fraction, an exponent or over 64 bits, becomes one of Python's floats."""
+    text = line.decode()
+    if depth_of(text) > MOST_DEPTH:
+        raise ValueError("too deep")
+    whole = lambda digits: int(digits) if digits[0] != "-" and len(digits) <= 20 and int(digits) < 2**64 else 0.5
+    value = json.loads(text, parse_int=whole, parse_float=float, parse_constant=not_a_constant, object_pairs_hook=members)
+    members([("", value)])
+    return value
+
+
+def is_number(it):
+    return isinstance(it, int) and not isinstance(it, bool)
+
+
+def is_key(it):
+    return isinstance(it, str) and 1 <= len(it.encode()) <= MOST_KEY
+
+
+def is_op(it):
+    if not isinstance(it, list) or len(it) != 3 or not is_key(it[1]):
+        return False
+    return it[0] == "r" and (it[2] is None or is_number(it[2])) or it[0] == "w" and is_number(it[2])
+
+
+HOLDS = {"id": is_number, "start": is_number, "commit": is_number, "value": is_number, "key": is_key,
+         "status": lambda it: isinstance(it, str), "ops": lambda it: isinstance(it, list)}  # fmt: skip
+
+
+def edit_of(line):
+    """The members of a line, or the least of the codes 1 to 8 that applies."""
+    if len(line) > MOST_BYTES:
+        raise Refused("too-long")
+    try:
+        value = value_of(line)
+    except ValueError:
+        raise Refused("not-json") from None
+    if not isinstance(value, dict):
+        raise Refused("not-object")
+    kind = value.get("do")
+    if not isinstance(kind, str) or kind not in FIELDS:
+        raise Refused("bad-kind")
+    for name in FIELDS[kind]:
+        if (name != "commit" or value.get("status") == "committed") and not (name in value and HOLDS[name](value[name])):
+            raise Refused("bad-field", f"field={name}")
+    if "status" in FIELDS[kind] and value["status"] not in ("committed", "aborted", *(["indoubt"] if kind == "txn" else [])):
+        raise Refused("bad-status")
+    if kind == "txn":
+        if len(value["ops"]) > MOST_OPS:
+            raise Refused("too-many-ops")
+        for number, op in enumerate(value["ops"]):
+            if not is_op(op):
+                raise Refused("bad-op", f"op={number}")
+    return value
+
+
+# ---- what is present
+
+
+def may_commit(present, txn):
+    """Refuses the commit of a transaction that isn't among the present ones: 15, and 16 for the start and then for the commit."""
+    others = [it for it in present.txns if it.id != txn.id]
+    committed = txn.status == "committed"
+    if committed and (txn.commit < txn.start or txn.commit == txn.start and txn.writes()):
+        raise Refused("stamp-order")
+    for stamp, is_commit in ((txn.start, False), *([(txn.commit, True)] if committed else [])):
+        holders = [it.id for it in others if it.status == "committed" and it.commit == stamp and it.writes()]
+        if is_commit and txn.writes():
+            holders += [it.id for it in others if stamp in (it.start, it.commit)]
+        if holders:
+            raise Refused("stamp-taken", f"stamp={stamp} holder={min(holders)}")
+
+
+def may_write(present, txn):
+    """Refuses a pair that the transaction writes: 17, 18 and 21."""
+    for number, op in enumerate(txn.ops):
+        if op[0] == "w" and op in txn.ops[:number]:
+            raise Refused("value-twice", f"op={number}")
+    for number, (word, key, value) in enumerate(txn.ops):
+        holders = [it.id for it in present.txns if word == "w" and (key, value) in it.writes()]
+        if holders:
+            raise Refused("value-taken", f"op={number} holder={min(holders)}")
+    for number, (word, key, value) in enumerate(txn.ops):
+        if word == "w" and (key, value) in present.initial:
+            raise Refused("value-set-up", f"op={number}")
+
+
+def accept(present, edit):
+    """What is present after the edit; or the first of the codes 12 to 21 that applies. (Nothing here can have 16,777,216 edits, so none is 11.)"""
+    if edit["do"] == "setup":
+        pair = edit["key"], edit["value"]
+        if present.set_up(edit["key"]) is not None:
+            raise Refused("set-up-twice")
+        holders = [it.id for it in present.txns if pair in it.writes()]
+        if holders:
+            raise Refused("set-up-taken", f"holder={min(holders)}")
+        return Present(present.txns, [*present.initial, pair])
+    found = [it for it in present.txns if it.id == edit["id"]]
+    commit = edit["commit"] if edit.get("status") == "committed" else None
+    if edit["do"] == "txn":
+        if found:
+            raise Refused("id-present")
+        txn = Txn(edit["id"], edit["start"], edit["status"], commit, [tuple(op) for op in edit["ops"]])
+        may_commit(present, txn)
+        may_write(present, txn)
+        return Present([*present.txns, txn], present.initial)
+    if not found:
+        raise Refused("no-such")
+    if edit["do"] == "withdraw":
+        return Present([it for it in present.txns if it.id != edit["id"]], present.initial)
+    if found[0].status != "indoubt":
+        raise Refused("not-in-doubt")
+    txn = replace(found[0], status=edit["status"], commit=commit)
+    may_commit(present, txn)
+    return Present([txn if it.id == txn.id else it for it in present.txns], present.initial)
+
+
+# ---- findings
+
+
+def told(value):
+    return "initial" if value is None else str(value)
+
+
+def judge_read(present, txn, number):
+    """The finding of a read of a committed transaction, as its word and its fields, or None: the first case that applies."""
+    key, value = txn.ops[number][1:]
+    own = txn.last_write(key, number)
+    if own is not None:
+        return None if own == value else ("own", f"own={own}")
+    if ("w", key, value) in txn.ops[number:]:
+        return "own", "own=later"
+    after = -1
+    if value != present.set_up(key):
+        writers = [it for it in present.txns if value is not None and (key, value) in it.writes()]
+        if not writers:
+            return "unknown", ""
+        writer = writers[0]
+        if writer.status != "committed":
+            return "doubt" if writer.status == "indoubt" else "aborted", f"writer={writer.id}"
+        if writer.last_write(key) != value:
+            return "intermediate", f"writer={writer.id}"
+        if writer.commit > txn.start:
+            return "future", f"writer={writer.id}"
+        after = writer.commit
+    later = [it for it in present.versions(key) if it.commit > after]
+    return ("stale", f"missed={later[0].id}") if later and later[0].commit < txn.start else None
+
+
+def evidence(word, txn, number, other):
+    """The line of evidence behind a finding, which those of form have not."""
+    return {
+        "aborted": f"  G1a reader={txn} op={number} writer={other}",
+        "intermediate": f"  G1b reader={txn} op={number} writer={other}",
+        "future": f"  G-SI(a) {other}-wr->{txn}",
+        "stale": f"  G-SI(b) {txn}-rw->{other} {other}-st->{txn}",
+        "overlap": f"  G-SI(a) {txn}-ww->{number}",
+    }.get(word)
+
+
+def findings(present):
+    """All findings in order, each with the number of its kind, its line and its evidence or None."""
+    found = []
+    for txn in present.txns:
+        for number, (word, key, value) in enumerate(txn.ops):
+            kind = judge_read(present, txn, number) if word == "r" and txn.status == "committed" else None
+            if kind:
+                line = f"{kind[0]} key={json.dumps(key, ensure_ascii=False)} txn={txn.id} op={number} read={told(value)} {kind[1]}".rstrip()
+                found.append(((key.encode(), NUMBERS[kind[0]], txn.id, number), line, evidence(kind[0], txn.id, number, kind[1].partition("=")[2])))
+    for key in {key for txn in present.txns for key, _ in txn.writes()}:
+        order = present.versions(key)
+        for first, second in zip(order, order[1:]):
+            if second.start < first.commit:
+                line = f"overlap key={json.dumps(key, ensure_ascii=False)} first={first.id} second={second.id}"
+                found.append(((key.encode(), 8, first.id, second.id), line, evidence("overlap", first.id, second.id, None)))
+    return [(place[1], line, shown) for place, line, shown in sorted(found, key=lambda it: it[0])]
+
+
+# ---- lines out
+
+
+class Run:
+    """A run over lines in the order in which they are taken: what it writes, and its status."""
+
+    def __init__(self, every=None, explain=False):
+        self.every, self.explain = every, explain
+        self.present, self.decided, self.refused, self.text, self.verdict = Present(), 0, 0, [], None
+
+    def take(self, source, number, line):
+        """Takes a line, by its number in its source; a blank one is left out."""
+        if len(line) <= MOST_BYTES and not line.strip(b" \t\r"):
+            return
+        try:
+            self.present = accept(self.present, edit_of(line))
+        except Refused as it:
+            self.refused += 1
+            self.text.append(" ".join((f"refused source={source} line={number} code={CODES[it.args[0]]} reason={it.args[0]}", *it.args[1:])))
+        self.decided += 1
+        if self.every and self.decided % self.every == 0:
+            self.report()
+
+    def report(self):
+        found = findings(self.present)
+        for _, line, shown in found:
+            self.text += [line, shown] if self.explain and shown else [line]
+        self.verdict = "clean" if not found else "violation" if any(kind >= 3 for kind, _, _ in found) else "open"
+        self.text.append(f"transactions={len(self.present.txns)} findings={len(found)} refused={self.refused} verdict={self.verdict}")
+
+    def end(self):
+        """The last report: the whole text, and the exit status."""
+        self.report()
+        return "".join(it + "\n" for it in self.text), 20 if self.verdict == "violation" else 10 if self.verdict == "open" or self.refused else 0
+
+
+def lines_of(log):
+    """The lines of a log without their line feeds, the last of which may lack it, each with its number."""
+    return list(enumerate(log.split(b"\n")[: None if log and log[-1:] != b"\n" else -1], 1))

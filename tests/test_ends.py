@@ -1,0 +1,269 @@
+"""Tests what the built program does at its ends: help, the version, each fault with its line and status but 'options out of
+range', which no command line leads to, names and lines at their limits, and a refused line that is written before the
+next one comes."""
+
+import os
+import select
+import subprocess
+import time
+import unittest
+
+from running import PROGRAM, ROOT, ProgramTest, summary
+from refusals import Refusing
+
+NOTHING = "/dev/null"
+
+
+class CommandLines(ProgramTest):
+    def test_no_input(self):
+        self.assert_ends(["check"], 0, summary())
+
+    def test_empty_file(self):
+        self.assert_ends(["check", NOTHING], 0, summary())
+
+    def test_two_empty_files(self):
+        self.assert_ends(["check", NOTHING, NOTHING], 0, summary())
+
+    def test_help(self):
+        self.assert_ends(["--help"], 0, (ROOT / "tests/texts/help").read_text())
+
+    def test_help_of_check(self):
+        self.assert_ends(["check", "--help"], 0, (ROOT / "tests/texts/check_help").read_text())
+
+    def test_version(self):
+        self.assert_ends(["--version"], 0, "sicheck 0.1.0\n")
+
+    def test_new_with_every(self):
+        self.assert_ends(["check", "--new", "--every", "1"], 0, summary())
+
+    def test_new_without_every(self):
+        self.assert_ends(["check", "--new"], 2, "", "sicheck: --new without --every\n")
+
+    def test_none_expected(self):
+        self.assert_ends(["check", "--expect", "0"], 0, summary())
+
+    def test_one_expected_and_none_there(self):
+        self.assert_ends(["check", "--expect", "1"], 10, "short committed=0 expected=1 indoubt=0\n" + summary())
+
+    def test_too_many_files(self):
+        self.assert_ends(["check", *[NOTHING] * 8, self.work / "nothing"], 2, "", "sicheck: too many files\n")
+
+    def test_word_that_is_not_utf8(self):
+        self.assert_ends(["check", b"\xff"], 2, "", "sicheck: a word of the command line isn't UTF-8\n")
+
+    def test_unknown_option(self):
+        self.assert_complains(["check", "--quiet"], "error: unexpected argument '--quiet' found")
+
+    def test_every_none(self):
+        self.assert_complains(["check", "--every", "0"], "error: invalid value '0' for '--every <N>'")
+
+    def test_too_many_shards(self):
+        self.assert_complains(["check", "--shards", "17"], "error: invalid value '17' for '--shards <K>'")
+
+    def test_too_many_expected(self):
+        self.assert_complains(["check", "--expect", "16777217"], "error: invalid value '16777217' for '--expect <N>'")
+
+    def test_unknown_command(self):
+        self.assert_complains(["chekc"], "error: unrecognized subcommand 'chekc'")
+
+
+class Progress(ProgramTest):
+    """With `--progress` standard error has one line, again and again, which is gone in the end; a fault has its cause in a second one."""
+
+    ERASURE = "\r\x1b[K"
+    WAITING = ERASURE + "sicheck: waiting for standard input"
+
+    def test_nothing_is_left(self):
+        self.assert_ends(["check", "--progress"], 0, summary(), self.WAITING + self.ERASURE)
+
+    def test_files_are_not_waited_for(self):
+        self.assert_ends(["check", "--progress", NOTHING], 0, summary(), self.ERASURE)
+
+    def test_lines_are_counted(self):
+        """The checker is given a line, and the next one once a line of progress is due."""
+        line = b'{"do":"txn","id":%d,"start":1,"status":"aborted","ops":[]}\n'
+        with subprocess.Popen([PROGRAM, "check", "--every", "1", "--progress"], stdin=subprocess.PIPE, stdout=subprocess.PIPE,
+                              stderr=subprocess.PIPE) as run:
+            for number in (1, 2):
+                run.stdin.write(line % number)
+                run.stdin.flush()
+                run.stdout.readline()
+                time.sleep(1)
+            text, complaint = run.communicate()
+        self.assertEqual((run.returncode, text.decode()), (0, summary(2)))
+        before, waiting, *counted, gone = complaint.decode().split(self.ERASURE)
+        self.assertEqual((before, waiting, gone), ("", "sicheck: waiting for standard input", ""))
+        self.assertTrue(counted)
+        for shown in counted:
+            self.assertRegex(shown, "^sicheck: 2 lines, [01] a second, 0 findings at the last report$")
+
+    def test_folder(self):
+        cause = f"sicheck: cannot read source 0\nsicheck: {self.work}: Is a directory (os error 21)\n"
+        self.assert_ends(["check", "--progress", self.work], 2, "", self.ERASURE + cause)
+
+    def test_file_that_is_not_there(self):
+        cause = f"sicheck: cannot open source 1\nsicheck: {self.work}/nothing: No such file or directory (os error 2)\n"
+        self.assert_ends(["check", "--progress", NOTHING, self.work / "nothing"], 2, "", cause)
+
+    def test_full_output(self):
+        with open("/dev/full", "wb") as full:
+            ran = subprocess.run([PROGRAM, "check", "--progress", NOTHING], stdout=full, stderr=subprocess.PIPE, check=False)
+        cause = "sicheck: cannot write\nsicheck: standard output: No space left on device (os error 28)\n"
+        self.assertEqual((ran.returncode, ran.stderr.decode()), (2, self.ERASURE + cause))
+
+    def test_standard_input(self):
+        with open(self.work / "one", "wb") as shut:  # not open for reading
+            ran = subprocess.run([PROGRAM, "check", "--progress"], stdin=shut, stdout=subprocess.PIPE, stderr=subprocess.PIPE, check=False)
+        cause = "sicheck: cannot read source 0\nsicheck: standard input: Bad file descriptor (os error 9)\n"
+        self.assertEqual((ran.returncode, ran.stdout, ran.stderr.decode()), (2, b"", self.WAITING + self.ERASURE + cause))
+
+
+class Files(ProgramTest):
+    def test_file_that_is_not_there(self):
+        self.assert_ends(["check", self.work / "nothing"], 2, "", "sicheck: cannot open source 0\n")
+
+    def test_folder(self):
+        self.assert_ends(["check", self.work], 2, "", "sicheck: cannot read source 0\n")
+
+    def test_second_file_is_not_there(self):
+        words = ["check", NOTHING, self.work / "nothing", self.work]
+        self.assert_ends(words, 2, "", "sicheck: cannot open source 1\n")
+
+    def test_eighth_file_is_a_folder(self):
+        self.assert_ends(["check", *[NOTHING] * 7, self.work], 2, "", "sicheck: cannot read source 7\n")
+
+    def test_name_of_250_bytes(self):
+        (self.work / ("n" * 250)).touch()
+        self.assert_ends(["check", self.work / ("n" * 250)], 0, summary())
+
+    def test_path_of_thousands_of_bytes(self):
+        (self.work / ("n" * 250)).touch()
+        self.assert_ends(["check", f"{self.work}/{'./' * 1850}{'n' * 250}"], 0, summary())
+
+    def test_name_of_4000_bytes(self):
+        self.assert_ends(["check", "n" * 4000], 2, "", "sicheck: cannot open source 0\n")
+
+    def test_name_of_100000_bytes(self):
+        self.assert_ends(["check", "n" * 100_000], 2, "", "sicheck: cannot open source 0\n")
+
+    @unittest.skipUnless(os.path.exists("/dev/full"), "the system has no device that takes nothing more")
+    def test_device_that_takes_nothing_more(self):
+        with open("/dev/full", "wb") as full:
+            self.assert_ends(["check"], 2, "", "sicheck: cannot write\n", stdout=full)
+
+
+def aborted(id, ops):
+    return b'{"do":"txn","id":%d,"start":%d,"status":"aborted","ops":[%s]}' % (id, id, ops)
+
+
+def noted(note):
+    return b'{"do":"withdraw","id":7,"note":%s}' % note
+
+
+LINE = b'{"do":"txn","id":7,"start":10,"status":"committed","commit":20,"ops":[["r","x",null],["w","x",5]]}'
+READ = b'["r","x",null]'
+# The length at which a line ends.
+LONGEST = 1_048_576
+# Lines at their limits, each with the code and the words that the program has for it, or none where it takes it.
+CUT = [(LINE[:end], "2 reason=not-json") for end in range(1, len(LINE))]
+TOO_LONG = [(LINE.ljust(LONGEST + 1), "1 reason=too-long"), (b" " * (LONGEST + 1), "1 reason=too-long")]
+AS_LONG = [(LINE.ljust(LONGEST), None)]
+TOO_DEEP = [(noted(b"[" * 200 + b"]" * 200), "2 reason=not-json")]
+DEEP = [(noted(b"[" * 10 + b"]" * 10), None)]
+NOT_UTF8 = [(aborted(1, b'["r","\xff",null]'), "2 reason=not-json")]
+KEY_TOO_LONG = [(aborted(1, b'["w","%s",1]' % (b"k" * 129)), "8 reason=bad-op op=0")]
+KEY_AS_LONG = [(aborted(1, b'["w","%s",1]' % (b"k" * 128)), None)]
+TOO_MANY_OPS = [(aborted(2, b",".join([READ] * 4097)), "7 reason=too-many-ops")]
+AS_MANY_OPS = [(aborted(2, b",".join([READ] * 4096)), None)]
+
+
+class Lines(ProgramTest):
+    def assert_answers(self, lines, transactions):
+        """Each of these lines is taken or refused as it should be, in one input, after which so many transactions are
+        there."""
+        (self.work / "lines").write_bytes(b"".join(line + b"\n" for line, _ in lines))
+        codes = [(number, code) for number, (_, code) in enumerate(lines, 1) if code]
+        refused = "".join(f"refused source=0 line={number} code={code}\n" for number, code in codes)
+        wanted = refused + summary(transactions, refused=len(codes))
+        self.assert_ends(["check", self.work / "lines"], 10 if codes else 0, wanted)
+
+    def test_line_that_ends_too_soon(self):
+        self.assert_answers(CUT, 0)
+
+    def test_line_that_is_too_long(self):
+        self.assert_answers(TOO_LONG, 0)
+
+    def test_line_as_long_as_it_may_be(self):
+        self.assert_answers(AS_LONG, 1)
+
+    def test_brackets_that_stand_too_deep(self):
+        self.assert_answers([*AS_LONG, *TOO_DEEP], 1)
+
+    def test_brackets_that_stand_deep(self):
+        self.assert_answers([*AS_LONG, *DEEP], 0)
+
+    def test_key_that_is_not_utf8(self):
+        self.assert_answers(NOT_UTF8, 0)
+
+    def test_key_that_is_too_long(self):
+        self.assert_answers(KEY_TOO_LONG, 0)
+
+    def test_key_as_long_as_it_may_be(self):
+        self.assert_answers(KEY_AS_LONG, 1)
+
+    def test_too_many_operations(self):
+        self.assert_answers(TOO_MANY_OPS, 0)
+
+    def test_as_many_operations_as_there_may_be(self):
+        self.assert_answers(AS_MANY_OPS, 1)
+
+    def test_all_these_lines_in_one_input(self):
+        lines = [*CUT, *TOO_LONG, *AS_LONG, *TOO_DEEP, *DEEP, *NOT_UTF8]
+        self.assert_answers([*lines, *KEY_TOO_LONG, *KEY_AS_LONG, *TOO_MANY_OPS, *AS_MANY_OPS], 2)
+
+    def test_longer_keys(self):
+        """Each of 5,000 is written by one transaction and read by another, and then one reads what another key has."""
+        rows = []
+        for it in range(10_001):
+            key, value = f"accounts/{it % 5000}/balance in whole cents", it % 5000 if it < 10_000 else 7
+            at = f'"id":{it},"start":{2 * it},"status":"committed","commit":{2 * it + 1}'
+            rows.append(f'{{"do":"txn",{at},"ops":[["{"w" if it < 5000 else "r"}","{key}",{value}]]}}\n')
+        (self.work / "lines").write_text("".join(rows))
+        finding = 'unknown key="accounts/0/balance in whole cents" txn=10000 op=0 read=7\n'
+        self.assert_ends(["check", self.work / "lines"], 10, finding + summary(10_001, 1, verdict="open"))
+
+    def read_line(self, program):
+        """Returns the next line of the program's output, which has to come within a minute."""
+        ready, _, _ = select.select([program.stdout], [], [], 60)
+        return program.stdout.readline().decode() if ready else "(nothing within a minute)"
+
+    def test_line_is_answered_before_the_next_one_is_given(self):
+        pipes = {"stdin": subprocess.PIPE, "stdout": subprocess.PIPE}
+        with subprocess.Popen([PROGRAM, "check"], bufsize=0, **pipes) as program:
+            self.addCleanup(program.kill)
+            for number in (1, 2):
+                program.stdin.write(b"[]\n")
+                answer = f"refused source=0 line={number} code=3 reason=not-object\n"
+                self.assertEqual(self.read_line(program), answer, f"line {number} isn't answered at once")
+            program.stdin.close()
+            self.assertEqual(self.read_line(program), summary(refused=2), "after the last line")
+            self.assertEqual(program.wait(60), 10)
+
+
+class RefusedCalls(ProgramTest):
+    """The first call of a kind is refused."""
+
+    def assert_lacks(self, kind, complaint):
+        ran = Refusing(self.work).run([PROGRAM, "check"], kind, 1)
+        wanted = (2, b"", complaint, True)
+        self.assertEqual(tuple(ran), wanted, f"the first {kind} is refused")
+
+    def test_no_random_bytes(self):
+        self.assert_lacks("random", "sicheck: no random bytes for the hash maps\n")
+
+    def test_no_memory(self):
+        self.assert_lacks("allocation", "sicheck: out of memory\n")
+
+
+if __name__ == "__main__":
+    unittest.main()
