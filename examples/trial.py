@@ -59,3 +59,11 @@ def run_all(clients):
         thread.join()
     if errors:
         raise SystemExit(1)
+
+
+def end_with(forks):
+    """Ends the program, once all is logged. Snapshots that contradict each other are a violation which the log alone may not show: each is told
+    on standard error, and the status is then that of one."""
+    for fork in forks:
+        sys.stderr.write(f"{fork}\n")
+    sys.exit(20 if forks else 0)

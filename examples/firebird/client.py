@@ -1,13 +1,16 @@
 #!/usr/bin/env python3
 """Runs concurrent transactions against Firebird and logs them for sicheck, after the run.
 
-Firebird gives its clients no stamps, and lets several transactions write at once. So each client has a row, to which each of its writers
-writes its own id, and each transaction reads the rows of all clients first. They tell which writers its snapshot sees, and after the run
-in which order these committed; see `numbers_by_snapshots`. The row also tells whether a commit happened whose answer was lost.
+Firebird gives its clients no stamps, and lets several transactions write at once. So each client has a row in the table that is tested, to
+which each of its writers writes its own id, and each transaction reads the rows of all clients first. They tell which writers its snapshot
+sees, and after the run in which order these committed; see `numbers_by_snapshots`. Where no snapshot tells of two writers which came first,
+they stand in the order of a counter that each draws right before its commit, while it holds the rows that it wrote: where one overwrote the
+other unseen, that is the order of their versions. The row also tells whether a commit happened whose answer was lost.
 
 The server is reached through isql-fb, with the usual variables: ISC_USER, ISC_PASSWORD. With --fault each statement has a snapshot of
 its own (READ COMMITTED).
 """
+import itertools
 import os
 import subprocess
 import sys
@@ -45,12 +48,15 @@ class Session:
 class Client:
     """A client with its own session, chance and log."""
 
+    ROW = "writer-"
+    order = itertools.count()  # of all clients, which are threads: which of two commits was sent first
+
     def __init__(self, options, number):
         self.options, self.number = options, number
         self.plan = trial.Plan(options, number)
         self.log = sicheck.Log(sys.stdout, client=number)
         self.seen = {}  # by transaction: the rows of the clients, as its snapshot has them
-        self.committed = []
+        self.committed = {}  # by transaction: its place in the order of the commits that were sent
 
     def run(self):
         self.session = Session(self.options.database)
@@ -61,7 +67,8 @@ class Client:
 
     def run_transaction(self, txn):
         try:
-            self.seen[txn] = {int(client): int(last) for client, last in self.session.ask("SELECT client, last FROM writers")}
+            rows = self.session.ask(f"SELECT name, val FROM pairs WHERE name STARTING WITH '{self.ROW}'")
+            self.seen[txn] = {int(name[len(self.ROW):]): int(last) for name, last in rows}
             for key, is_read in self.plan.operations(self.plan.happens(0.3)):
                 if is_read:
                     found = self.session.ask(f"SELECT val FROM pairs WHERE name = '{key}'")
@@ -69,24 +76,26 @@ class Client:
                 else:
                     self.session.ask(f"UPDATE OR INSERT INTO pairs VALUES ('{key}', {txn.write(key)}) MATCHING (name)")
             if txn.has_written:
-                self.session.ask(f"UPDATE writers SET last = {txn.id} WHERE client = {self.number}")
+                self.session.ask(f"UPDATE pairs SET val = {txn.id} WHERE name = '{self.ROW}{self.number}'")
+            place = next(self.order)
             self.session.ask("COMMIT")
-            self.committed.append(txn)
+            self.committed[txn] = place
         except Refused:
             self.session.ask("ROLLBACK")
             txn.abort()
 
 
 def log_all(clients):
-    """Logs what committed, once it is known who saw whom."""
-    seen = {txn: seen for client in clients for txn, seen in client.seen.items()}
-    writers = [txn.id for client in clients for txn in client.committed if txn.has_written]
-    starts, commits = sicheck.numbers_by_snapshots(
-        {txn: lambda writer, rows=rows: rows[sicheck.client_of(writer)] >= writer for txn, rows in seen.items()}, writers)
-    for client in clients:
-        for txn in client.committed:
-            txn.start = starts[txn]
-            txn.commit(commits.get(txn.id))
+    """Logs what committed, once it is known who saw whom. Returns the snapshots that contradict each other."""
+    seen = {txn.id: rows for client in clients for txn, rows in client.seen.items()}
+    committed = {txn: place for client in clients for txn, place in client.committed.items()}
+    writers = [txn.id for txn in sorted(committed, key=committed.get) if txn.has_written]
+    starts, commits, forks = sicheck.numbers_by_snapshots(
+        {number: lambda writer, rows=rows: rows[sicheck.client_of(writer)] >= writer for number, rows in seen.items()}, writers)
+    for txn in committed:
+        txn.start = starts[txn.id]
+        txn.commit(commits.get(txn.id))
+    return forks
 
 
 def main():
@@ -97,16 +106,15 @@ def main():
     session = Session(options.database)
     session.ask("SET AUTODDL ON")
     session.ask("RECREATE TABLE pairs (name VARCHAR(32) PRIMARY KEY, val BIGINT NOT NULL)")
-    session.ask("RECREATE TABLE writers (client INTEGER PRIMARY KEY, last BIGINT NOT NULL)")
     clients = [Client(options, number) for number in range(1, options.clients + 1)]
     for client in clients:
-        session.ask(f"INSERT INTO writers VALUES ({client.number}, 0)")
+        session.ask(f"INSERT INTO pairs VALUES ('{Client.ROW}{client.number}', 0)")
     for key, value in trial.set_up_values(options):
         session.ask(f"INSERT INTO pairs VALUES ('{key}', {value})")
         clients[0].log.set_up(key, value)
     session.ask("COMMIT")
     trial.run_all(clients)
-    log_all(clients)
+    trial.end_with(log_all(clients))
 
 
 main()

@@ -5,8 +5,9 @@ PostgreSQL gives its clients no stamps. Each transaction here notes the snapshot
 pg_current_snapshot(), and a writer its transaction id. When all are done, the snapshots say in which order the writers
 committed: see stamp_all() below. With --clock the stamps are a clock's instead, which is wrong, and shows how wrong.
 
-The server needs track_commit_timestamp = on. It is reached through psql, with the usual variables: PGHOST, PGPORT, PGUSER.
+The server is reached through psql, with the usual variables: PGHOST, PGPORT, PGUSER.
 """
+import itertools
 import os
 import subprocess
 import sys
@@ -48,6 +49,7 @@ class Told:
 
     def __init__(self, txn):
         self.txn, self.xid, self.snapshot, self.is_committed = txn, None, None, False
+        self.place = 0  # in the order of the commits that were sent
         self.before = self.after = self.done = 0  # by a clock
 
     @property
@@ -62,6 +64,8 @@ class Told:
 
 class Client:
     """A client with its own session, chance and log."""
+
+    order = itertools.count()  # of all clients, which are threads: which of two commits was sent first
 
     def __init__(self, options, number):
         self.options = options
@@ -90,6 +94,7 @@ class Client:
                     self.session.put(key, told.txn.write(key))
             xid = self.session.ask("select pg_current_xact_id_if_assigned()")
             told.xid = int(xid[0]) if xid and xid[0] else None
+            told.place = next(self.order)
             self.session.ask("commit")
             told.is_committed = True
         except Refused:
@@ -97,22 +102,23 @@ class Client:
         told.done = time.time_ns()
 
 
-def stamp_all(session, record):
-    """Stamps by snapshots: `numbers_by_snapshots` says how. Writers that are first seen by one snapshot go by their commit timestamps."""
-    def time_of(xid):
-        return float(session.ask(f"select extract(epoch from pg_xact_commit_timestamp('{xid}'::xid)) * 1000000")[0])
-    writers = sorted((told.xid for told in record if told.is_writer), key=time_of)
-    starts, commits = sicheck.numbers_by_snapshots({told: told.sees for told in record if told.snapshot}, writers)
-    for told, start in starts.items():
-        told.txn.start = start
-    return {told: commits.get(told.xid) for told in record}
+def stamp_all(record):
+    """Stamps by snapshots: `numbers_by_snapshots` says how. Where no snapshot tells of two writers which came first, they stand in the order in
+    which their commits were sent: each still had its rows locked then, so where one overwrote the other unseen, that is the order of their
+    versions. Returns the commits, and the snapshots that contradict each other."""
+    writers = [told.xid for told in sorted(record, key=lambda told: told.place) if told.is_writer]
+    known = {told.txn.id: told for told in record if told.snapshot}
+    starts, commits, forks = sicheck.numbers_by_snapshots({number: told.sees for number, told in known.items()}, writers)
+    for number, start in starts.items():
+        known[number].txn.start = start
+    return {told: commits.get(told.xid) for told in record}, forks
 
 
 def stamp_by_clock(record, start):
     """Stamps by the client's clock: wrong."""
     for told in record:
         told.txn.start = getattr(told, start)
-    return {told: told.done for told in record}
+    return {told: told.done for told in record}, ()
 
 
 def main():
@@ -129,12 +135,13 @@ def main():
         clients[0].log.set_up(key, value)
     trial.run_all(clients)
     record = [told for client in clients for told in client.told]
-    commits = stamp_by_clock(record, options.clock) if options.clock else stamp_all(session, record)
+    commits, forks = stamp_by_clock(record, options.clock) if options.clock else stamp_all(record)
     for told in record:
         if told.is_committed:
             told.txn.commit(commits[told])
         else:
             told.txn.abort()
+    trial.end_with(forks)
 
 
 main()
