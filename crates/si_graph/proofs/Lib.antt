@@ -16,4 +16,5 @@ pub mod SerialRuns
 pub mod SortedRuns
 pub mod SerialFindings
 pub mod SnapshotFindings
+pub mod VersionOrders
 pub mod CommitChains

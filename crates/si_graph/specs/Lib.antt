@@ -11,4 +11,5 @@ pub mod Serializability
 pub mod SerialLaws
 pub mod Snapshots
 pub mod SnapshotLaws
+pub mod VersionOrders
 pub mod EvidenceTests

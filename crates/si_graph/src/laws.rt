@@ -5,6 +5,7 @@ ghost use Rattle.si_graph.specs.Emptiness.{AbortedReadsAreFound, CircularFlowInt
 ghost use Rattle.si_graph.specs.Laws.{CircularWalksHaveCycles, MissedWalksHaveCycles, ShownIsThere, NothingIsShown, ExplainedIsShown, ModelLaws};
 ghost use Rattle.si_graph.specs.SerialLaws.{SerialReadsAreClean, SerialIsClean, RunsAreSerial, CleanIsARun, NoneOverlaps, FutureIsLater, CleanIsSerializable};
 ghost use Rattle.si_graph.specs.SnapshotLaws.{AlarmsAreTrue, SnapshotReadsAreClean, ApartIsClean, SnapshotsAreClean, SnapshotsAreExact};
+ghost use Rattle.si_graph.specs.VersionOrders.{AnyVersionOrder, CommitOrderIsOurs, PassingOrdersAreByCommits};
 
 use si_model::laws::{
     accesses_are_operations, findings_are_exact, form_is_found, id_is_found, install_is_exact,
@@ -166,6 +167,27 @@ pub fn snapshots_are_exact()
 /// Each finding of a history tells a read that isn't what its snapshot gives it, or two writers of one key that overlap.
 pub fn alarms_are_true()
     ensures { AlarmsAreTrue }
+{
+    model_laws();
+}
+
+/// A version order by which a history is PL-SI is that of the commit stamps.
+pub fn passing_orders_are_by_commits()
+    ensures { PassingOrdersAreByCommits }
+{
+    model_laws();
+}
+
+/// By the order of the commit stamps, a history is PL-SI in the thesis's sense exactly where it is in this project's.
+pub fn commit_order_is_ours()
+    ensures { CommitOrderIsOurs }
+{
+    model_laws();
+}
+
+/// So a history is PL-SI by some version order exactly where it is so by commit stamps.
+pub fn any_version_order()
+    ensures { AnyVersionOrder }
 {
     model_laws();
 }
