@@ -9,7 +9,7 @@ import time
 
 from . import kit
 from .edits import FOLDERS
-from .half_counts import STAMP, Stamp, sum_of
+from .half_counts import STAMP, Stamp, logic_of, sum_of
 from .lanes import Lanes, Proofs, lanes, take_turns
 from .trial import CrateTrial
 
@@ -112,8 +112,8 @@ class Run:
         so = "" if is_stamped else ", so its halves are due: `tools/wrong_bodies --stamp` renews that"
         for it in changed:
             self.say(f"{it.crate.name}: {STAMP} doesn't have it as it is now{so}")
-        if sums.get("kit", kit.version()) != kit.version():
-            self.say(f"{STAMP} is of another kit: {sums['kit']}")
+        if logic_of(sums.get("kit", kit.version())) != logic_of(kit.version()):
+            self.say(f"{STAMP} is of a kit with another logic: {sums['kit']}")
         others = [] if is_stamped else [it for it in trials if it not in changed]
         return changed + random.Random(f"{self.given.seed} halves").sample(others, min(1, len(others)))
 

@@ -52,6 +52,11 @@ def sum_of(crate):
     return hashlib.sha256("\n".join(sorted(rows)).encode()).hexdigest()[:32]
 
 
+def logic_of(kit):
+    """Returns the logic that a kit names. What was proved by a kit counts for the others of its logic."""
+    return kit.partition(" logic ")[2]
+
+
 class Stamp:
     """The sums that stand in the file, by crate, and the kit; where there is no file, none."""
 
@@ -66,9 +71,9 @@ class Stamp:
         return self.sums.get(crate.name) == sum_of(crate)
 
     def keep(self, sums, crates, kit):
-        """Writes these sums beside those of the file that are of these crates and of this kit. (Another command may have written it meanwhile.)"""
+        """Writes these sums beside those of the file that are of these crates and of this kit's logic. (Another command may have written it meanwhile.)"""
         now = Stamp(self.path).sums
-        old = now if now.get("kit") == kit else {}
+        old = now if logic_of(now.get("kit", "")) == logic_of(kit) else {}
         kept = {name: it for name, it in {**old, **sums}.items() if name in crates}
         with open(self.path, "w", encoding="utf-8") as file:
             file.write(HEAD + f"kit {kit}\n" + "".join(f"{name} {kept[name]}\n" for name in sorted(kept)))
