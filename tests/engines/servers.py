@@ -1,0 +1,176 @@
+"""The engines: how each is started in a folder of its own, by a user that isn't root, and which clients run on it."""
+import os
+import pwd
+import shutil
+import signal
+import socket
+import subprocess
+import time
+from pathlib import Path
+
+PYTHON = "/usr/bin/python3"  # Debian's own, which has the package of LMDB
+LONGEST = 900  # seconds after which a server ends by itself
+
+
+class Missed(Exception):
+    """Something of an engine went wrong."""
+
+
+class Engine:
+    """An engine without a server."""
+
+    name, packages, user = "", (), "nobody"
+    is_piped = False  # whether one run is judged behind a pipe
+    clients = ()  # of each: its name, its words below examples/, and what it can do wrong
+
+    def __init__(self, room, tree):
+        self.room, self.tree, self.servers = Path(room), Path(tree), []
+        self.room.mkdir()
+        self.variables = {"PATH": "/usr/sbin:/usr/bin:/sbin:/bin", "HOME": str(self.room), "TMPDIR": str(self.room), "LC_ALL": "C.UTF-8",
+                          "PYTHONDONTWRITEBYTECODE": "1"}
+        self.own(self.room)
+
+    def as_user(self):
+        """What makes a process the user's, where we are root."""
+        if os.getuid() != 0:
+            return {}
+        who = pwd.getpwnam(self.user)
+        return {"user": who.pw_uid, "group": who.pw_gid, "extra_groups": []}
+
+    def own(self, path):
+        if os.getuid() == 0:
+            who = pwd.getpwnam(self.user)
+            os.chown(path, who.pw_uid, who.pw_gid)
+
+    def run(self, *words, seconds=60, text=None, **more):
+        """A command of the user's, which has to end well."""
+        done = subprocess.run([str(it) for it in words], env={**self.variables, **more}, cwd=self.room, input=text, capture_output=True, text=True,
+                              timeout=seconds, check=False, **self.as_user())
+        if done.returncode != 0:
+            raise Missed(f"{words[0]} ended with {done.returncode}: {(done.stdout + done.stderr)[-600:]}")
+        return done.stdout
+
+    def serve(self, *words):
+        """A server of the user's, which ends by itself after a while."""
+        said = open(self.room / "server.txt", "ab")
+        with said:
+            self.servers.append(subprocess.Popen(
+                ["timeout", "-k", "5", str(LONGEST), *[str(it) for it in words]], env=self.variables, cwd=self.room, stdin=subprocess.DEVNULL,
+                stdout=said, stderr=said, start_new_session=True, **self.as_user()))
+
+    def await_it(self, is_there, seconds=60):
+        """Waits until the server answers."""
+        until = time.monotonic() + seconds
+        while not is_there():
+            if time.monotonic() > until or self.servers[-1].poll() is not None:
+                raise Missed("the server doesn't answer: " + (self.room / "server.txt").read_text(errors="replace")[-600:])
+            time.sleep(0.1)
+
+    def begin(self):
+        """Makes the engine ready."""
+
+    def end(self):
+        for server in self.servers:
+            if server.poll() is None:
+                server.terminate()
+        for server in self.servers:
+            try:
+                server.wait(15)
+            except subprocess.TimeoutExpired:
+                pass
+            try:
+                os.killpg(server.pid, signal.SIGKILL)
+            except ProcessLookupError:
+                pass
+            server.wait()
+
+
+def answers(port):
+    """Whether somebody listens to the port."""
+    with socket.socket() as asked:
+        return asked.connect_ex(("127.0.0.1", port)) == 0
+
+
+def python(path, *words):
+    return [PYTHON, path, *words]
+
+
+SNAPSHOTS = ("cache", "outside", "unchecked", "outcome")
+
+
+class Sqlite(Engine):
+    name, packages = "SQLite", ("libsqlite3-0",)
+    clients = (("", python("sqlite/client.py"), SNAPSHOTS),)
+
+
+class Lmdb(Engine):
+    name, packages = "LMDB", ("liblmdb0", "python3-lmdb")
+    is_piped = True
+    clients = (("", python("lmdb/client.py"), SNAPSHOTS),)
+
+
+class Postgresql(Engine):
+    name, packages = "PostgreSQL", ("postgresql-15",)
+    clients = (("", python("postgresql/client.py", "--transactions", "200"), SNAPSHOTS),)
+
+    def begin(self):
+        programs = sorted(Path("/usr/lib/postgresql").glob("*/bin"))[-1]
+        self.variables.update(PGHOST=str(self.room), PGUSER="postgres", PGDATABASE="postgres")
+        self.run(programs / "initdb", "-D", "data", "-U", "postgres", "-A", "trust", "--no-sync")
+        self.serve(programs / "postgres", "-D", "data", "-k", self.room, "-c", "listen_addresses=", "-c", "fsync=off", "-c", "deadlock_timeout=50ms")
+        self.await_it(lambda: shutil.which("psql") and self.responds("psql", "-c", "select 1"))
+
+    def responds(self, *words):
+        try:
+            self.run(*words)
+        except Missed:
+            return False
+        return True
+
+
+class Mariadb(Postgresql):
+    name, packages = "MariaDB", ("mariadb-server-core", "mariadb-client-core")
+    clients = (("by snapshots", python("mariadb/snapshots.py"), SNAPSHOTS),
+               ("in commit order", python("mariadb/client.py"), ("cache", "unlocked", "outcome")))
+
+    def begin(self):
+        place = self.room / "socket"
+        (self.room / ".my.cnf").write_text(f"[client]\nuser=root\nsocket={place}\n", encoding="utf-8")
+        self.run("mariadb-install-db", "--no-defaults", f"--datadir={self.room}/data", "--auth-root-authentication-method=normal", "--skip-test-db")
+        self.serve("mariadbd", "--no-defaults", f"--datadir={self.room}/data", f"--socket={place}", f"--pid-file={self.room}/pid",
+                   "--skip-networking", "--log-bin=bin", "--binlog-format=ROW", "--server-id=1", "--innodb-flush-log-at-trx-commit=0")
+        self.await_it(lambda: self.responds("mariadb", "-e", "CREATE DATABASE IF NOT EXISTS test"))
+
+
+class Etcd(Engine):
+    name, packages = "etcd", ("etcd-server",)
+    PORT = 23790
+    clients = (("", python("etcd/client.py", "--address", f"127.0.0.1:{PORT}"), SNAPSHOTS),)
+
+    def begin(self):
+        client, peer = f"http://127.0.0.1:{self.PORT}", f"http://127.0.0.1:{self.PORT + 1}"
+        self.serve("etcd", "--data-dir", self.room / "data", "--listen-client-urls", client, "--advertise-client-urls", client,
+                   "--listen-peer-urls", peer, "--initial-advertise-peer-urls", peer, "--initial-cluster", f"default={peer}")
+        self.await_it(lambda: answers(self.PORT))
+
+
+class Firebird(Engine):
+    """Its configuration and its users stand where the package has put them, for the package's own user alone."""
+    name, packages, user = "Firebird", ("firebird3.0-server", "firebird3.0-utils"), "firebird"
+    PORT = 30500
+
+    @property
+    def clients(self):
+        return (("", python("firebird/client.py", "--database", f"localhost/{self.PORT}:{self.room}/test.fdb"), SNAPSHOTS),)
+
+    def begin(self):
+        with open("/etc/firebird/3.0/SYSDBA.password", encoding="utf-8") as file:
+            words = dict(line.strip().split("=", 1) for line in file if line.startswith("ISC_"))
+        self.variables.update({name: word.strip('"') for name, word in words.items()}, FIREBIRD_LOCK=str(self.room), FIREBIRD_TMP=str(self.room))
+        self.serve("firebird", "-p", self.PORT)
+        self.await_it(lambda: answers(self.PORT))
+        self.run("isql-fb", "-q", "-b", text=f"CREATE DATABASE 'localhost/{self.PORT}:{self.room}/test.fdb';\n")
+        self.run("gfix", "-write", "async", f"localhost/{self.PORT}:{self.room}/test.fdb")
+
+
+ALL = (Mariadb, Firebird, Etcd, Lmdb, Sqlite, Postgresql)  # the slowest first
