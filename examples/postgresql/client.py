@@ -49,8 +49,9 @@ class Session:
         found = self.ask(f"select value from pairs where key = '{key}'{suffix}")
         return int(found[0]) if found else None
 
-    def put(self, key, value):
-        self.ask(f"insert into pairs values ('{key}', {value}) on conflict (key) do update set value = {value}")
+    def put(self, key, value, is_new=False):
+        """Writes the key; one that is known to be new has to be so still."""
+        self.ask(f"insert into pairs values ('{key}', {value})" + ("" if is_new else f" on conflict (key) do update set value = {value}"))
 
     def end(self):
         self.psql.stdin.close()
@@ -124,9 +125,12 @@ class Client:
             if self.options.stamps == "late":
                 told.snapshot = self.other.snapshot()
             return
+        is_new = False
         if self.options.notes and key not in told.written:
-            told.replaces(key, writer.value(key, " for update"), *([] if writer is self.session else [self.session.value(key)]))
-        writer.put(key, told.write(key))
+            replaced = writer.value(key, " for update")
+            is_new = replaced is None
+            told.replaces(key, replaced, *([] if writer is self.session else [self.session.value(key)]))
+        writer.put(key, told.write(key), is_new)
 
 
 def stamp_all(record):

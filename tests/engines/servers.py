@@ -20,6 +20,7 @@ class Engine:
     """An engine without a server."""
 
     name, packages, user = "", (), "nobody"
+    late = {"stale"}  # what starts that are asked for too late come to
     is_piped = False  # whether one run is judged behind a pipe
     clients = ()  # of each: its name, its words below examples/, and what it can do wrong
 
@@ -173,4 +174,42 @@ class Firebird(Engine):
         self.run("gfix", "-write", "async", f"localhost/{self.PORT}:{self.room}/test.fdb")
 
 
-ALL = (Mariadb, Firebird, Etcd, Lmdb, Sqlite, Postgresql)  # the slowest first
+class Compiled(Engine):
+    """An engine in a client that has to be compiled first: its sources, and the compiler's words for a program in the room."""
+    compiler = ()
+
+    def begin(self):
+        self.run(*[word.format(examples=self.tree / "examples", room=self.room) for word in self.compiler], seconds=120)
+
+    @property
+    def clients(self):
+        return (("", [self.room / "client"], self.faults),)
+
+
+class Rocksdb(Compiled):
+    name, packages, faults = "RocksDB", ("librocksdb-dev", "g++"), SNAPSHOTS
+    compiler = ("g++", "-std=c++17", "-O1", "-Wall", "-Wextra", "-Werror", "-o", "{room}/client", "{examples}/rocksdb/client.cc", "-lrocksdb",
+                "-lpthread")
+
+
+class Bdb(Compiled):
+    name, packages, faults = "Berkeley DB", ("libdb5.3-dev", "gcc"), ("cache", "unlocked", "outcome")
+    late = {"stale", "future"}
+    compiler = ("cc", "-O1", "-Wall", "-Wextra", "-Werror", "-o", "{room}/client", "{examples}/bdb/client.c", "-ldb-5.3", "-lpthread")
+
+
+class H2(Compiled):
+    """Its client writes raw lines, which the package numbers."""
+    name, packages, faults = "H2", ("libh2-java", "openjdk-17-jdk-headless"), SNAPSHOTS
+    compiler = ("javac", "-Xlint:all", "-Werror", "-d", "{room}", "{examples}/h2/Lines.java", "{examples}/h2/Trial.java",
+                "{examples}/h2/Session.java", "{examples}/h2/Client.java")
+    JAVA = "java -XX:TieredStopAtLevel=1 -XX:+UseSerialGC -Djava.io.tmpdir={room} -cp {room}:/usr/share/java/h2.jar"
+
+    @property
+    def clients(self):
+        self.variables["PYTHONPATH"] = str(self.tree / "python")
+        line = f'set -o pipefail; {self.JAVA.format(room=self.room)} Client "$@" | {PYTHON} -m sicheck number'
+        return (("", ["bash", "-c", line, "h2"], self.faults),)
+
+
+ALL = (Mariadb, Firebird, H2, Etcd, Sqlite, Lmdb, Postgresql, Rocksdb, Bdb)  # the slowest first
