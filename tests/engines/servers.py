@@ -188,7 +188,7 @@ class Compiled(Engine):
 
 class Rocksdb(Compiled):
     name, packages, faults = "RocksDB", ("librocksdb-dev", "g++"), SNAPSHOTS
-    compiler = ("g++", "-std=c++17", "-O1", "-Wall", "-Wextra", "-Werror", "-o", "{room}/client", "{examples}/rocksdb/client.cc", "-lrocksdb",
+    compiler = ("g++", "-std=c++17", "-O0", "-Wall", "-Wextra", "-Werror", "-o", "{room}/client", "{examples}/rocksdb/client.cc", "-lrocksdb",
                 "-lpthread")
 
 
