@@ -51,6 +51,7 @@ class Language:
             signal.signal(signal.SIGXFSZ, signal.SIG_IGN)
             if limit is not None:
                 resource.setrlimit(resource.RLIMIT_FSIZE, (limit, limit))
+        servers.STARTED.go_on()
         given = "".join(",".join(key.hex() for key in row) + "\n" for row in rows)
         done = subprocess.run([*map(str, self.begin), mode], input=given, stdout=output, stderr=subprocess.PIPE, text=True, timeout=60, check=False,
                               env=self.engine.variables, cwd=self.engine.room, preexec_fn=prepare, **self.engine.as_user())
@@ -156,5 +157,5 @@ def languages(engines):
             yield Language(engine, ["g++", "-std=c++17", "-O1", "-Wall", "-Wextra", "-Werror", "-I", examples / "rocksdb", "-o", room / "hostile",
                                     here / "hostile.cc"], [room / "hostile"], False)
         elif isinstance(engine, servers.H2):
-            yield Language(engine, ["javac", "-Xlint:all", "-Werror", "-cp", room, "-d", room, here / "Hostile.java"],
+            yield Language(engine, ["javac", "-J-XX:-UsePerfData", "-Xlint:all", "-Werror", "-cp", room, "-d", room, here / "Hostile.java"],
                            ["java", "-XX:TieredStopAtLevel=1", "-XX:-UsePerfData", "-cp", room, "Hostile"], True)

@@ -30,6 +30,11 @@ def apt(*words, seconds):
     return done.returncode == 0
 
 
+def update():
+    """Whether the lists of packages can be had; by itself apt-get takes old ones instead."""
+    return apt("update", "--error-on=any", seconds=120)
+
+
 def install(packages):
     """Installs the packages, none of whose daemons starts. Whether it could."""
     is_ours = not POLICY.exists()

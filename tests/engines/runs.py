@@ -1,17 +1,16 @@
 """A run of a client on an engine, and what the checker has to say of its log."""
 import json
-import os
 import re
-import signal
 import subprocess
 import sys
+import threading
 import time
 from collections import Counter
 from pathlib import Path
 
 sys.path.insert(0, str(Path(__file__).resolve().parents[1]))
 import truth  # noqa: E402
-from servers import Missed  # noqa: E402
+from servers import Missed, STARTED  # noqa: E402
 
 LEAST = 20  # faults of each kind
 SECONDS = 150  # at most, of a client
@@ -33,19 +32,15 @@ class Run:
 
     def start(self, output):
         """The client, as a process of the engine's user in the tree's folder of examples."""
-        return subprocess.Popen(["timeout", "-k", "5", str(SECONDS), *self.words], cwd=self.engine.tree / "examples", env=self.engine.variables,
-                                stdin=subprocess.DEVNULL, stdout=output, stderr=subprocess.PIPE, text=True, start_new_session=True,
-                                **self.engine.as_user())
+        return STARTED.start(["timeout", "-k", "5", SECONDS, *self.words], cwd=self.engine.tree / "examples", env=self.engine.variables,
+                             stdout=output, stderr=subprocess.PIPE, text=True, **self.engine.as_user())
 
     def ended(self, client):
         """Waits for the client, which has to end well, and lets nothing of it live on."""
         try:
             said = client.communicate(timeout=SECONDS + 20)[1]
         finally:
-            try:
-                os.killpg(client.pid, signal.SIGKILL)
-            except ProcessLookupError:
-                pass
+            STARTED.kill(client)
         if client.returncode != 0:
             raise Missed(f"the client ended with {client.returncode}: {said[-600:]}")
 
@@ -146,25 +141,45 @@ def judge_unscaled(program, run):
     return counted(answer)
 
 
+class PipeEnd:
+    """The end of a pipe that is written to, which is open until somebody closes it, or for long enough."""
+
+    def __init__(self, file):
+        self.file, self.is_late, self.guard = file, False, threading.Lock()
+        self.timer = threading.Timer(SECONDS, self.give_up)
+        self.timer.daemon = True
+        self.timer.start()
+
+    def close(self):
+        self.timer.cancel()
+        with self.guard:
+            self.file.close()
+
+    def give_up(self):
+        with self.guard:
+            if not self.file.closed:
+                self.is_late = True
+                self.file.close()
+
+
 def judge_pipe(program, run):
-    """The client writes to a pipe, and the checker reports while it does."""
+    """The client writes to a pipe, and the checker reports while that is open: here, until the first report has come."""
     checker = subprocess.Popen([program, "check", "--every", "100", "--new"], stdin=subprocess.PIPE, stdout=subprocess.PIPE, stderr=subprocess.PIPE,
                                text=True)
     client = run.start(checker.stdin)
-    checker.stdin.close()
+    end, begun, lines = PipeEnd(checker.stdin), time.monotonic(), []
     checker.stdin = None
-    begun, first, lines = time.monotonic(), None, []
     for line in checker.stdout:
-        if first is None and line.startswith("transactions="):
-            first = client.poll() is None
         lines.append(line)
+        if line.startswith("transactions="):
+            end.close()
     run.ended(client)
     if checker.wait(60) != 20 or checker.stderr.read():
         raise Missed(f"the checker behind the pipe ended with {checker.returncode}")
     checker.stdout.close()
     checker.stderr.close()
-    if not first:
-        raise Missed("no report came while the client ran")
+    if end.is_late:
+        raise Missed("no report came while the pipe was open")
     ends = [place for place, line in enumerate(lines) if line.startswith("transactions=")]
     hold(checker.returncode, "".join(lines[ends[-2] + 1:]), run.read_notes().findings(), 500)
     return f"{len(ends)} reports in {time.monotonic() - begun:.0f} s, {counted(''.join(lines[ends[-2] + 1:]))}"

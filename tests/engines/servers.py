@@ -5,6 +5,7 @@ import shutil
 import signal
 import socket
 import subprocess
+import threading
 import time
 from pathlib import Path
 
@@ -14,6 +15,67 @@ LONGEST = 900  # seconds after which a server ends by itself
 
 class Missed(Exception):
     """Something of an engine went wrong."""
+
+
+class Started:
+    """All that was started: each in a process group of its own."""
+
+    def __init__(self):
+        self.groups, self.is_over, self.guard = set(), False, threading.Lock()
+
+    def start(self, words, **how):
+        self.go_on()
+        with self.guard:
+            process = subprocess.Popen([str(it) for it in words], stdin=subprocess.DEVNULL, start_new_session=True, **how)
+            self.groups.add(process.pid)
+            return process
+
+    def go_on(self):
+        """Nothing begins once all was ended."""
+        if self.is_over:
+            raise Missed("ended before its time")
+
+    def kill(self, process):
+        """Ends the process with all that it has begun. Of one that has ended its group alone is left: its number may be given again."""
+        with self.guard:
+            if process.pid in self.groups:
+                self.groups.discard(process.pid)
+                kill_all([] if process.poll() is not None else families([process.pid]), [process.pid])
+
+    def end(self):
+        """Ends all that was started."""
+        self.is_over = True
+        with self.guard:
+            kill_all(families(self.groups), self.groups)
+            self.groups.clear()
+
+
+def families(parents):
+    """The processes and their children, as far as they live: a server may leave the group in which it was started."""
+    children = {}
+    for path in Path("/proc").glob("[0-9]*/stat"):
+        try:
+            words = path.read_text().rpartition(")")[2].split()
+        except (OSError, UnicodeDecodeError):
+            continue
+        children.setdefault(int(words[1]), []).append(int(path.parent.name))
+    found, left = [], list(parents)
+    while left:
+        found.append(left.pop())
+        left += children.get(found[-1], [])
+    return found
+
+
+def kill_all(processes, groups):
+    for kill, numbers in ((os.kill, processes), (os.killpg, groups)):
+        for number in numbers:
+            try:
+                kill(number, signal.SIGKILL)
+            except (ProcessLookupError, PermissionError):
+                pass
+
+
+STARTED = Started()
 
 
 class Engine:
@@ -45,6 +107,7 @@ class Engine:
 
     def run(self, *words, seconds=60, text=None, **more):
         """A command of the user's, which has to end well."""
+        STARTED.go_on()
         done = subprocess.run([str(it) for it in words], env={**self.variables, **more}, cwd=self.room, input=text, capture_output=True, text=True,
                               timeout=seconds, check=False, **self.as_user())
         if done.returncode != 0:
@@ -55,9 +118,8 @@ class Engine:
         """A server of the user's, which ends by itself after a while."""
         said = open(self.room / "server.txt", "ab")
         with said:
-            self.servers.append(subprocess.Popen(
-                ["timeout", "-k", "5", str(LONGEST), *[str(it) for it in words]], env=self.variables, cwd=self.room, stdin=subprocess.DEVNULL,
-                stdout=said, stderr=said, start_new_session=True, **self.as_user()))
+            self.servers.append(STARTED.start(["timeout", "-k", "5", LONGEST, *words], env=self.variables, cwd=self.room, stdout=said, stderr=said,
+                                              **self.as_user()))
 
     def await_it(self, is_there, seconds=60):
         """Waits until the server answers."""
@@ -74,15 +136,11 @@ class Engine:
         for server in self.servers:
             if server.poll() is None:
                 server.terminate()
-        for server in self.servers:
-            try:
-                server.wait(15)
-            except subprocess.TimeoutExpired:
-                pass
-            try:
-                os.killpg(server.pid, signal.SIGKILL)
-            except ProcessLookupError:
-                pass
+                try:
+                    server.wait(15)
+                except subprocess.TimeoutExpired:
+                    pass
+            STARTED.kill(server)
             server.wait()
 
 
@@ -201,9 +259,9 @@ class Bdb(Compiled):
 class H2(Compiled):
     """Its client writes raw lines, which the package numbers."""
     name, packages, faults = "H2", ("libh2-java", "openjdk-17-jdk-headless"), SNAPSHOTS
-    compiler = ("javac", "-Xlint:all", "-Werror", "-d", "{room}", "{examples}/h2/Lines.java", "{examples}/h2/Trial.java",
+    compiler = ("javac", "-J-XX:-UsePerfData", "-Xlint:all", "-Werror", "-d", "{room}", "{examples}/h2/Lines.java", "{examples}/h2/Trial.java",
                 "{examples}/h2/Session.java", "{examples}/h2/Client.java")
-    JAVA = "java -XX:TieredStopAtLevel=1 -XX:+UseSerialGC -Djava.io.tmpdir={room} -cp {room}:/usr/share/java/h2.jar"
+    JAVA = "java -XX:-UsePerfData -XX:TieredStopAtLevel=1 -XX:+UseSerialGC -Djava.io.tmpdir={room} -cp {room}:/usr/share/java/h2.jar"
 
     @property
     def clients(self):
