@@ -6,7 +6,7 @@
 // versions. The same key tells what became of a commit whose answer was lost.
 //
 // With --fault one transaction at a time goes wrong, and --notes tells how: `cache` reads from a cache that nobody clears, `outside` reads without
-// the snapshot, `unchecked` writes by PutUntracked, which looks for no conflict, `outcome` takes commits for rollbacks. With --stamps late the
+// the snapshot, `unchecked` writes in another transaction, which has no snapshot, `outcome` takes commits for rollbacks. With --stamps late the
 // start is the newest number behind the reads, which is false, and with --stamps clock the stamps are a clock's.
 #include "trial.hpp"
 #include <algorithm>
@@ -42,20 +42,20 @@ class Client : Chance {
     Told told(faults_, id, only_reads, happens(0.6));
     rocksdb::OptimisticTransactionOptions with_snapshot;
     with_snapshot.set_snapshot = true;
-    const std::unique_ptr<rocksdb::Transaction> txn(database_.BeginTransaction({}, with_snapshot));
+    const std::unique_ptr<rocksdb::Transaction> txn(database_.BeginTransaction({}, with_snapshot)), other(database_.BeginTransaction({}));
+    auto &writer = told.wrong == "unchecked" ? *other : *txn;
     start_ = faults_.options.stamps == "clock" ? clock_now() : txn->GetSnapshot()->GetSequenceNumber();
     for (unsigned left = 2 + below(3); left > 0; left--) {
       std::this_thread::sleep_for(std::chrono::microseconds(below(2000)));
       const std::string key = "k" + std::to_string(below(faults_.options.keys));
-      if (only_reads || happens(0.5)) read(told, *txn, key);
-      else write(told, *txn, key);
+      if (only_reads || happens(0.5)) read(told, told.written.count(key) ? writer : *txn, key);
+      else write(told, *txn, writer, key);
     }
-    if (!told.written.empty()) must(txn->PutUntracked(row_, std::to_string(id)));
-    const auto status = happens(0.05) ? rocksdb::Status::Busy() : txn->Commit();
+    if (!told.written.empty()) must(writer.Put(row_, std::to_string(id)));
+    const auto status = happens(0.05) ? rocksdb::Status::Busy() : writer.Commit();
     if (!status.IsBusy() && !status.IsTryAgain()) must(status);
     end(told, status.ok());
   }
-
   // What the transaction's snapshot has, or what it wrote itself.
   static Value find(rocksdb::Transaction &txn, const std::string &key) {
     rocksdb::ReadOptions at_snapshot;
@@ -77,11 +77,11 @@ class Client : Chance {
     told.ops.read(key, taken);
   }
 
-  void write(Told &told, rocksdb::Transaction &txn, const std::string &key) {
+  void write(Told &told, rocksdb::Transaction &txn, rocksdb::Transaction &writer, const std::string &key) {
     if (!told.written.count(key)) told.written[key] = find(txn, key);
     const Number value = told.id * 4096 + told.ops.count();
     told.ops.write(key, value);
-    must(told.wrong == "unchecked" ? txn.PutUntracked(key, std::to_string(value)) : txn.Put(key, std::to_string(value)));
+    must(writer.Put(key, std::to_string(value)));
   }
 
   std::vector<rocksdb::KeyVersion> versions(const std::string &key) {

@@ -9,6 +9,8 @@ import threading
 import time
 from pathlib import Path
 
+import packages
+
 PYTHON = "/usr/bin/python3"  # Debian's own, which has the package of LMDB
 LONGEST = 900  # seconds after which a server ends by itself
 
@@ -93,6 +95,9 @@ class Engine:
                           "PYTHONDONTWRITEBYTECODE": "1"}
         self.own(self.room)
 
+    def version(self):
+        return f"{self.packages[0]} {packages.version_of(self.packages[0])}"
+
     def as_user(self):
         """What makes a process the user's, where we are root."""
         if os.getuid() != 0:
@@ -158,8 +163,12 @@ SNAPSHOTS = ("cache", "outside", "unchecked", "outcome")
 
 
 class Sqlite(Engine):
-    name, packages = "SQLite", ("libsqlite3-0",)
+    """Python has it."""
+    name = "SQLite"
     clients = (("", python("sqlite/client.py"), SNAPSHOTS),)
+
+    def version(self):
+        return self.run(PYTHON, "-c", "import sqlite3; print(sqlite3.sqlite_version)").strip()
 
 
 class Lmdb(Engine):
