@@ -8,7 +8,7 @@ class Etcd:
     """The JSON gateway of one etcd. It never asks twice: an answer that doesn't come leaves the request in doubt."""
 
     def __init__(self, address):
-        self.connection = http.client.HTTPConnection(address, timeout=10)
+        self.connection = http.client.HTTPConnection(address, timeout=60)
 
     def ask(self, path, body):
         try:

@@ -72,7 +72,7 @@ class Session:
 
 
 ROW = "writer-"
-NOW = "SET TRANSACTION READ COMMITTED RECORD_VERSION NO WAIT"
+NOW = "SET TRANSACTION SNAPSHOT NO WAIT"
 
 
 class Client:
@@ -104,7 +104,7 @@ class Client:
         place = None
         self.session.ask(f"SET TRANSACTION {self.options.level} NO WAIT")
         if writer is self.other:
-            writer.ask(NOW)
+            writer.ask("SET TRANSACTION READ COMMITTED RECORD_VERSION NO WAIT")
         try:
             begun = self.operate(told, writer, only_reads)
             place = next(self.order)
