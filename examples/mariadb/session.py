@@ -28,6 +28,11 @@ class Session:
             raise Refused("\n".join(lines))
         return lines
 
+    def end(self):
+        self.program.stdin.close()
+        self.program.wait()
+        self.program.stdout.close()
+
     def number(self, expression):
         """The number of the commit that the expression names, as 7 of the GTID 0-1-7; 0 before the first one."""
         answer = self.ask(f"SELECT {expression}")[0]

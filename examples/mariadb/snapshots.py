@@ -7,12 +7,8 @@ Binlog_snapshot_position, of which BINLOG_GTID_POS makes the number of the last 
 for their status at once may be told another session's place, so they ask one at a time, under GET_LOCK.
 
 At REPEATABLE READ, the default, MariaDB loses updates; with innodb_snapshot_isolation=ON, which is the default here, it is
-snapshot isolation. Each --fault does one thing wrong:
-
-    lost      innodb_snapshot_isolation is off: a transaction overwrites what it doesn't see
-    newest    READ COMMITTED: each statement has a snapshot of its own
-    locking   a quarter of the reads are SELECT .. FOR UPDATE and innodb_snapshot_isolation is off: they read the newest version
-    start     a false start, of a healthy database: @@GLOBAL.gtid_binlog_pos, asked for after the snapshot was taken
+snapshot isolation. With --fault unchecked that is off in some transactions, with --level another level is asked for. With --stamps late
+the start is @@GLOBAL.gtid_binlog_pos, asked for after the snapshot was taken, which is false.
 
 The server needs log-bin and binlog-format=ROW.
 """
@@ -20,69 +16,90 @@ import os
 import sys
 
 sys.path.insert(0, os.path.join(os.path.dirname(os.path.abspath(__file__)), ".."))
+import injected  # noqa: E402
 import trial  # noqa: E402 (it knows where the package is)
 import sicheck  # noqa: E402
 from session import Refused, Session, add_options  # noqa: E402
 
 
 class Client:
-    """A client with its own session, chance and log."""
+    """A client with its own sessions, chance and log."""
 
-    def __init__(self, options, number):
-        self.options = options
+    def __init__(self, options, faults, number):
+        self.options, self.faults = options, faults
         self.plan = trial.Plan(options, number)
         self.log = sicheck.Log(sys.stdout, client=number)
+        self.cache = {}
 
     def run(self):
-        self.session = Session(self.options)
-        level = "READ COMMITTED" if self.options.fault == "newest" else "REPEATABLE READ"
-        self.session.ask(f"SET SESSION TRANSACTION ISOLATION LEVEL {level}")
-        is_isolated = self.options.fault not in ("lost", "locking", "newest")
-        self.session.ask(f"SET SESSION innodb_snapshot_isolation = {'ON' if is_isolated else 'OFF'}")
-        for _ in range(self.options.transactions):
-            self.run_transaction(self.log.transaction())
+        self.session, self.other = Session(self.options), Session(self.options)
+        self.session.ask(f"SET SESSION TRANSACTION ISOLATION LEVEL {self.options.level}")
+        self.look_for_conflicts(not self.options.lost)
+        for _ in self.faults.rounds():
+            self.run_transaction()
+        self.session.end()
+        self.other.end()
+
+    def look_for_conflicts(self, is_on):
+        self.session.ask(f"SET SESSION innodb_snapshot_isolation = {'ON' if is_on else 'OFF'}")
 
     def start(self):
         """The number of the last commit that the snapshot sees."""
-        if self.options.fault == "start":
-            return self.session.number("@@GLOBAL.gtid_binlog_pos")
         self.session.ask("SELECT GET_LOCK('snapshot place', 60)")
         place = dict(line.split("\t") for line in self.session.ask("SHOW SESSION STATUS LIKE 'Binlog_snapshot_%'"))
         self.session.ask("SELECT RELEASE_LOCK('snapshot place')")
         return self.session.number(f"BINLOG_GTID_POS('{place['Binlog_snapshot_file']}', {place['Binlog_snapshot_position']})")
 
-    def run_transaction(self, txn):
+    def run_transaction(self):
         only_reads = self.plan.happens(0.3)
+        wrong = self.faults.draw(self.plan, only_reads)
+        told = injected.Told(self.faults, self.log.transaction(), self.cache, wrong)
+        if wrong == "unchecked":
+            self.look_for_conflicts(False)
         try:
-            self.session.ask("START TRANSACTION WITH CONSISTENT SNAPSHOT")
-            txn.start = self.start()
-            for key, is_read in self.plan.operations(only_reads):
-                if is_read:
-                    locks = self.options.fault == "locking" and self.plan.happens(0.25)
-                    txn.read(key, self.session.value(key, " FOR UPDATE" if locks else ""))
-                else:
-                    self.session.put(key, txn.write(key))
-            if self.plan.happens(0.1):
-                raise Refused("a change of mind")
+            self.operate(told, only_reads)
             self.session.ask("COMMIT")
+            is_committed = True
         except Refused:
             self.session.ask("ROLLBACK")
-            txn.abort()
-            return
-        if txn.has_written:
-            txn.commit(self.session.number("@@last_gtid"))
+            is_committed = False
+        commit = self.session.number("@@last_gtid") if is_committed and told.written else None
+        if wrong == "unchecked":
+            self.look_for_conflicts(True)
+        if told.ends(is_committed):
+            told.txn.commit(commit and told.stamp(commit))
         else:
-            txn.commit()
+            told.txn.abort()
+
+    def operate(self, told, only_reads):
+        self.session.ask("START TRANSACTION WITH CONSISTENT SNAPSHOT")
+        told.starts(self.start(), lambda: self.session.number("@@GLOBAL.gtid_binlog_pos"))
+        for key, is_read in self.plan.operations(only_reads):
+            if is_read:
+                told.read(key, self.session.value(key), self.other.value)
+            else:
+                if self.options.notes and key not in told.written:
+                    self.note_replaced(told, key)
+                self.session.put(key, told.write(key))
+        if self.plan.happens(0.1):
+            raise Refused("a change of mind")
+
+    def note_replaced(self, told, key):
+        seen = [self.session.value(key)] if told.wrong == "unchecked" else []
+        told.replaces(key, self.session.value(key, " FOR UPDATE"), *seen)
 
 
 def main():
     words = trial.parser(__doc__)
     add_options(words)
-    words.add_argument("--fault", choices=["lost", "newest", "locking", "start"])
+    words.add_argument("--level", default="repeatable read", help="the isolation level, as MariaDB names it")
+    words.add_argument("--lost", action="store_true", help="innodb_snapshot_isolation is off, the default of 10.11.19")
+    injected.add_options(words, "cache", "outside", "unchecked", "outcome")
     options = words.parse_args()
     values = trial.set_up_values(options)
     Session(options).make_table(values)
-    clients = [Client(options, number) for number in range(1, options.clients + 1)]
+    faults = injected.Faults(options)
+    clients = [Client(options, faults, number) for number in range(1, options.clients + 1)]
     for key, value in values:
         clients[0].log.set_up(key, value)
     trial.run_all(clients)

@@ -1,13 +1,15 @@
-"""The commands of the package: `python3 -m sicheck json|count|page|in-commit-order`."""
+"""The commands of the package: `python3 -m sicheck json|count|explain|page|number|in-commit-order`."""
 import argparse
+import gc
 import os
 import signal
 import sys
 from typing import Iterable, Iterator, List
 
-from .faults import CheckFailed
+from .faults import CheckFailed, LogError
 from .places import Files
 from .reports import last_report_in
+from .stamping import Stamps
 
 NAME = "python3 -m sicheck"
 
@@ -27,11 +29,30 @@ def parser() -> argparse.ArgumentParser:
                                   description="Reads an answer on standard input, and counts the findings of its last report: a line for each "
                                               "kind, one for each kind and key, and the summary.")
     counted.add_argument("--kinds", action="store_true", help="by kind alone")
+    told = commands.add_parser("explain", help="an answer's findings and refused lines beside the database's own numbers",
+                               description="Writes each refused line and each finding of the answer's last report, and below it for each "
+                                           "transaction that it names the database's numbers of its snapshot and its commit, and its line.")
+    told.add_argument("answer", metavar="ANSWER", help="the file of the answer, or - for standard input")
+    told.add_argument("--log", metavar="LOG", nargs="+", required=True, help="the files of the log, in the order of the check")
+    add_stamps(told, "how the log's stamps were made of the database's numbers")
     commands.add_parser("page", add_help=False, help="a page for a browser that shows the findings of an answer beside the log")
+    numbered = commands.add_parser("number", help="a log of what snapshots see, or of the database's own numbers",
+                                   description="Makes a log of raw lines, which say as `seen` what the transaction's snapshot sees: the rows of "
+                                               "the clients, PostgreSQL's snapshot, or the number of the snapshot beside that of the commit. "
+                                               "`pydoc sicheck.raw_lines` tells their forms. The status is 20 where two snapshots contradict "
+                                               "each other, which standard error tells.")
+    numbered.add_argument("raw", metavar="RAW", nargs="*", help="the files of the raw lines; without any, standard input")
+    add_stamps(numbered, "where `seen` is a number: whether a snapshot at s sees the commit at s")
     ordered = commands.add_parser("in-commit-order", help="a log of snapshots as one in commit order",
                                   description="Turns a finished log of snapshots, of the files or of standard input, into one in commit order.")
     ordered.add_argument("logs", metavar="LOG", nargs="*", help="the files of the log")
     return words
+
+
+def add_stamps(words: argparse.ArgumentParser, what: str) -> None:
+    """Which of the two rules the numbers keep."""
+    words.add_argument("--stamps", choices=["after", "at"], default="after",
+                       help=f"{what}: `after` (2c + 1 and 2s + 2, which is taken unasked) or `at` (2c + 1 and 2s)")
 
 
 def print_all(lines: Iterable[str]) -> None:
@@ -57,6 +78,31 @@ def counts(only_kinds: bool) -> Iterator[str]:
     yield f"transactions={last.transactions} findings={last.found} refused={last.refused} verdict={last.verdict}"
 
 
+def explain(name: str, logs: List[str], stamps: Stamps) -> None:
+    """The answer of that name beside its log."""
+    from .explaining import explained
+    if name == "-":
+        print_all(explained(sys.stdin.buffer, logs, stamps))
+        return
+    with open(name, "rb") as answer:
+        print_all(explained(answer, logs, stamps))
+
+
+def number(names: List[str], stamps: Stamps) -> int:
+    """Writes the log that the raw lines make."""
+    from .raw_lines import RawLog, lines_of
+    gc.disable()  # what is read is kept to the end, and has no circles
+    numbered = RawLog(lines_of(names, None if names else sys.stdin.buffer), stamps).numbered()
+    for line in numbered.lines:
+        sys.stdout.buffer.write(line)
+    sys.stdout.flush()
+    for fork in numbered.forks:
+        sys.stderr.write(f"{fork}\n")
+    if numbered.fork_count > len(numbered.forks):
+        sys.stderr.write(f"{numbered.fork_count} forks in all\n")
+    return 20 if numbered.fork_count else 0
+
+
 def in_order(names: List[str]) -> None:
     """Writes the log in commit order, as it is read."""
     from .commit_order import in_commit_order
@@ -73,7 +119,7 @@ def in_order(names: List[str]) -> None:
 
 
 def main(words: List[str]) -> int:
-    """Does what the words ask for, and returns the status: 0, or 2 where it couldn't be done; a page has statuses of its own."""
+    """Does what the words ask for, and returns the status: 0, or 2 where it couldn't be done; `page` and `number` have others too."""
     if words[:1] == ["page"]:
         from .page.command import main as page
         page(words[1:], f"{NAME} page")
@@ -87,9 +133,13 @@ def main(words: List[str]) -> int:
             print_all(as_json(chosen.logs, chosen.last))
         elif chosen.command == "count":
             print_all(counts(chosen.kinds))
+        elif chosen.command == "explain":
+            explain(chosen.answer, chosen.log, Stamps(chosen.stamps))
+        elif chosen.command == "number":
+            return number(chosen.raw, Stamps(chosen.stamps))
         else:
             in_order(chosen.logs)
-    except (CheckFailed, OSError) as fault:
+    except (CheckFailed, LogError, OSError) as fault:
         what = f"cannot read {fault.filename}: {fault.strerror}" if isinstance(fault, OSError) and fault.filename else str(fault)
         sys.stderr.write(f"sicheck {chosen.command}: {what}\n")
         return 2

@@ -344,9 +344,9 @@ def lines_in(answer: Iterable[bytes]) -> Iterator[str]:
             raise CheckFailed("the answer isn't UTF-8") from None
 
 
-def last_report_in(answer: Iterable[bytes]) -> Report:
+def last_report_in(answer: Iterable[bytes], files: Optional[Files] = None) -> Report:
     """The last report of an answer."""
-    reader, last = ReportReader(), None
+    reader, last = ReportReader(files), None
     for line in lines_in(answer):
         last = reader.read(line) or last
     reader.end()

@@ -46,7 +46,8 @@ def numbers_by_snapshots(snapshots: Mapping[Reader, Callable[[Writer], bool]], w
     many of the first writers it sees, without a gap. One that sees a writer behind a gap contradicts another one, and is a fork: the rest is
     numbered as if it weren't there, where the others agree. So log all, and let the test fail where there are forks.
 
-    Each snapshot is asked of each writer: with 10,000 transactions that is some 10 s.
+    Each snapshot is asked of each writer: with 10,000 transactions that is some 10 s. `python3 -m sicheck number` asks for less, and takes 5 s for
+    100,000.
 
     >>> numbers_by_snapshots({"a": lambda it: False, "b": lambda it: it == 7, "c": lambda it: True}, [5, 7])
     Numbers(starts={'a': 0, 'b': 1, 'c': 2}, commits={7: 1, 5: 2}, forks=())

@@ -57,7 +57,7 @@ class Clients(unittest.TestCase):
 
     def test_sqlite(self):
         self.assertGreaterEqual(self.report().assert_passed().transactions, 320)
-        for fault, kind in (("cache", "stale"), ("autocommit", "future")):
+        for fault, kind in (("cache", "stale"), ("unchecked", "overlap")):
             report = self.report("--fault", fault)
             self.assertEqual((report.status, report.refused), (20, 0))
             self.assertIn(kind, report.counts())
