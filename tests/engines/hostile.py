@@ -27,7 +27,7 @@ class Language:
         self.words = words
 
     def make(self):
-        self.engine.run(*self.words, seconds=120)
+        self.engine.run(*self.words)
 
     def keys(self):
         """Lists of keys as the program reads them, and what each is as bytes, or None where it is no key."""
@@ -53,7 +53,7 @@ class Language:
                 resource.setrlimit(resource.RLIMIT_FSIZE, (limit, limit))
         servers.STARTED.go_on()
         given = "".join(",".join(key.hex() for key in row) + "\n" for row in rows)
-        done = subprocess.run([*map(str, self.begin), mode], input=given, stdout=output, stderr=subprocess.PIPE, text=True, timeout=60, check=False,
+        done = subprocess.run([*map(str, self.begin), mode], input=given, stdout=output, stderr=subprocess.PIPE, text=True, timeout=servers.PATIENCE, check=False,
                               env=self.engine.variables, cwd=self.engine.room, preexec_fn=prepare, **self.engine.as_user())
         if done.returncode != 0:
             raise servers.Missed(f"ended with {done.returncode}: {done.stderr[-500:]}")

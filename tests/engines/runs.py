@@ -10,10 +10,10 @@ from pathlib import Path
 
 sys.path.insert(0, str(Path(__file__).resolve().parents[1]))
 import truth  # noqa: E402
-from servers import Missed, STARTED  # noqa: E402
+from servers import Missed, PATIENCE, STARTED  # noqa: E402
 
 LEAST = 20  # faults of each kind
-SECONDS = 150  # at most, of a client
+SECONDS = 300  # at most, of a client
 EACH = ("--clients", "4", "--transactions", "300")
 
 
@@ -68,7 +68,7 @@ def committed_in(log):
 
 def check(program, log, *words):
     """The status and the answer of the checker."""
-    done = subprocess.run([program, "check", *words, str(log)], capture_output=True, text=True, timeout=120, check=False)
+    done = subprocess.run([program, "check", *words, str(log)], capture_output=True, text=True, timeout=PATIENCE, check=False)
     if done.stderr:
         raise Missed(f"the checker said {done.stderr.strip()}")
     return done.returncode, done.stdout
@@ -174,7 +174,7 @@ def judge_pipe(program, run):
         if line.startswith("transactions="):
             end.close()
     run.ended(client)
-    if checker.wait(60) != 20 or checker.stderr.read():
+    if checker.wait(PATIENCE) != 20 or checker.stderr.read():
         raise Missed(f"the checker behind the pipe ended with {checker.returncode}")
     checker.stdout.close()
     checker.stderr.close()
