@@ -13,6 +13,7 @@ import truth  # noqa: E402
 from servers import Missed, PATIENCE, STARTED  # noqa: E402
 
 LEAST = 20  # faults of each kind
+AGAIN = 3  # times at most a run is made in which the database itself is guilty
 SECONDS = 300  # at most, of a client
 EACH = ("--clients", "4", "--transactions", "300")
 
@@ -87,14 +88,33 @@ def hold(status, answer, expected, committed):
         raise Missed(f"only {committed} transactions committed")
 
 
+class LostUpdate(Exception):
+    """The database itself lost an update: its clients say so by what they replaced, and the checker by its findings."""
+
+
 def judge(program, run):
-    """Runs the client and holds the answer to its notes. What is told of it."""
+    """Runs the client and holds the answer to its notes. What is told of it. A run in which the database itself was guilty, and was found to be,
+    says nothing of the rest, and is made again."""
+    guilty = []
+    for _ in range(AGAIN):
+        try:
+            return judge_once(program, run) + "".join(f"; before it {it}" for it in guilty)
+        except LostUpdate as fault:
+            guilty.append(fault)
+    raise Missed("; ".join(map(str, guilty)))
+
+
+def judge_once(program, run):
     run.make()
     committed = committed_in(run.log)
     status, answer = check(program, run.log, "--expect", str(committed))
     notes = run.read_notes()
-    if notes.forks():
-        raise Missed(f"two transactions replaced one value: {notes.forks()}")
+    for (name, value), ids in notes.forks().items():
+        told = [line for line in answer.splitlines() if line.startswith(f"overlap key={truth.key_text(name)} first=")
+                and {int(it) for it in re.findall(r"=(\d+)", line)[-2:]} <= set(ids)]
+        if not told:
+            raise Missed(f"{ids} replaced the value {value} of {name}, and no overlap is found there")
+        raise LostUpdate(f"the database lost an update: {told[0]}")
     expected = notes.findings()
     hold(status, answer, expected, committed)
     if (len(expected) < LEAST) if run.fault else expected:
