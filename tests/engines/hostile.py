@@ -13,8 +13,9 @@ import servers
 
 MOST = 2 ** 64 - 1
 # As UTF-16 where half a surrogate pair stands alone, else as they are.
-TEXTS = ("x", '"', "\\", '\\"', "\n", "\r\t\b\f", "\0", "\x1f", "\x7f", "é", "€", "😀", "\u2028", "\ufeff", "\uffff", "</script>", " ", "a" * 128, "a" * 129,
-         "é" * 64, "é" * 65, "😀" * 32, "😀" * 33, "", "\ud800", "\udfff", "x\udc00", "\ud83dx", "{}[],:", "k\\u0041", "\U0010ffff", "'", "%s%n", "null")
+TEXTS = ("x", '"', "\\", '\\"', "\n", "\r\t\b\f", "\0", "\x1f", "\x7f", "é", "€", "😀", "\u2028", "\ufeff", "\uffff", "</script>", " ", "a" * 128,
+         "a" * 129, "é" * 64, "é" * 65, "😀" * 32, "😀" * 33, "", "\ud800", "\udfff", "x\udc00", "\ud83dx", "{}[],:", "k\\u0041", "\U0010ffff", "'",
+         "%s%n", "null")
 BYTES = (b"\xff", b"\x80", b"\xc3", b"\xc0\x80", b"\xc1\xbf", b"\xe0\x80\x80", b"\xe2\x82", b"\xed\xa0\x80", b"\xf0\x80\x80\x80", b"\xf4\x90\x80\x80",
          b"\xf5\x80\x80\x80", b"\xf8\x88\x80\x80\x80", b"a\xfe", b"\xe2\x28\xa1", b"\xf0\x9f\x98")
 
@@ -27,7 +28,7 @@ class Language:
         self.words = words
 
     def make(self):
-        self.engine.run(*self.words, seconds=120)
+        self.engine.run(*self.words)
 
     def keys(self):
         """Lists of keys as the program reads them, and what each is as bytes, or None where it is no key."""
@@ -53,8 +54,8 @@ class Language:
                 resource.setrlimit(resource.RLIMIT_FSIZE, (limit, limit))
         servers.STARTED.go_on()
         given = "".join(",".join(key.hex() for key in row) + "\n" for row in rows)
-        done = subprocess.run([*map(str, self.begin), mode], input=given, stdout=output, stderr=subprocess.PIPE, text=True, timeout=60, check=False,
-                              env=self.engine.variables, cwd=self.engine.room, preexec_fn=prepare, **self.engine.as_user())
+        done = subprocess.run([*map(str, self.begin), mode], input=given, stdout=output, stderr=subprocess.PIPE, text=True, check=False,
+                              timeout=servers.PATIENCE, env=self.engine.variables, cwd=self.engine.room, preexec_fn=prepare, **self.engine.as_user())
         if done.returncode != 0:
             raise servers.Missed(f"ended with {done.returncode}: {done.stderr[-500:]}")
         return {int(line) for line in done.stderr.split()}

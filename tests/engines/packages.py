@@ -21,7 +21,8 @@ def apt(*words, seconds):
     """Whether apt-get does this."""
     known = {**os.environ, "DEBIAN_FRONTEND": "noninteractive"}
     try:
-        done = subprocess.run(["apt-get", "-q", "-y", "-o", "DPkg::Lock::Timeout=120", *words], env=known, capture_output=True, text=True, timeout=seconds, check=False)
+        done = subprocess.run(["apt-get", "-q", "-y", "-o", "DPkg::Lock::Timeout=120", *words], env=known, capture_output=True, text=True,
+                              timeout=seconds, check=False)
     except (OSError, subprocess.TimeoutExpired) as fault:
         print(f"live: apt-get {words[0]}: {fault}")
         return False

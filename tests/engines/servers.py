@@ -12,7 +12,8 @@ from pathlib import Path
 import packages
 
 PYTHON = "/usr/bin/python3"  # Debian's own, which has the package of LMDB
-LONGEST = 900  # seconds after which a server ends by itself
+LONGEST = 1500  # seconds after which a server ends by itself
+PATIENCE = 300  # seconds for a command, or until a server answers: a machine that is full takes ten times as long as a free one
 
 
 class Missed(Exception):
@@ -110,11 +111,11 @@ class Engine:
             who = pwd.getpwnam(self.user)
             os.chown(path, who.pw_uid, who.pw_gid)
 
-    def run(self, *words, seconds=60, text=None, **more):
+    def run(self, *words, text=None, **more):
         """A command of the user's, which has to end well."""
         STARTED.go_on()
         done = subprocess.run([str(it) for it in words], env={**self.variables, **more}, cwd=self.room, input=text, capture_output=True, text=True,
-                              timeout=seconds, check=False, **self.as_user())
+                              timeout=PATIENCE, check=False, **self.as_user())
         if done.returncode != 0:
             raise Missed(f"{words[0]} ended with {done.returncode}: {(done.stdout + done.stderr)[-600:]}")
         return done.stdout
@@ -126,9 +127,9 @@ class Engine:
             self.servers.append(STARTED.start(["timeout", "-k", "5", LONGEST, *words], env=self.variables, cwd=self.room, stdout=said, stderr=said,
                                               **self.as_user()))
 
-    def await_it(self, is_there, seconds=60):
+    def await_it(self, is_there):
         """Waits until the server answers."""
-        until = time.monotonic() + seconds
+        until = time.monotonic() + PATIENCE
         while not is_there():
             if time.monotonic() > until or self.servers[-1].poll() is not None:
                 raise Missed("the server doesn't answer: " + (self.room / "server.txt").read_text(errors="replace")[-600:])
@@ -246,7 +247,7 @@ class Compiled(Engine):
     compiler = ()
 
     def begin(self):
-        self.run(*[word.format(examples=self.tree / "examples", room=self.room) for word in self.compiler], seconds=120)
+        self.run(*[word.format(examples=self.tree / "examples", room=self.room) for word in self.compiler])
 
     @property
     def clients(self):
