@@ -203,6 +203,15 @@ class GrowingFiles(RecipeTest):
         self.assertEqual(ran.status, 2)
         self.assertIn("client-3.jsonl", ran.complaint)
 
+    def test_missing_log_that_is_told_late(self):
+        """The status waits for what has to be told, though the checker has ended by then."""
+        late = "import judging, runpy, sys, time\nnote = judging.Judging._note\njudging.Judging._note = lambda *told: (time.sleep(1), note(*told))\n" \
+               "sys.argv = sys.argv[1:]\nrunpy.run_path(sys.argv[0], run_name='__main__')"
+        env = {**os.environ, "LOGS": str(self.work / "logs"), "CLIENTS": "3", "SICHECK": PROGRAM, "PYTHONPATH": str(RECIPES)}
+        ran = run(["timeout", "60", sys.executable, "-B", "-c", late, RECIPES / "growing_files", RECIPES / "small_test"], 90, env=env)
+        self.assertEqual(ran.status, 2, ran.complaint)
+        self.assertIn("client-3.jsonl", ran.complaint)
+
     def test_lines_that_come_after_the_end(self):
         """A client that goes on behind the test's end isn't judged to its end, and that is told."""
         test = ": > $LOGS/client-1.jsonl; (sleep 0.4; echo '[]' >> $LOGS/client-1.jsonl) > /dev/null &"

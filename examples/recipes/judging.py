@@ -264,8 +264,10 @@ class Judging:
         except subprocess.TimeoutExpired:
             self._kill_checker()
             judged = FAULTY
-        for thread in self._said:
-            thread.join(GRACE)
+        # (the checker ends once it is fed no more, and then what fed it may still have to say why)
+        until = time.monotonic() + GRACE
+        for thread in (*self._feeding, *self._said):
+            thread.join(max(0.0, until - time.monotonic()))
         if self._fault is not None:
             if self._fault:
                 end(self._fault)
