@@ -5,8 +5,10 @@
 //! bytes keep std's, whose strength against chosen texts is known.
 #![tactic(auto)]
 
+pub mod hints;
 pub mod key_hashes;
 pub mod number_hashes;
 
+pub use hints::Hints;
 pub use key_hashes::{KeyHash, KeyHasher};
 pub use number_hashes::{NumberHash, NumberHasher};

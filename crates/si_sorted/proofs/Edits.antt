@@ -1,5 +1,5 @@
 -- What an edit at a key's place leaves of entries, and what is found there.
-use Rattle.std.proofs.Common.{◌≡◌, ◌∙◌, ℕ, zero, suc, List, [], ◌∷◌, ◌++◌, get_or, set, cond, Bool, true, false, Some, None, sym, ap, refl, arith, Ordering, is_eq}
+use Rattle.std.proofs.Common.{◌≡◌, ◌∙◌, ℕ, zero, suc, List, [], ◌∷◌, ◌++◌, length, get_or, set, cond, Bool, true, false, Some, None, sym, ap, refl, arith, Ordering, is_eq}
 use Rattle.std.specs.BTreeMap.{insert_entry, is_at}
 use Rattle.std.specs.List.{insert, remove, AllByRecursion}
 use Rattle.std.specs.Map.{keys_of, lookup, remove_entry}
@@ -33,6 +33,12 @@ module _ {K X : Type 0} (R : K → K → Ordering) (k : K) where
     insert_at_gap (e ∷ es) zero gap = sym (inserted e es Less (gap.below 0 e (omega arith) (omega arith)))
     insert_at_gap (e ∷ es) (suc i) gap =
         ap (λ l. e ∷ l) (insert_at_gap es i (gap_tail e es i gap))
+        ∙ sym (inserted e es Greater (gap.above 0 e (omega arith)))
+
+    pub push_at_gap : (es : List (K × X)) → IsGapFor R es k (length es) → es ++ (k, v) ∷ [] ≡ insert_entry R es k v
+    push_at_gap [] gap = refl
+    push_at_gap (e ∷ es) gap =
+        ap (λ l. e ∷ l) (push_at_gap es (gap_tail e es (length es) gap))
         ∙ sym (inserted e es Greater (gap.above 0 e (omega arith)))
 
     pub set_at_place : (es : List (K × X)) (i : ℕ) (d : K × X) → IsPlaceOf R es k i → set es i ((get_or es i d).0, v) ≡ insert_entry R es k v

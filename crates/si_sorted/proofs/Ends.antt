@@ -5,11 +5,11 @@ use Rattle.std.specs.BTreeMap.Range.{IsRangeOf, entries_between}
 use Rattle.std.specs.Cmp.{IsTotalOrder}
 use Rattle.std.specs.List.{Contains}
 use Rattle.std.specs.declared.cmp.Ordering.TheVariants.{Less, Equal, Greater}
-use Rattle.std.specs.declared.ops.Bound.TheVariants.{Excluded, Unbounded}
+use Rattle.std.specs.declared.ops.Bound.TheVariants.{Excluded, Included, Unbounded}
 use Rattle.std.proofs.lemmas.List.Elements.{Contains-append_right}
 use Rattle.std.proofs.lemmas.Map.Views.{All-found}
 use Rattle.si_lists.proofs.Members.{Contains-from_filter, here}
-use Rattle.si_sorted.specs.Entries.{IsFirstAbove, IsLastBelow}
+use Rattle.si_sorted.specs.Entries.{IsFirstAbove, IsFirstFrom, IsLastBelow}
 use Rattle.si_sorted.proofs.Search.{greater, less}
 
 module _ {K X : Type 0} {R : K → K → Ordering} (o : IsTotalOrder R) (m : BTreeMap K X) (ordered : IsOrdered R m) (k : K) (r : List (K × X)) where
@@ -49,3 +49,17 @@ module _ {K X : Type 0} {R : K → K → Ordering} (o : IsTotalOrder R) (m : BTr
       let inside = Contains-from_filter _ m.entries e (subst (λ l. Contains l e) (sym is ∙ between) (here e t)) in
       let first = subst (IsRangeOf R (Excluded k) Unbounded m) is range in
       (inside.0, first.1.0.0, λ x c above. first.2 x.0 (above, tt) (there_at x c))
+
+  pub none_from_in_tree : IsRangeOf R (Included k) Unbounded m r → r ≡ [] → IsFirstFrom R m.entries k None
+  none_from_in_tree range is x c = go (R k x.0) refl
+    where
+      go : (a : Ordering) → R k x.0 ≡ a → a ≡ Greater
+      go Less e = absurd (not_none x c (range.5 is x.0 (ap is_gt e, tt)))
+      go Equal e = absurd (not_none x c (range.5 is x.0 (ap is_gt e, tt)))
+      go Greater e = refl
+
+  pub first_from_in_tree : (t : List (K × X)) (e : K × X) → r ≡ entries_between R (Included k) Unbounded m.entries → IsRangeOf R (Included k) Unbounded m r → r ≡ e ∷ t → IsFirstFrom R m.entries k (Some e)
+  first_from_in_tree t e between range is =
+      let inside = Contains-from_filter _ m.entries e (subst (λ l. Contains l e) (sym is ∙ between) (here e t)) in
+      let first = subst (IsRangeOf R (Included k) Unbounded m) is range in
+      (inside.0, first.1.0.0, λ x c from. first.2 x.0 (from, tt) (there_at x c))

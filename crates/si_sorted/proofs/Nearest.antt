@@ -7,8 +7,8 @@ use Rattle.std.specs.Map.{keys_of}
 use Rattle.std.specs.declared.cmp.Ordering.TheVariants.{Less, Equal, Greater}
 use Rattle.std.proofs.lemmas.Bool.{cases_lt}
 use Rattle.std.proofs.lemmas.List.{get_or_default}
-use Rattle.si_sorted.specs.Entries.{IsFirstAbove, IsLastBelow}
-use Rattle.si_sorted.specs.Places.{IsAboveNoneFrom, IsBelowNoneBefore}
+use Rattle.si_sorted.specs.Entries.{IsFirstAbove, IsFirstFrom, IsLastBelow}
+use Rattle.si_sorted.specs.Places.{IsAboveAllBefore, IsAboveNoneFrom, IsBelowNoneBefore}
 use Rattle.si_sorted.proofs.Search.{greater, less_at}
 
 module _ {K X : Type 0} {R : K → K → Ordering} (o : IsTotalOrder R) (es : List (K × X)) (rising : IsStrictlySortedBy R (keys_of es)) (k : K) where
@@ -49,6 +49,28 @@ module _ {K X : Type 0} {R : K → K → Ordering} (o : IsTotalOrder R) (es : Li
             ap is_gt three
         | inr no_greater ↦ elim (cases_lt c.0 i) [
           | inl before ↦ absurd (true≢false (sym (ap is_lt above) ∙ subst (λ (y : K × X). is_lt (R k y.0) ≡ false) c.2 (none c.0 x before c.1)))
+          | inr no_less ↦
+              let same : c.0 ≡ i = omega (arith, no_greater, no_less) in
+              let here : x ≡ e = sym c.2 ∙ ap (λ n. get_or es n x) same ∙ get_or_default es i x e in_range ∙ is in
+              ap is_gt (subst (λ (y : K × X). R e.0 y.0 ≡ Equal) (sym here) (tied_itself o e.0))
+        ]
+      ]
+
+  pub none_from : (i : ℕ) → length es ≤ i → IsAboveAllBefore R es k i → IsFirstFrom R es k None
+  none_from i past above x c = subst (λ (y : K × X). R k y.0 ≡ Greater) c.2 (above c.0 x (omega (arith, past, c.1)))
+
+  pub first_from : (i : ℕ) (e : K × X) → i < length es → get_or es i e ≡ e → is_gt (R k e.0) ≡ false → IsAboveAllBefore R es k i → IsFirstFrom R es k (Some e)
+  first_from i e in_range is not_greater above = ((i, in_range, is), not_greater, λ x c from. at_least x c from)
+    where
+      at_least : (x : K × X) → Contains es x → is_gt (R k x.0) ≡ false → is_gt (R e.0 x.0) ≡ false
+      at_least x c from = elim (cases_lt i c.0) [
+        | inl beyond ↦
+            let one = less_at o es rising i c.0 x beyond c.1 in
+            let two = subst (λ (y : K × X). R (get_or es i x).0 y.0 ≡ Less) c.2 one in
+            let three = subst (λ (y : K × X). R y.0 x.0 ≡ Less) (get_or_default es i x e in_range ∙ is) two in
+            ap is_gt three
+        | inr no_greater ↦ elim (cases_lt c.0 i) [
+          | inl before ↦ absurd (true≢false (sym (ap is_gt (subst (λ (y : K × X). R k y.0 ≡ Greater) c.2 (above c.0 x before))) ∙ from))
           | inr no_less ↦
               let same : c.0 ≡ i = omega (arith, no_greater, no_less) in
               let here : x ≡ e = sym c.2 ∙ ap (λ n. get_or es n x) same ∙ get_or_default es i x e in_range ∙ is in

@@ -43,6 +43,10 @@ past_fails false b e = refl
 inside_holds : (a b : Bool) → a ≡ true → b ≡ false → (a && not b) ≡ true
 inside_holds a b e f = ap₂ (λ c d. c && not d) e f
 
+-- nothing is behind all
+pub none_behind : {K X : Type 0} (start past : K → Bool) (es : List (K × X)) (from : ℕ) → IsCutAt start es from → from ≡ length es → [] ≡ filter (λ (e : K × X). start e.0 && not (past e.0)) es
+none_behind {K} {X} start past es from starts end = none_passes (λ (e : K × X). start e.0 && not (past e.0)) es (λ j d hi. both_fail _ _ (starts.fails j d (omega (arith, hi, end)) hi))
+
 module _ {K X : Type 0} (start past : K → Bool) (es : List (K × X)) (from to : ℕ) (starts : IsCutAt start es from) (ends : IsCutAt past es to) where
   pub between_cuts : from ≤ to → drop from (take to es) ≡ filter (λ (e : K × X). start e.0 && not (past e.0)) es
   between_cuts le = part_passes (λ (e : K × X). start e.0 && not (past e.0)) es from to le ends.in_range

@@ -1,5 +1,5 @@
 -- Where a search among entries in order ends.
-use Rattle.std.proofs.Common.{◌≡◌, ◌∙◌, ℕ, ◌+◌, ◌<◌, List, length, get_or, Result, Ok, Err, inl, inr, false, true≢false, refl, sym, ap, ap₂, subst, arith, Ordering, is_gt, is_lt}
+use Rattle.std.proofs.Common.{◌≡◌, ◌∙◌, ℕ, ◌+◌, ◌<◌, List, length, get_or, Result, Ok, Err, inl, inr, false, true, true≢false, refl, sym, ap, ap₂, subst, arith, Ordering, is_gt, is_lt}
 use Rattle.std.specs.Cmp.{IsTotalOrder, tied_back}
 use Rattle.std.specs.List.Sorted.{IsStrictlySortedBy, IsNonDecreasingBy, IsSearchInRange, IsBinarySearchResult}
 use Rattle.std.specs.Map.{keys_of}
@@ -13,6 +13,11 @@ use Rattle.std.proofs.lemmas.List.Sorted.{searchable_from_sorted}
 use Rattle.std.proofs.lemmas.Map.Entries.{length-keys_of}
 use Rattle.std.proofs.lemmas.Map.Keys.{Less-from_sorted}
 use Rattle.si_sorted.specs.Places.{IsAboveAllBefore, IsAboveNoneFrom, IsBelowAllFrom, IsBelowNoneBefore, IsGapFor, IsPlaceOf}
+
+pub greater_from : (a : Ordering) → is_gt a ≡ true → a ≡ Greater
+greater_from Less told = cc
+greater_from Equal told = cc
+greater_from Greater told = refl
 
 module _ {K : Type 0} {R : K → K → Ordering} (o : IsTotalOrder R) where
   pub greater : (x y : K) → R x y ≡ Less → R y x ≡ Greater

@@ -26,6 +26,11 @@ module _ {K X : Type 0} (cmp : K → K → Ordering) where
   IsFirstAbove es k None = (x : K × X) → Contains es x → is_lt (cmp k x.0) ≡ false
   IsFirstAbove es k (Some e) = Contains es e × (cmp k e.0 ≡ Less) × ((x : K × X) → Contains es x → cmp k x.0 ≡ Less → is_gt (cmp e.0 x.0) ≡ false)
 
+  -- the first entry at the key or above it, if there is one
+  abbrev pub IsFirstFrom : List (K × X) → K → Option (K × X) → Type 0
+  IsFirstFrom es k None = (x : K × X) → Contains es x → cmp k x.0 ≡ Greater
+  IsFirstFrom es k (Some e) = Contains es e × (is_gt (cmp k e.0) ≡ false) × ((x : K × X) → Contains es x → is_gt (cmp k x.0) ≡ false → is_gt (cmp e.0 x.0) ≡ false)
+
   -- how many entries stand above the key
   abbrev pub count_above : List (K × X) → K → ℕ
   count_above es k = count_by (λ e. is_lt (cmp k e.0)) es

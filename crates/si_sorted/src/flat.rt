@@ -4,7 +4,7 @@ ghost use Rattle.std.specs.Prelude.{◌≡◌, ◌≤◌, None, IsTrue, MatchRes
 ghost use Rattle.std.specs.BTreeMap.{insert_entry, is_at};
 ghost use Rattle.std.specs.List.Sorted.{IsStrictlySortedBy};
 ghost use Rattle.std.specs.Map.{keys_of, lookup, remove_entry};
-ghost use Rattle.si_sorted.specs.Entries.{IsFirstAbove, IsLastBelow, moved_by, moved_without};
+ghost use Rattle.si_sorted.specs.Entries.{IsFirstAbove, IsFirstFrom, IsLastBelow, moved_by, moved_without};
 ghost use Rattle.si_sorted.specs.Places.{IsAboveAllBefore, IsAboveNoneFrom, IsBelowAllFrom, IsBelowNoneBefore, IsGapFor, IsPlaceOf};
 
 use std::alloc::AllocError;
@@ -121,6 +121,35 @@ pub fn insert_in<K: Ord + Copy + Drop, V: Copy + Drop>(
     put_at(entries, place, key, value)
 }
 
+/// Whether the key is greater than all.
+pub fn is_past<K: Ord + Copy + Drop, V: Copy + Drop>(entries: &[(K, V)], key: K) -> bool
+    requires { IsStrictlySortedBy K.cmp (keys_of entries.now) }
+    ensures past { IsTrue result → IsGapFor K.cmp entries.now key (length entries.now) }
+    ensures none { IsTrue result → moved_by K.cmp entries.now key ≡ 0 }
+{
+    let len = entries.len();
+    if len == 0 {
+        return true;
+    }
+    key.cmp(&entries[len - 1].0).is_gt()
+}
+
+/// Puts the value under the key, which is greater than all.
+pub fn push_in<K: Ord + Copy + Drop, V: Copy + Drop>(
+    entries: &mut Vec<(K, V)>,
+    key: K,
+    value: V,
+) -> Result<(), AllocError>
+    requires rising { IsStrictlySortedBy K.cmp (keys_of entries.old.items) }
+    requires past { IsGapFor K.cmp entries.old.items key (length entries.old.items) }
+    ensures ok { OnOk result (entries.new.items ≡ insert_entry K.cmp entries.old.items key value) }
+    ensures err { OnErr result (entries.new.items ≡ entries.old.items) }
+    ensures rising { IsStrictlySortedBy K.cmp (keys_of entries.new.items) }
+{
+    make_room(entries)?;
+    Ok(entries.push((key, value))?)
+}
+
 /// Puts the value under the key, which is at that place, or would go there.
 fn put_at<K: Ord + Copy + Drop, V: Copy + Drop>(
     entries: &mut Vec<(K, V)>,
@@ -224,6 +253,21 @@ pub fn entry_before<K: Ord + Copy + Drop, V: Copy + Drop>(
         return None;
     }
     Some(entries[count - 1])
+}
+
+/// The first entry at the key or above it.
+pub fn entry_from<K: Ord + Copy + Drop, V: Copy + Drop>(
+    entries: &[(K, V)],
+    key: K,
+) -> Option<(K, V)>
+    requires { IsStrictlySortedBy K.cmp (keys_of entries.now) }
+    ensures { IsFirstFrom K.cmp entries.now key result }
+{
+    let place = count_below(entries, key);
+    if place == entries.len() {
+        return None;
+    }
+    Some(entries[place])
 }
 
 /// The first entry above the key.

@@ -7,15 +7,16 @@ ghost use Rattle.std.specs.List.{filter_map, find};
 ghost use Rattle.std.specs.Range.Bound.{IsForward};
 ghost use Rattle.std.specs.List.Sorted.{IsStrictlySortedBy};
 ghost use Rattle.std.specs.Map.{keys_of, lookup, remove_entry};
-ghost use Rattle.si_sorted.specs.Entries.{IsFirstAbove, IsLastBelow};
+ghost use Rattle.si_sorted.specs.Entries.{IsFirstAbove, IsFirstFrom, IsLastBelow};
 ghost use Rattle.si_sorted.specs.Forms.{MovesAtMost, StaysTree, entries_in, moved_by_one, moved_without_one};
 
 use crate::finds::{ValueTest, find_in, find_in_tree};
 use crate::flat::{
-    entry_after, entry_before, insert_in, moved_by, moved_without, remove_from, value_in,
+    entry_after, entry_before, entry_from, insert_in, is_past, moved_by, moved_without, push_in,
+    remove_from, value_in,
 };
 use crate::runs::{Choice, add_from, add_from_tree};
-use crate::trees::{after_in, before_in, tree_of, tree_with};
+use crate::trees::{after_in, before_in, from_in, tree_of, tree_with};
 use std::alloc::{AllocError, Global};
 use std::collections::BTreeMap;
 use std::ops::Bound;
@@ -42,6 +43,11 @@ impl<K: Ord + Copy + Drop, V: Copy + Drop> Form<K, V> {
         ensures tree { StaysTree self.old self.new }
         ensures rising { IsStrictlySortedBy K.cmp (keys_of (entries_in self.new)) }
     {
+        if let Form::Flat(entries) = self {
+            if is_past(entries.as_slice(), key) {
+                return push_in(entries, key, value);
+            }
+        }
         if let Some(tree) = self.grown(alloc, key, value)? {
             *self = Form::Tree(tree);
             return Ok(());
@@ -149,6 +155,17 @@ impl<K: Ord + Copy + Drop, V: Copy + Drop> Form<K, V> {
         }
     }
 
+    /// The entry with the least key that isn't below this one.
+    pub fn from(&self, key: K) -> Option<(K, V)>
+        requires { IsStrictlySortedBy K.cmp (keys_of (entries_in self.now)) }
+        ensures { IsFirstFrom K.cmp (entries_in self.now) key result }
+    {
+        match self {
+            Form::Flat(entries) => entry_from(entries.as_slice(), key),
+            Form::Tree(tree) => from_in(tree, key),
+        }
+    }
+
     /// Adds an entry where its neighbours let it, as the chooser says.
     pub fn add_between<E: Drop, C: Choice<K, V, E>>(
         &self,
@@ -164,6 +181,16 @@ impl<K: Ord + Copy + Drop, V: Copy + Drop> Form<K, V> {
         match self {
             Form::Flat(entries) => add_from(entries.as_slice(), low, high, choice, out),
             Form::Tree(tree) => add_from_tree(tree, low, high, choice, out),
+        }
+    }
+
+    /// The entries, where they stand side by side.
+    pub fn as_flat(&self) -> Option<&[(K, V)]>
+        ensures { IfSome result (λ flat. flat.now ≡ entries_in self.now) }
+    {
+        match self {
+            Form::Flat(entries) => Some(entries.as_slice()),
+            Form::Tree(_) => None,
         }
     }
 

@@ -1,13 +1,13 @@
 //! A map in the order of its keys.
 
-ghost use Rattle.std.specs.Prelude.{◌≡◌, ◌++◌, ◌-◌, [], None, Some, IsTrue, OnErr, OnOk, ◌↔◌, length, slice_get};
+ghost use Rattle.std.specs.Prelude.{◌≡◌, ◌++◌, ◌-◌, [], None, Some, IfSome, IsTrue, OnErr, OnOk, ◌↔◌, length, slice_get};
 ghost use Rattle.std.specs.BTreeMap.{insert_entry, is_at};
 ghost use Rattle.std.specs.BTreeMap.Range.{IsLeBy, IsLtBy, entries_between};
 ghost use Rattle.std.specs.List.{filter_map, find};
 ghost use Rattle.std.specs.Range.Bound.{IsForward};
 ghost use Rattle.std.specs.List.Sorted.{IsStrictlySortedBy};
 ghost use Rattle.std.specs.Map.{keys_of, remove_entry};
-ghost use Rattle.si_sorted.specs.Entries.{IsFirstAbove, IsLastBelow, Sets, value_at};
+ghost use Rattle.si_sorted.specs.Entries.{IsFirstAbove, IsFirstFrom, IsLastBelow, Sets, value_at};
 ghost use Rattle.si_sorted.specs.Forms.{entries_in};
 
 use crate::finds::ValueTest;
@@ -98,6 +98,14 @@ impl<K: Ord + Copy + Drop, V: Copy + Drop> SortedMap<K, V> {
         self.form.above(key)
     }
 
+    /// The first entry at the key or above it.
+    pub fn from(&self, key: K) -> Option<(K, V)>
+        ensures nearest { IsFirstFrom K.cmp self.now key result }
+        ensures rising { IsStrictlySortedBy K.cmp (keys_of self.now) }
+    {
+        self.form.from(key)
+    }
+
     /// Adds what is told of the entries between the bounds that are chosen, in order. The lower bound is not above the upper one.
     ///
     /// Where the growth of some memory is refused a part of them may have been added.
@@ -113,6 +121,13 @@ impl<K: Ord + Copy + Drop, V: Copy + Drop> SortedMap<K, V> {
     {
         self.form.add_between(low, high, choice, out)?;
         Ok(())
+    }
+
+    /// The entries in rising order of their keys, where they stand side by side.
+    pub fn as_flat(&self) -> Option<&[(K, V)]>
+        ensures { IfSome result (λ flat. flat.now ≡ self.now) }
+    {
+        self.form.as_flat()
     }
 
     /// The first entry whose value passes the test, looked for by a walk over all.

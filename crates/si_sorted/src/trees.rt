@@ -4,7 +4,7 @@ ghost use Rattle.std.specs.Prelude.{◌≡◌, IfOk};
 ghost use Rattle.std.specs.BTreeMap.{insert_entry};
 ghost use Rattle.std.specs.List.Sorted.{IsStrictlySortedBy};
 ghost use Rattle.std.specs.Map.{keys_of};
-ghost use Rattle.si_sorted.specs.Entries.{IsFirstAbove, IsLastBelow};
+ghost use Rattle.si_sorted.specs.Entries.{IsFirstAbove, IsFirstFrom, IsLastBelow};
 
 use std::alloc::{AllocError, Global};
 use std::collections::BTreeMap;
@@ -48,6 +48,19 @@ pub fn before_in<K: Ord + Copy + Drop, V: Copy + Drop>(
     ensures { IsLastBelow K.cmp tree.now.entries key result }
 {
     match tree.range(..key).next_back() {
+        Some((key, value)) => Some((*key, *value)),
+        None => None,
+    }
+}
+
+/// The first entry at the key or above it.
+pub fn from_in<K: Ord + Copy + Drop, V: Copy + Drop>(
+    tree: &BTreeMap<K, V>,
+    key: K,
+) -> Option<(K, V)>
+    ensures { IsFirstFrom K.cmp tree.now.entries key result }
+{
+    match tree.range(key..).next() {
         Some((key, value)) => Some((*key, *value)),
         None => None,
     }

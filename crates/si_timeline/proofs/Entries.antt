@@ -86,7 +86,7 @@ stands k v (d ∷ ds) e = go (is_at (stamp_cmp k) d.0) refl e (stands k v ds)
     go false is f rest = there d ds (k, v) (rest f)
 
 -- no other stands under it
-alone : (k : Stamp) (v w : Version) (ds : List Dated) → IsRising ds → Contains ds (k, v) → Contains ds (k, w) → w ≡ v
+pub alone : (k : Stamp) (v w : Version) (ds : List Dated) → IsRising ds → Contains ds (k, v) → Contains ds (k, w) → w ≡ v
 alone k v w [] rises c d = absurd (omega (arith, c.1))
 alone k v w (e ∷ es) rises c d = by (Contains-cons_cases e es (k, v) c) (Contains-cons_cases e es (k, w) d) (alone k v w es rises.1)
   where

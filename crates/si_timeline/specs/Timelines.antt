@@ -1,7 +1,8 @@
 -- The versions of one key, in the order of their installers' commit stamps.
-use Rattle.std.specs.Prelude.{◌≡◌, ◌<◌, ◌≤◌, List, [], ◌∷◌, ◌++◌, Option, Some, None, ⊤}
+use Rattle.std.specs.Prelude.{◌≡◌, ◌≢◌, ◌<◌, ◌≤◌, List, [], ◌∷◌, ◌++◌, Option, Some, None, ⊤}
 use Rattle.std.specs.List.{AllByRecursion, Contains}
 use Rattle.si_model.specs.declared.numbers.Stamp.{Stamp}
+use Rattle.si_model.specs.declared.numbers.Value.{Value}
 use Rattle.si_timeline.specs.declared.versions.Version.{Version}
 
 -- a version with the commit stamp of its installer
@@ -24,6 +25,15 @@ IsAt ds commit version = Contains ds (commit, version) × ((other : Version) →
 -- no version was
 abbrev pub Lacks : List Dated → Stamp → Type 0
 Lacks ds commit = (version : Version) → Contains ds (commit, version) → ⊥
+
+-- the version of the value, or there is none
+abbrev pub IsOfValue : List Dated → Value → Option Dated → Type 0
+IsOfValue ds v None = (d : Dated) → Contains ds d → d.1.value ≢ v
+IsOfValue ds v (Some d) = Contains ds d × (d.1.value ≡ v)
+
+-- the values rise with the commit stamps
+abbrev pub ValuesRise : List Dated → Type 0
+ValuesRise ds = (d e : Dated) → Contains ds d → Contains ds e → d.0.0 < e.0.0 → d.1.value.0 < e.1.value.0
 
 -- the second list is the first one with that version in it
 abbrev pub Adds : Stamp → Version → List Dated → List Dated → Type 0

@@ -1,6 +1,6 @@
 //! The versions of one key in the order of their commits, and the neighbours of a stamp among them.
 
-ghost use Rattle.std.specs.Prelude.{◌≡◌, ◌==◌, ◌-◌, ◌++◌, [], length, slice_get, OnOk, OnErr};
+ghost use Rattle.std.specs.Prelude.{◌≡◌, ◌==◌, ◌-◌, ◌++◌, [], length, slice_get, IfSome, OnOk, OnErr};
 ghost use Rattle.std.specs.List.{find};
 ghost use Rattle.std.specs.Option.{MatchOption};
 ghost use Rattle.si_model.specs.Operations.{same_value};
@@ -125,6 +125,15 @@ impl Timeline {
         ensures { result ≡ find (λ d. same_value d.1.value value) self.now }
     {
         self.versions.find(&OfValue { value })
+    }
+
+    /// The versions in the order of their commits, where they stand side by side.
+    pub fn as_flat(&self) -> Option<&[(Stamp, Version)]>
+        ensures flat { IfSome result (λ flat. flat.now ≡ self.now) }
+        ensures rising { IsRising self.now }
+    {
+        let _rising = self.versions.len();
+        self.versions.as_flat()
     }
 
     /// Adds all versions, in their order.

@@ -1,8 +1,11 @@
 use Rattle.std.proofs.Common.{◌≡◌, ◌∙◌, ◌+◌, ◌-◌, drop, take, sym, ap, arith}
 use Rattle.std.specs.BTreeMap.Range.{is_from_start, is_past_end}
 use Rattle.std.proofs.lemmas.List.{drop-take}
-use Rattle.si_sorted.proofs.Parts.{between_cuts, none_between}
+use Rattle.si_sorted.proofs.Parts.{between_cuts, none_behind, none_between}
 use Rattle.si_sorted.proofs.runs.part_of.Goals as goal
+
+pub returns-then-from-entries : goal.returns-then-from-entries
+returns-then-from-entries g c = none_behind (is_from_start g.K.Ord.cmp c.args.low) (is_past_end g.K.Ord.cmp c.args.high) c.args.entries.now c.start_of-from.result c.start_of-from.ensures c.if-from-entries.true
 
 pub returns-then-from-to : goal.returns-then-from-to
 returns-then-from-to g c =
