@@ -6,13 +6,12 @@ use Rattle.std.proofs.lemmas.Map.Views.{Contains-from_any}
 use Rattle.std.specs.List.{Contains, list_any}
 use Rattle.std.specs.Map.{keys_of}
 use Rattle.std.specs.Option.{is_some}
-use Rattle.std.specs.Ordering.{is_eq, is_gt, is_lt, nat_cmp, ordering_then}
+use Rattle.std.specs.Ordering.{is_eq, is_gt, nat_cmp, ordering_then}
 use Rattle.std.specs.declared.cmp.Ordering.{Ordering}
-use Rattle.std.specs.declared.cmp.Ordering.TheVariants.{Less}
 use Rattle.si_lists.proofs.Members.{Contains-cons_cases, Contains-from_map, Contains-map, Contains-nil}
 use Rattle.si_model.specs.declared.numbers.Stamp.{Stamp}
 use Rattle.si_model.specs.declared.numbers.TxnId.{TxnId}
-use Rattle.si_sorted.specs.Entries.{IsFirstAbove, Sets as SetsEntry, value_at}
+use Rattle.si_sorted.specs.Entries.{IsFirstFrom, Sets as SetsEntry, value_at}
 use Rattle.si_accept.specs.Stamps.{IsLeast, Sets, has, same_pair}
 
 abbrev Entries : Type 0
@@ -78,55 +77,36 @@ any_from (k ∷ ks) p c = elim (Contains-cons_cases k ks p c) [
   | inr later ↦ or_true (same_pair p k) (list_any (same_pair p) ks) (any_from ks p later)
 ]
 
-less_than_later : (s u : ℕ) → u ≢ 0 → pair_cmp (s, 0) (s, u) ≡ Less
-less_than_later s u later = grind (arith, nat_tests)
+not_before : (s u : ℕ) → is_gt (pair_cmp (s, 0) (s, u)) ≡ false
+not_before s u = grind (arith, nat_tests)
 
 first_is_least : (s u w : ℕ) → is_gt (pair_cmp (s, u) (s, w)) ≡ false → u ≤ w
 first_is_least s u w h = grind (arith, nat_tests)
 
 -- nothing of a stamp comes after a later stamp
-none_between : (t u s w : ℕ) → pair_cmp (s, 0) (t, u) ≡ Less → is_gt (pair_cmp (t, u) (s, w)) ≡ false → t ≡ s
+none_between : (t u s w : ℕ) → is_gt (pair_cmp (s, 0) (t, u)) ≡ false → is_gt (pair_cmp (t, u) (s, w)) ≡ false → t ≡ s
 none_between t u s w h k = grind (arith, nat_tests)
 
 not_true : (b : Bool) → (b ≡ true → ⊥) → b ≡ false
 not_true true h = absurd (h refl)
 not_true false h = refl
 
-pub some_told : (o : Option (Unit {0})) (b : Bool) → b ≡ is_some o → b ≡ true → o ≢ None
-some_told None b e f n = (let no : true ≡ false = sym f ∙ e in cc)
-some_told (Some x) b e f n = cc
-
-pub none_told : (o : Option (Unit {0})) (b : Bool) → b ≡ is_some o → b ≡ false → o ≡ None
-none_told None b e f = refl
-none_told (Some x) b e f = cc
-
 module _ (es : Entries) (s : Stamp) where
   entry_of : (w : TxnId) → has (keys_of es) s w ≡ true → Contains es ((s.0, w.0), tt)
   entry_of w t = (let k = Contains-from_map (λ (e : (ℕ × ℕ) × Unit {0}). e.0) es (s.0, w.0) (Contains-from_any same_pair_is (s.0, w.0) (keys_of es) t) in subst (λ p. Contains es (p, tt)) k.2 k.1)
 
-  pub zero_is_least : value_at pair_cmp es (s.0, 0) ≢ None → IsLeast (has (keys_of es) s) (Some (record { 0 = 0 }))
-  zero_is_least there = (sym (held es (s.0, 0)) ∙ go (value_at pair_cmp es (s.0, 0)) there, λ w t. omega arith)
-    where
-      go : (o : Option (Unit {0})) → o ≢ None → is_some o ≡ true
-      go None h = absurd (h refl)
-      go (Some x) h = refl
+  module _ (e : (ℕ × ℕ) × Unit {0}) (first : IsFirstFrom pair_cmp es (s.0, 0) (Some e)) where
+    below : (w : TxnId) → has (keys_of es) s w ≡ true → is_gt (pair_cmp e.0 (s.0, w.0)) ≡ false
+    below w t = first.2 ((s.0, w.0), tt) (entry_of w t) (not_before s.0 w.0)
 
-  module _ (none : value_at pair_cmp es (s.0, 0) ≡ None) where
-    not_zero : (w : TxnId) → has (keys_of es) s w ≡ true → w.0 ≢ 0
-    not_zero w t z = (let f : list_any (same_pair (s.0, 0)) (keys_of es) ≡ true = ap (λ n. list_any (same_pair (s.0, n)) (keys_of es)) (sym z) ∙ t in let g = ap is_some none in let h = held es (s.0, 0) in cc)
+    pub first_found : e.0.0 ≡ s.0 → IsLeast (has (keys_of es) s) (Some (record { 0 = e.0.1 }))
+    first_found at = (
+      any_from (keys_of es) (s.0, e.0.1) (subst (Contains (keys_of es)) (ap (λ n. (n, e.0.1)) at) (Contains-map (λ (x : (ℕ × ℕ) × Unit {0}). x.0) es e first.0)),
+      λ w t. first_is_least s.0 e.0.1 w.0 (subst (λ n. is_gt (pair_cmp (n, e.0.1) (s.0, w.0)) ≡ false) at (below w t)),
+    )
 
-    module _ (e : (ℕ × ℕ) × Unit {0}) (first : IsFirstAbove pair_cmp es (s.0, 0) (Some e)) where
-      below : (w : TxnId) → has (keys_of es) s w ≡ true → is_gt (pair_cmp e.0 (s.0, w.0)) ≡ false
-      below w t = first.2 ((s.0, w.0), tt) (entry_of w t) (less_than_later s.0 w.0 (not_zero w t))
+    pub later_found : e.0.0 ≢ s.0 → IsLeast (has (keys_of es) s) None
+    later_found differ w = not_true _ (λ t. differ (none_between e.0.0 e.0.1 s.0 w.0 first.1 (below w t)))
 
-      pub first_found : e.0.0 ≡ s.0 → IsLeast (has (keys_of es) s) (Some (record { 0 = e.0.1 }))
-      first_found at = (
-        any_from (keys_of es) (s.0, e.0.1) (subst (Contains (keys_of es)) (ap (λ n. (n, e.0.1)) at) (Contains-map (λ (x : (ℕ × ℕ) × Unit {0}). x.0) es e first.0)),
-        λ w t. first_is_least s.0 e.0.1 w.0 (subst (λ n. is_gt (pair_cmp (n, e.0.1) (s.0, w.0)) ≡ false) at (below w t)),
-      )
-
-      pub later_found : e.0.0 ≢ s.0 → IsLeast (has (keys_of es) s) None
-      later_found differ w = not_true _ (λ t. differ (none_between e.0.0 e.0.1 s.0 w.0 first.1 (below w t)))
-
-    pub none_found : IsFirstAbove pair_cmp es (s.0, 0) None → IsLeast (has (keys_of es) s) None
-    none_found last w = not_true _ (λ t. (let f = last ((s.0, w.0), tt) (entry_of w t) in let g = ap is_lt (less_than_later s.0 w.0 (not_zero w t)) in cc))
+  pub none_found : IsFirstFrom pair_cmp es (s.0, 0) None → IsLeast (has (keys_of es) s) None
+  none_found last w = not_true _ (λ t. (let f = last ((s.0, w.0), tt) (entry_of w t) in let g = not_before s.0 w.0 in let h = ap is_gt f in cc))

@@ -2,6 +2,7 @@ pub mod Faults
 pub mod Books
 pub mod Stamps
 pub mod KeyNumbers
+pub mod Pairs
 pub mod Writers
 pub mod Indexes
 pub mod Arrivals

@@ -1,10 +1,10 @@
 //! Numbers for keys, so that an index by keys needs no copy of a key for a look-up, and its entries are small.
 
-ghost use Rattle.std.specs.Prelude.{◌≡◌, [], Some, IfOk, OnOk, OnErr, length};
+ghost use Rattle.std.specs.Prelude.{◌≡◌, [], Some, IfOk, IfSome, OnOk, OnErr, length};
 ghost use Rattle.si_accept.specs.KeyNumbers.{number_of, with_key};
 
 use indexmap::IndexSet;
-use si_hashing::KeyHash;
+use si_hashing::{Hints, KeyHash};
 use si_model::{Key, OutOfMemory};
 use std::alloc::Global;
 use std::hash::RandomState;
@@ -14,6 +14,7 @@ use std::marker::Model;
 #[derive(Drop)]
 pub struct KeyNumbers {
     keys: IndexSet<Key, KeyHash>,
+    hints: Hints,
 }
 
 impl Model for KeyNumbers {
@@ -31,6 +32,7 @@ impl KeyNumbers {
     {
         KeyNumbers {
             keys: IndexSet::with_hasher(alloc, KeyHash::with_secret(hash)),
+            hints: Hints::new(alloc),
         }
     }
 
@@ -38,7 +40,21 @@ impl KeyNumbers {
     pub fn number(&self, key: &Key) -> Option<usize>
         ensures { result ≡ number_of self.now key.now }
     {
-        self.keys.get_index_of(key)
+        match self.hinted(key) {
+            Some(number) => Some(number),
+            None => self.keys.get_index_of(key),
+        }
+    }
+
+    /// The number of the key, where a hint leads to it.
+    fn hinted(&self, key: &Key) -> Option<usize>
+        ensures { IfSome result (λ number. number_of self.now key.now ≡ Some number) }
+    {
+        let number = self.hints.place(key.shard_hash());
+        match self.keys.as_slice().get(number) {
+            Some(there) if there == key => Some(number),
+            _ => None,
+        }
     }
 
     /// How many keys have numbers.
@@ -54,7 +70,11 @@ impl KeyNumbers {
         ensures ok { OnOk result (self.new ≡ with_key self.old key.now) }
         ensures err { OnErr result (self.new ≡ self.old) }
     {
+        if let Some(number) = self.hinted(key) {
+            return Ok(number);
+        }
         let (number, _is_new) = self.keys.insert_full(key.try_clone()?)?;
+        self.hints.note(key.shard_hash(), number, self.keys.len());
         Ok(number)
     }
 }

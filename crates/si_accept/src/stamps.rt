@@ -39,10 +39,7 @@ impl Stamps {
     pub fn least(&self, stamp: Stamp) -> Option<TxnId>
         ensures { IsLeast (has self.now stamp) result }
     {
-        if self.holders.get((stamp.0, 0)).is_some() {
-            return Some(TxnId(0));
-        }
-        match self.holders.above((stamp.0, 0)) {
+        match self.holders.from((stamp.0, 0)) {
             Some(((found, id), ())) => {
                 if found == stamp.0 {
                     Some(TxnId(id))

@@ -4,8 +4,8 @@ ghost use Rattle.std.specs.Prelude.{◌≡◌, Some, None, OnOk, OnErr};
 ghost use Rattle.si_accept.specs.Writers.{writer_of, SetsWriter, SetsWriters, SameWriters, AreFree, HasRoom};
 
 use crate::key_numbers::KeyNumbers;
+use crate::pairs::Pairs;
 use si_model::{Key, Op, OutOfMemory, TxnId, Value};
-use si_sorted::SortedMap;
 use std::alloc::Global;
 use std::hash::RandomState;
 use std::marker::Model;
@@ -16,7 +16,7 @@ pub struct Writers {
     alloc: Global,
     keys: KeyNumbers,
     // Of the key of each number the writers by the values, which mostly rise; one more may stand ready for the next key.
-    ids: Vec<SortedMap<u64, u64>>,
+    ids: Vec<Pairs>,
 }
 
 impl Model for Writers {
@@ -66,7 +66,7 @@ impl Writers {
         ensures err { OnErr result (self.new ≡ self.old) }
     {
         if self.ids.len() == self.keys.len() {
-            self.ids.push(SortedMap::new(self.alloc))?;
+            self.ids.push(Pairs::new())?;
         }
         Ok(())
     }
@@ -79,7 +79,7 @@ impl Writers {
         if let Op::Write(key, value) = op {
             self.make_room()?;
             let number = self.keys.add(key)?;
-            self.ids[number].insert(value.0, id.0)?;
+            self.ids[number].insert(self.alloc, value.0, id.0)?;
         }
         Ok(())
     }
@@ -90,7 +90,7 @@ impl Writers {
     {
         if let Op::Write(key, value) = op {
             if let Some(number) = self.keys.number(key) {
-                let _former = self.ids[number].remove(value.0);
+                self.ids[number].remove(value.0);
             }
         }
     }

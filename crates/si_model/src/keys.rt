@@ -1,6 +1,6 @@
 //! Keys: short texts in themselves, longer ones shared, with their order, their hash and the shard of each.
 
-ghost use Rattle.std.specs.Prelude.{◌≡◌, ℕ, ◌<◌, ◌≤◌, ◌↔◌, ◌%◌, IsTrue, IfOk, List, fold, length, take};
+ghost use Rattle.std.specs.Prelude.{◌≡◌, ℕ, ◌<◌, ◌≤◌, ◌↔◌, ◌%◌, IsTrue, IsUtf8, IfOk, List, fold, length, take};
 ghost use Rattle.std.specs.String.{string_bytes};
 ghost use Rattle.si_model.specs.KeyTexts.{IsKeyText, shard_hash, shard_hash_with, shard_number};
 ghost use Rattle.si_model.specs.Keys.{IsWhole, IsText, text_bytes, text_hash};
@@ -169,6 +169,24 @@ impl Key {
         })
     }
 
+    /// The key with the first so many of these bytes, a text whose hash this is.
+    #[inline(always)]
+    pub fn of_short(bytes: [u8; MOST_INLINE_BYTES], count: usize, hash: u32) -> Self
+        requires some { 1 ≤ count }
+        requires within { count ≤ MOST_INLINE_BYTES }
+        requires text { IsUtf8 (take count bytes) }
+        requires hash { hash ≡ shard_hash (take count bytes) }
+        ensures { result ≡ take count bytes }
+    {
+        Key {
+            text: Text::Short {
+                len: count as u8,
+                hash,
+                bytes,
+            },
+        }
+    }
+
     /// The key with this text, which is copied only where it is short.
     pub fn from_string(text: String) -> Result<Self, OutOfMemory>
         requires { IsKeyText (string_bytes text) }
@@ -220,7 +238,9 @@ fn hash_of(bytes: &[u8]) -> u32
     bytes.iter().fold(0, |hash, byte| hash_with(hash, *byte))
 }
 
-fn hash_with(hash: u32, byte: u8) -> u32
+/// The hash of a key's text after one more byte, from 0.
+#[inline(always)]
+pub fn hash_with(hash: u32, byte: u8) -> u32
     ensures { result ≡ shard_hash_with hash byte }
 {
     ((31 * u64::from(hash) + u64::from(byte)) % 4_294_967_296) as u32

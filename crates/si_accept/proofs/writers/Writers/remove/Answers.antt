@@ -1,4 +1,4 @@
-use Rattle.std.proofs.Common.{◌≡◌, ◌<◌, ◌≤◌, None, [], length, sym, subst, ◌∙◌, arith}
+use Rattle.std.proofs.Common.{◌≡◌, ◌<◌, None, [], length, sym, subst, ◌∙◌, arith}
 use Rattle.std.specs.Prelude.{slice_index_or}
 use Rattle.std.specs.Ordering.{nat_cmp}
 use Rattle.std.proofs.lemmas.List.{get_or_default}
@@ -16,8 +16,8 @@ invariant_of-self c =
     let placed = c.self.invariant.placed in
     let below : n < length ids = omega arith in
     let list : c.index_mut.result.now ≡ slice_index_or ids n [] = c.index_mut.ensures.value ∙ get_or_default ids n c.index_mut.result.now [] below in
-    let sets = subst (λ es. Sets nat_cmp c.in-Write.value.0 None es c.remove-former.new.self) list c.remove-former.ensures.sets in
-    numbered_set c.in-Write.key c.in-Write.value _ _ _ _ (taken_out keys ids c.in-Write.key n c.in-Write.value c.remove-former.new.self c.self.invariant (sym c.in-Some.ensures) sets) (sym c.in-Some.ensures)
+    let sets = subst (λ es. Sets nat_cmp c.in-Write.value.0 None es c.remove.new.self) list c.remove.ensures in
+    numbered_set c.in-Write.key c.in-Write.value _ _ _ _ (taken_out keys ids c.in-Write.key n c.in-Write.value c.remove.new.self c.self.invariant (sym c.in-Some.ensures) sets) (sym c.in-Some.ensures)
 
 pub returns-in-Some : goal.returns-in-Some
 returns-in-Some c =
@@ -28,6 +28,6 @@ returns-in-Some c =
     let placed = c.self.invariant.placed in
     let below : n < length ids = omega arith in
     let list : c.index_mut.result.now ≡ slice_index_or ids n [] = c.index_mut.ensures.value ∙ get_or_default ids n c.index_mut.result.now [] below in
-    let sets = subst (λ es. Sets nat_cmp c.in-Write.value.0 None es c.remove-former.new.self) list c.remove-former.ensures.sets in
+    let sets = subst (λ es. Sets nat_cmp c.in-Write.value.0 None es c.remove.new.self) list c.remove.ensures in
     rw (c.in-Write.is, ← c.self.view_is)
-    (writer_set c.in-Write.key c.in-Write.value _ _ _ _ (taken_out keys ids c.in-Write.key n c.in-Write.value c.remove-former.new.self c.self.invariant (sym c.in-Some.ensures) sets) (sym c.in-Some.ensures))
+    (writer_set c.in-Write.key c.in-Write.value _ _ _ _ (taken_out keys ids c.in-Write.key n c.in-Write.value c.remove.new.self c.self.invariant (sym c.in-Some.ensures) sets) (sym c.in-Some.ensures))
