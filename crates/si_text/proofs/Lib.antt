@@ -1,8 +1,10 @@
 pub mod ArrayItems
 pub mod ScannedNumbers
 pub mod ValueTokens
-pub mod UsualTokens
-pub mod UsualArrivals
+pub mod TokenOperations
+pub mod UsualBytes
+pub mod UsualLines
+pub mod FoundMembers
 pub mod LineValues
 pub mod MemoryReads
 pub mod Between

@@ -8,14 +8,9 @@ use Rattle.json.specs.Lex as lex
 use Rattle.json.proofs.Grammar.{left, value_is, value-begin_array, value-begin_object, items_end, items_more, members_end, members_more, read_key-shorter, skip_value-shorter}
 use Rattle.serde_json.specs.Data.{unsigned, Data, null, number, string, array, object, Items, no_items, item, Members, no_members, put}
 use Rattle.serde_json.specs.Read.{number_of, of_json, of_items, of_members, read}
+use Rattle.si_text.specs.FoundMembers.{Begins}
 
--- the tokens begin with this value, nested no deeper than the number, and the new ones are left
-pub record Begins (depth : ℕ) (d : Data) (old new : List Token) : Type 0 where
-  pub from : json.Json
-  pub reads : value depth old ≡ Some (from, new)
-  pub means : of_json from ≡ Some d
-
-pub shorter : (depth : ℕ) (d : Data) (old new : List Token) → Begins depth d old new → length new < length old
+shorter : (depth : ℕ) (d : Data) (old new : List Token) → Begins depth d old new → length new < length old
 shorter depth d old new h = skip_value-shorter depth old new (ap left h.reads)
 
 module _ (depth : ℕ) (new : List Token) where

@@ -1,6 +1,8 @@
 pub mod Faults
 pub mod Lines
-pub mod UsualArrivals
+pub mod FoundMembers
+pub mod TokenOperations
+pub mod UsualBytes
 pub mod Texts
 pub mod Printing
 pub mod Inputs

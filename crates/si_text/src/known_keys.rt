@@ -9,7 +9,7 @@ ghost use Rattle.si_model.specs.KeyTexts.{IsKeyText};
 use indexmap::IndexMap;
 use json::Scratch;
 use si_model::keys::MOST_INLINE_BYTES;
-use si_model::{Key, OutOfMemory};
+use si_model::{Key, Op, OutOfMemory};
 use std::alloc::Global;
 use std::hash::{BuildHasher, RandomState};
 use std::marker::Model;
@@ -20,6 +20,8 @@ pub struct KnownKeys {
     pub(crate) shared: SharedKeys,
     /// The memory by which a line is read token by token, kept from line to line.
     pub(crate) scratch: Scratch,
+    /// The list in which a line's operations are gathered, kept too.
+    pub(crate) ops: Vec<Op>,
 }
 
 impl Model for KnownKeys {
@@ -38,6 +40,7 @@ impl KnownKeys {
         KnownKeys {
             shared: SharedKeys::new(alloc, Some(hash)),
             scratch: Scratch::new(alloc),
+            ops: Vec::new(alloc),
         }
     }
 
@@ -48,6 +51,7 @@ impl KnownKeys {
         KnownKeys {
             shared: SharedKeys::new(alloc, None),
             scratch: Scratch::new(alloc),
+            ops: Vec::new(alloc),
         }
     }
 

@@ -6,8 +6,9 @@
 //! that came before and on `itoa` for numbers.
 //!
 //! A line comes in by stages, each in a file of its own: bytes that a device gave at once (`read_pieces`), a whole line of them
-//! (`read_lines`), what it holds (`read_items`), and its edit (`read_edits`). The edit is read by tokens where the line is an arrival
-//! in the usual form (`usual_arrivals`, `usual_tokens`), and else from its JSON value (`json_members`, `json_operations`).
+//! (`read_lines`), what it holds (`read_items`), and its edit (`read_edits`). The edit is read byte by byte where the line is
+//! in the usual form (`usual_lines`, `usual_bytes`), else by its tokens (`token_lines`, `token_values`): both find its members
+//! (`found_members`). What isn't read so is read from its JSON value (`json_members`, `json_operations`).
 #![tactic(auto)]
 
 mod appending;
@@ -15,6 +16,7 @@ pub mod changes;
 pub mod devices;
 pub mod explaining;
 pub mod faults;
+mod found_members;
 mod json_members;
 mod json_operations;
 pub mod known_keys;
@@ -28,8 +30,10 @@ mod read_pieces;
 pub mod reasons;
 pub mod shortages;
 pub mod streams;
-mod usual_arrivals;
-mod usual_tokens;
+mod token_lines;
+mod token_values;
+mod usual_bytes;
+mod usual_lines;
 pub mod verdicts;
 
 pub use changes::{keep_violations, print_changes};

@@ -1,4 +1,4 @@
-//! From a line to an edit: first by its tokens, if it is an arrival in the usual form, and else by its JSON value.
+//! From a line to an edit: byte by byte if it is in the usual form, else by its tokens, or else by its JSON value, where faults are told.
 
 ghost use Rattle.std.specs.Prelude.{◌≡◌, ◌≢◌, IfOk, IfErr};
 ghost use Rattle.serde_json.specs.View.{view};
@@ -6,7 +6,8 @@ ghost use Rattle.si_text.specs.Lines.{Gives, value_of, object_edit, arrival_of, 
 
 use crate::json_members::{number_at, outcome_of, status_at};
 use crate::json_operations::ops_of;
-use crate::usual_arrivals::usual_arrival;
+use crate::token_lines::token_edit;
+use crate::usual_lines::usual_edit;
 use crate::{Field, KnownKeys, LineFault};
 use serde_json::Value;
 use si_model::{Edit, Key, Stamp, Txn, TxnId};
@@ -37,7 +38,17 @@ pub(crate) fn read_edit_with(
         return Err(LineFault::TooLong);
     }
     // Most lines end here.
-    if let Some(edit) = usual_arrival(alloc, &mut keys.shared, &mut keys.scratch, line) {
+    if let Some(edit) = usual_edit(alloc, &mut keys.shared, &mut keys.ops, line) {
+        return Ok(edit);
+    }
+    let edit = token_edit(
+        alloc,
+        &mut keys.shared,
+        &mut keys.ops,
+        &mut keys.scratch,
+        line,
+    );
+    if let Some(edit) = edit {
         return Ok(edit);
     }
     let value = value_of(alloc, line)?;

@@ -56,6 +56,35 @@ const EDITS: &str = "
     {\"do\":\"resolve\",\"id\":1,\"status\":\"committed\",\"commit\":3} | resolve 1 3
     {\"do\":\"resolve\",\"id\":1,\"status\":\"aborted\",\"commit\":\"never\"} | resolve 1 aborted
     {\"do\":\"setup\",\"key\":\"x\",\"value\":5} | setup x=5
+    {\"do\": \"txn\", \"id\": 7, \"start\": 10, \"status\": \"committed\", \"commit\": 20, \"ops\": [[\"r\", \"x\", null], [\"w\", \"x\", 5]]} | arrive 7 10 20 x?null x=5
+    {\"do\":\"txn\",\"id\":1,\"start\":0,\"status\":\"aborted\",\"ops\":[]} | arrive 1 0 aborted
+    {\"do\": \"txn\", \"id\": 1, \"start\": 0, \"status\": \"indoubt\", \"ops\": [[\"r\", \"x\", 0]]} | arrive 1 0 indoubt x?0
+    {\"do\": \"txn\",\"id\":1, \"start\":0,\"status\": \"aborted\", \"ops\":[[\"w\",\"x\", 5], [\"w\", \"y\",6]]} | arrive 1 0 aborted x=5 y=6
+    {\"do\" : \"txn\",  \"id\":1,\"start\":0,\"status\":\"aborted\",\"ops\":[ [\"w\",\"x\",5] , [\"w\",\"y\",6]] } | arrive 1 0 aborted x=5 y=6
+    {\"do\":\"txn\",\"id\":1,\"start\":2,\"status\":\"aborted\",\"ops\":[[\"w\",\"\\u0078\",5],[\"w\",\"x~!{}[],:\",6]]} | arrive 1 2 aborted x=5 x~!{}[],:=6
+    {\"do\":\"txn\",\"id\":1,\"start\":2,\"status\":\"aborted\",\"ops\":[[\"w\",\"k23456789abcdef0\",5],[\"w\",\"k23456789abcdef01\",6],[\"w\",\"Köln\",7]]} | arrive 1 2 aborted k23456789abcdef0=5 k23456789abcdef01=6 Köln=7
+    {\"do\":\"txn\",\"id\":1,\"start\":2,\"status\":\"aborted\",\"ops\":[[\"w\",\"x\",5]],\"note\":1} | arrive 1 2 aborted x=5
+    {\"do\":\"txn\",\"id\":1,\"start\":2,\"status\":\"aborted\",\"ops\":[[\"w\",\"x\",5]],\"id\":3} | arrive 3 2 aborted x=5
+    {\"do\":\"withdraw\",\"id\":7} | withdraw 7
+    {\"do\": \"withdraw\", \"id\": 7} | withdraw 7
+    {\"do\":\"withdraw\",\"id\":0} | withdraw 0
+    {\"do\":\"withdraw\",\"id\":9999999999999999999} | withdraw 9999999999999999999
+    {\"do\":\"withdraw\",\"id\":10000000000000000000} | withdraw 10000000000000000000
+    {\"do\": \"resolve\", \"id\": 1, \"status\": \"committed\", \"commit\": 3} | resolve 1 3
+    {\"do\":\"resolve\",\"id\":1,\"status\":\"aborted\"} | resolve 1 aborted
+    {\"do\": \"resolve\", \"id\": 1, \"status\": \"aborted\"} | resolve 1 aborted
+    {\"do\": \"setup\", \"key\": \"x\", \"value\": 5} | setup x=5
+    {\"commit\":20,\"do\":\"txn\",\"id\":7,\"ops\":[[\"r\",\"x\",null],[\"w\",\"x\",5]],\"start\":10,\"status\":\"committed\"} | arrive 7 10 20 x?null x=5
+    {\"ops\": [], \"status\": \"aborted\", \"start\": 0, \"id\": 1, \"do\": \"txn\"} | arrive 1 0 aborted
+    {\"start\":1,\"do\":\"txn\",\"id\":1,\"start\":2,\"status\":\"committed\",\"status\":\"aborted\",\"ops\":[[\"w\",\"x\",1]],\"ops\":[]} | arrive 1 2 aborted
+    {\"do\":\"withdraw\",\"id\":7,\"start\":1,\"status\":\"aborted\",\"key\":\"x\",\"value\":1,\"commit\":2,\"ops\":[[\"w\",\"x\",1]]} | withdraw 7
+    {\"do\":\"txn\",\"do\":\"withdraw\",\"id\":7} | withdraw 7
+    {\"id\":1,\"id\":1,\"id\":1,\"id\":1,\"id\":1,\"id\":1,\"id\":1,\"id\":1,\"id\":1,\"id\":1,\"id\":1,\"id\":1,\"id\":1,\"id\":1,\"id\":1,\"id\":1,\"id\":7,\"do\":\"withdraw\"} | withdraw 7
+    {\"id\":7,\"do\":\"withdraw\"} | withdraw 7
+    {\"commit\": 3, \"do\": \"resolve\", \"id\": 1, \"status\": \"committed\"} | resolve 1 3
+    {\"do\":\"resolve\",\"id\":1,\"status\":\"aborted\",\"commit\":3} | resolve 1 aborted
+    {\"value\": 5, \"do\": \"setup\", \"key\": \"x\"} | setup x=5
+    { \"do\" : \"setup\" , \"value\" : 5 , \"key\" : \"K\\u00f6ln\" } | setup Köln=5
     {\"value\":0,\"id\":1,\"key\":\"\\u0041\",\"do\":\"setup\"} | setup A=0";
 
 #[test]
@@ -87,6 +116,31 @@ const FAULTY: &str = "
     {\"do\":\"txn\",\"id\":1,\"start\":2,\"status\":\"committed\",\"ops\":[]} | BadField(Commit)
     {\"do\":\"txn\",\"id\":1,\"start\":2,\"status\":\"done\",\"ops\":[]} | BadStatus
     {\"do\":\"resolve\",\"id\":1,\"status\":\"indoubt\"} | BadStatus
+    {\"do\":\"withdraw\",\"id\":07} | NotJson
+    {\"do\":\"withdraw\",\"id\":00} | NotJson
+    {\"do\":\"withdraw\",\"id\":} | NotJson
+    {\"do\":\"withdraw\",\"id\":7,} | NotJson
+    {\"do\":\"withdraw\",\"id\":7]} | NotJson
+    {\"do\":\"withdraw\",\"id\":7}} | NotJson
+    {\"do\":\"withdraw\",\"id\":7}7 | NotJson
+    {\"do\":\"withdraw\",\"id\":7a} | NotJson
+    {\"do\":\"withdraw,\"id\":7} | NotJson
+    {\"do\":\"withdrew\",\"id\":7} | BadKind
+    {\"do\":\"withdraw\",\"ID\":7} | BadField(Id)
+    {\"do\":\"withdraw\",\"id\":\"7\"} | BadField(Id)
+    {\"do\":\"withdraw\",\"id\":-0} | BadField(Id)
+    {\"do\":\"withdraw\",\"id\":99999999999999999999} | BadField(Id)
+    {\"do\":\"resolve\",\"id\":1,\"status\":\"aborted\",} | NotJson
+    {\"do\":\"resolve\",\"id\":1,\"status\":\"Aborted\"} | BadStatus
+    {\"do\":\"setup\",\"key\":\"x\",\"value\":05} | NotJson
+    {\"do\":\"setup\",\"key\":\"x\".\"value\":5} | NotJson
+    {\"do\":\"withdraw\",\"id\":7,\"id\":\"7\"} | BadField(Id)
+    {\"id\":7,\"do\":\"withdraw\",\"do\":7} | BadKind
+    {\"do\":\"withdraw\" \"id\":7} | NotJson
+    {\"do\":\"txn\":\"withdraw\",\"id\":7} | NotJson
+    {\"id\":7,\"do\":\"withdraw\":} | NotJson
+    {\"status\":\"committed\",\"id\":1,\"do\":\"resolve\"} | BadField(Commit)
+    {\"value\":5,\"key\":\"\",\"do\":\"setup\"} | BadField(Key)
     {\"do\":\"setup\",\"value\":\"5\"} | BadField(Key)
     {\"do\":\"setup\",\"key\":\"\",\"value\":5} | BadField(Key)
     {\"do\":\"setup\",\"key\":7,\"value\":5} | BadField(Key)
@@ -109,6 +163,17 @@ const FAULTY_OPS: &str = "
     [\"r\",\"x\"] | BadOp(0)
     [\"r\",\"x\",-1] | BadOp(0)
     [\"w\",\"x\",1],[\"w\",\"y\",1],[\"d\",\"x\",1] | BadOp(2)
+    [\"r\",\"x\",null], | NotJson
+    [\"r\",\"x\",null][\"r\",\"x\",null] | NotJson
+    [\"r\",\"x\",nul] | NotJson
+    [\"r\",\"x\",null]] | NotJson
+    [\"r\",\"x\",01] | NotJson
+    [\"r\",\"x\"1] | NotJson
+    [\"r\",\"\t\",1] | NotJson
+    [\"R\",\"x\",null] | BadOp(0)
+    [\"w\",\"x\",1],[\"w\",null,1] | BadOp(1)
+    [\"w\",\"x\",1],[\"w\",\"x\",\"1\"] | BadOp(1)
+    [\"w\",\"x\",1.5] | BadOp(0)
     7 | BadOp(0)";
 
 #[test]
@@ -172,6 +237,8 @@ fn numbers_of_operations_at_their_limit(rt: HostRuntime) {
     assert!(rt; is_edit(&rt, most.as_str()));
     let more = with_reads(&rt, 4096, "7");
     lacks(&rt, more.as_bytes(), "TooManyOps");
+    let usual = with_reads(&rt, 4096, "[\"r\",\"x\",null]");
+    lacks(&rt, usual.as_bytes(), "TooManyOps");
 }
 
 /// A line with a value that nests so deep.

@@ -1,11 +1,11 @@
--- Lemmas on the tokens of an arrival in the usual form.
+-- Lemmas on the tokens of operations.
 use Rattle.std.proofs.Common.{◌≡◌, ◌≤◌, ℕ, List, [], ◌∷◌, ◌++◌, length, codes, All, Some, None, refl, sym, ap, subst, append-nil, arith}
 use Rattle.std.proofs.lemmas.List.Elements.{All-nil, All-cons}
 use Rattle.json.specs.Token as tokens
 use Rattle.json.specs.Token.{Token}
 use Rattle.json.specs.Json.{after_end_array}
 use Rattle.json.proofs.Grammar.{closed_array}
-use Rattle.serde_json.specs.Data.{Data, null, number, unsigned}
+use Rattle.serde_json.specs.Data.{Data, null, number, unsigned, array}
 use Rattle.si_model.specs.KeyTexts.{IsKeyText}
 use Rattle.si_model.specs.Operations.{key_of}
 use Rattle.si_model.specs.declared.operations.Op.{Op}
@@ -13,8 +13,10 @@ use Rattle.si_model.specs.declared.operations.Op.TheVariants.{Read, Write}
 use Rattle.si_model.specs.declared.operations.TheConstants.{MOST_OPS}
 use Rattle.si_text.specs.Conditions.{triple, op_value}
 use Rattle.si_text.specs.Telling.{op_values}
-use Rattle.si_text.specs.UsualArrivals.{TakesOp, TakesItems}
-use Rattle.si_text.proofs.ValueTokens.{Begins, null_begins, string_begins, number_begins, ItemsBegin, no_item_begins, item_begins, array_begins}
+use Rattle.si_text.specs.FoundMembers.{Begins, TakesValue}
+use Rattle.si_text.specs.TokenOperations.{TakesOp, TakesItems}
+use Rattle.si_text.specs.declared.found_members.Member.TheVariants.{Ops}
+use Rattle.si_text.proofs.ValueTokens.{null_begins, string_begins, number_begins, ItemsBegin, no_item_begins, item_begins, array_begins}
 
 -- ---- taking the items one after another
 
@@ -66,3 +68,9 @@ items_begin (op ∷ ops) old new h = item_begins 125 (op_value op) (op_values op
 pub all_fit : (ops : List Op) (old new : List Token) → TakesItems ops old new → All (λ op. IsKeyText (key_of op)) ops
 all_fit [] old new h = All-nil (λ op. IsKeyText (key_of op))
 all_fit (op ∷ ops) old new h = All-cons (λ x. IsKeyText (key_of x)) op ops (op_fits op old h.0 h.1) (all_fit ops h.0 new h.2)
+
+pub ops_taken : (ops : List Op) (old mid new : List Token) → old ≡ tokens.begin_array ∷ mid → TakesItems ops mid new → length ops ≤ MOST_OPS → TakesValue (Ops ops) old new
+ops_taken ops old mid new begins items few = record {
+  begins = subst (λ ts. Begins 126 (array (op_values ops)) ts new) (sym begins) (array_begins 126 (op_values ops) mid new (omega arith) (items_begin ops mid new items));
+  within = (few, all_fit ops mid new items);
+}

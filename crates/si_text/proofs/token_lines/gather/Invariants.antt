@@ -1,6 +1,6 @@
 use Rattle.std.proofs.Common.{length}
-use Rattle.si_text.proofs.UsualTokens.{AreTaken}
-use Rattle.si_text.proofs.usual_arrivals.take_items.Given as goal
+use Rattle.si_text.proofs.TokenOperations.{AreTaken}
+use Rattle.si_text.proofs.token_lines.gather.Given as goal
 
 abbrev pub invariant-items : goal.invariant-items
 invariant-items l = AreTaken l.initial.reader l.reader l.ops.items
