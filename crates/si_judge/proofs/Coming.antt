@@ -1,5 +1,5 @@
 -- The indexes of what is on a key stay so when a transaction comes or goes.
-use Rattle.std.proofs.Common.{◌≡◌, ◌≢◌, ◌∙◌, inl, inr, ◌↔◌, List, Option, Some, None, refl, sym, ap, subst, IfSome}
+use Rattle.std.proofs.Common.{◌≡◌, ◌≢◌, ◌∙◌, ◌<◌, inl, inr, ◌↔◌, List, Option, Some, None, refl, sym, ap, subst, IfSome}
 use Rattle.std.specs.List.{AllPairs, Contains}
 use Rattle.std.specs.Ordering.{eq_by_cmp}
 use Rattle.si_lists.proofs.Members.{same_some}
@@ -70,6 +70,10 @@ module _ (old new : Indexes) (T : Part) {M R : OnKey} (is : AreIndexes M old) (j
           | inr s ↦ inr (same_some (sym x.2 ∙ ap version_by s ∙ e))
         ])),
       )
+
+-- the accesses of one that comes stand in their order
+pub accesses_rise : {M : OnKey} (T : Part) → Fits T M → AllPairs (λ a b. a.place < b.place) T.accesses
+accesses_rise T fits = fits.2.places T ((fits.1.parts T).1 (inr refl))
 
 -- no version stands yet at the commit of one that comes
 pub lacks_version : {M : OnKey} (ix : Indexes) (T : Part) → AreIndexes M ix → Fits T M → LacksVersion (version_by T) ix.timeline

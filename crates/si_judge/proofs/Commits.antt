@@ -14,9 +14,9 @@ use Rattle.si_lists.proofs.Members.{same_some, here, Contains-nil, Contains-cons
 use Rattle.si_model.specs.declared.numbers.Stamp.{Stamp}
 use Rattle.si_model.specs.declared.numbers.Value.{Value}
 use Rattle.si_sorted.specs.Entries.{Sets}
-use Rattle.si_timeline.specs.Timelines.{Adds, Dated, IsAt, Lacks}
+use Rattle.si_timeline.specs.Timelines.{Adds, Dated, IsAt, IsOfValue, Lacks}
 use Rattle.si_timeline.specs.declared.versions.Version.{Version}
-use Rattle.si_judge.specs.Commits.{AreCommitsOf, HaveValuesOnce, IsOfValue}
+use Rattle.si_judge.specs.Commits.{AreCommitsOf, HaveValuesOnce}
 use Rattle.si_judge.specs.Values.{at_value, value_cmp}
 use Rattle.si_judge.proofs.IndexEdits.{no_value}
 use Rattle.si_judge.proofs.Orders.{value_decides}

@@ -8,6 +8,7 @@ pub mod Others
 pub mod Orders
 pub mod KeyParts
 pub mod PartLists
+pub mod RisingValues
 pub mod Coming
 pub mod Commits
 pub mod Neighbours
@@ -24,6 +25,7 @@ pub mod Bare
 pub mod Beside
 pub mod Pairs
 pub mod Counts
+pub mod Passes
 pub mod PairLists
 pub mod Coverage
 pub mod Edited

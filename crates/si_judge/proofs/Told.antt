@@ -15,11 +15,11 @@ use Rattle.si_model.specs.Versions.{Writes}
 use Rattle.si_model.proofs.Equalities.{read_is, same_value_from, same_value_is}
 use Rattle.si_model.proofs.Histories.{one_part}
 use Rattle.si_model.proofs.LastWrites.{last_written}
-use Rattle.si_timeline.specs.Timelines.{Dated}
+use Rattle.si_timeline.specs.Timelines.{Dated, IsOfValue}
 use Rattle.si_judge.specs.declared.reads.Fate.TheVariants as fate
 use Rattle.si_judge.specs.declared.reads.Write.{Write}
 use Rattle.si_judge.specs.declared.indexes.Indexes.{Indexes}
-use Rattle.si_judge.specs.Commits.{HaveValuesOnce, IsOfValue}
+use Rattle.si_judge.specs.Commits.{HaveValuesOnce}
 use Rattle.si_judge.specs.Indexes.{AreIndexes, fate_of, is_other, write_of, writes_of}
 use Rattle.si_judge.specs.Sights.{version_in}
 use Rattle.si_judge.specs.Values.{at_value}

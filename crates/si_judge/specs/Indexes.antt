@@ -168,6 +168,11 @@ IsValueBefore ix c v = (o : Option Dated) × IsNearestBefore ix.timeline c o × 
 abbrev pub kept_reads_in : Indexes → Option Value → Option Stamp → List (KeptRead × Option Value)
 kept_reads_in ix v after = kept_reads_among ix.reads v after
 
+-- the reads of the value, if there is one
+abbrev pub readers_of : Indexes → Option Value → List (KeptRead × Option Value)
+readers_of ix None = []
+readers_of ix (Some v) = kept_reads_in ix (Some v) None
+
 -- the reads of the version before this one, by readers that started after its commit, if there is one
 abbrev pub AreReadsBefore : Indexes → Option Dated → List (KeptRead × Option Value) → Type 0
 AreReadsBefore ix None reads = reads ≡ []

@@ -8,7 +8,7 @@ ghost use Rattle.si_model.specs.declared.parts.OnKey.{OnKey};
 ghost use Rattle.si_model.specs.declared.sights.Source.TheVariants as source;
 ghost use Rattle.si_model.specs.Operations.{same_value};
 ghost use Rattle.si_model.specs.History.{IsOfHistory};
-ghost use Rattle.si_model.specs.Versions.{next_after};
+ghost use Rattle.si_model.specs.Versions.{last_write, next_after};
 ghost use Rattle.si_model.specs.Reads.{missed_of};
 ghost use Rattle.si_model.specs.Reads.{version_of};
 ghost use Rattle.si_timeline.specs.Timelines.{IsNearestBefore};
@@ -39,13 +39,6 @@ pub struct Indexes {
     pub reads: KeptReads,
 }
 
-/// The reads and writes of a transaction that was taken out.
-#[derive(Drop)]
-pub struct TakenOut {
-    pub reads: Vec<ReadWithOwn>,
-    pub writes: Vec<(Value, Write)>,
-}
-
 impl Indexes {
     /// Nothing is known of the key.
     pub fn new(alloc: Global) -> Self
@@ -62,37 +55,36 @@ impl Indexes {
         }
     }
 
-    /// Puts a transaction in, whose reads and writes these are.
+    /// Puts a transaction in, which writes `last` last and installs this version, if it installs one.
     pub fn put_in(
         &mut self,
         part: &Part,
-        reads: &[ReadWithOwn],
-        writes: &[(Value, Write)],
+        last: Option<Value>,
+        version: Option<(Stamp, Version)>,
     ) -> Result<(), OutOfMemory>
         requires fits { (M : OnKey) × AreIndexes M self.old × Fits part.now M }
-        requires reads { reads.now ≡ reads_in part.now }
-        requires writes { writes.now ≡ writes_of part.now }
+        requires last { last ≡ last_write part.now.accesses }
+        requires version { version ≡ version_by part.now }
         ensures { OnOk result ((M R : OnKey) → AreIndexes M self.old → Joins part.now M R → IsOfHistory R → AreIndexes R self.new) }
     {
-        insert_writes(&mut self.writes, writes)?;
-        self.reads.insert_all(reads)?;
-        add_version(&mut self.timeline, part)?;
+        insert_writes(&mut self.writes, part, last)?;
+        self.reads.insert_in(part)?;
+        add_version(&mut self.timeline, version)?;
         Ok(())
     }
 
-    /// Takes a transaction out that is in.
-    pub fn take_out(&mut self, alloc: Global, part: &Part) -> Result<TakenOut, OutOfMemory>
+    /// Takes a transaction out that is in. Answers its reads, if it is committed.
+    pub fn take_out(&mut self, alloc: Global, part: &Part) -> Result<Vec<ReadWithOwn>, OutOfMemory>
         requires { (M : OnKey) × AreIndexes M self.old × Contains M.parts part.now }
         ensures indexes { OnOk result ((M R : OnKey) → AreIndexes M self.old → Joins part.now R M → IsOfHistory R → AreIndexes R self.new) }
-        ensures reads { IfOk result (λ taken. taken.reads.items ≡ reads_in part.now) }
-        ensures writes { IfOk result (λ taken. taken.writes.items ≡ writes_of part.now) }
+        ensures reads { IfOk result (λ taken. taken.items ≡ reads_in part.now) }
     {
         let reads = reads_in(alloc, part)?;
         let writes = writes_of(alloc, part)?;
         remove_writes(&mut self.writes, writes.as_slice());
         self.reads.remove_all(reads.as_slice());
         remove_version(&mut self.timeline, part);
-        Ok(TakenOut { reads, writes })
+        Ok(reads)
     }
 
     /// Whether nothing is looked for on the key.
@@ -219,13 +211,16 @@ impl Indexes {
     }
 }
 
-/// Adds the version that the transaction installs, if it installs one.
-fn add_version(timeline: &mut Versions, part: &Part) -> Result<(), OutOfMemory>
-    requires lacks { LacksVersion (version_by part.now) timeline.old }
-    requires once { KeepsValuesOnce (version_by part.now) timeline.old }
-    ensures { OnOk result (AddsVersion (version_by part.now) timeline.old timeline.new) }
+/// Adds the version, if there is one.
+fn add_version(
+    timeline: &mut Versions,
+    version: Option<(Stamp, Version)>,
+) -> Result<(), OutOfMemory>
+    requires lacks { LacksVersion version timeline.old }
+    requires once { KeepsValuesOnce version timeline.old }
+    ensures { OnOk result (AddsVersion version timeline.old timeline.new) }
 {
-    match version_by(part) {
+    match version {
         Some((commit, version)) => timeline.insert(commit, version),
         None => Ok(()),
     }

@@ -1,18 +1,19 @@
 //! What a judge found on a key, kept under what was judged.
 
-ghost use Rattle.std.specs.Prelude.{◌≡◌, ◌+◌, ◌≤◌, None, Option, IfSome, OnOk, length};
-ghost use Rattle.std.specs.List.{Contains};
+ghost use Rattle.std.specs.Prelude.{◌≡◌, ◌+◌, ◌<◌, ◌≤◌, None, Option, IfSome, OnOk, length};
+ghost use Rattle.std.specs.List.{AllPairs, Contains};
 ghost use Rattle.std.specs.BTreeMap.{get};
+ghost use Rattle.std.specs.Option.{option_to_list};
 ghost use Rattle.si_model.specs.declared.parts.OnKey.{OnKey};
 ghost use Rattle.si_model.specs.Findings.{overlap_with};
-ghost use Rattle.si_judge.specs.Indexes.{AreIndexes};
+ghost use Rattle.si_judge.specs.Indexes.{AreIndexes, reads_in, reads_of};
 ghost use Rattle.si_judge.specs.Mending.{AreForgotten, RisesBy, IsVersionForgotten, IsVersionJudged, AreReadsJudged, IsPairJudged, IsPairJudgedBefore, id_of, read_cmp, risen, stamp_cmp, with_kind};
 
 use crate::Judge;
 use crate::indexes::{Indexes, installer};
 use crate::maps::put;
-use crate::reads::ReadWithOwn;
-use si_model::{Installer, Kind, OutOfMemory, Stamp, TxnId, VersionId};
+use crate::reads::{ReadWithOwn, read_at};
+use si_model::{Installer, Kind, OutOfMemory, Part, Stamp, TxnId, VersionId};
 use si_timeline::Version;
 use std::alloc::Global;
 use std::collections::BTreeMap;
@@ -60,8 +61,51 @@ impl<J: Judge + Drop> Judgements<J> {
         ensures counted { OnOk result (J.answers self.new.judge ≡ risen (J.answers self.old.judge) (length reads.now)) }
     {
         for read in reads {
-            let kind = self.judge.read(&indexes.sight_of(*read));
-            put(&mut self.reads, id_of(*read), kind)?;
+            self.judge_one(indexes, Some(*read))?;
+        }
+        Ok(())
+    }
+
+    /// Judges the reads of the transaction, if it is committed.
+    #[tactic(auto, unfolding(crate::specs::Indexes::reads_in))]
+    pub fn judge_reads_in(&mut self, indexes: &Indexes, part: &Part) -> Result<(), OutOfMemory>
+        requires { AllPairs (λ a b. a.place < b.place) part.now.accesses }
+        ensures reads { OnOk result ((M : OnKey) → AreIndexes M indexes.now
+            → AreReadsJudged J.rules M indexes.now (reads_in part.now) (get read_cmp self.old.reads) (get read_cmp self.new.reads)) }
+        ensures overlaps { OnOk result (self.new.overlaps ≡ self.old.overlaps) }
+        ensures counted { OnOk result (J.answers self.new.judge ≡ risen (J.answers self.old.judge) (length (reads_in part.now))) }
+    {
+        match part.status.commit() {
+            None => Ok(()),
+            Some(_) => self.judge_reads_of(indexes, part),
+        }
+    }
+
+    #[tactic(auto, using(crate::proofs::OwnValues::own_is))]
+    fn judge_reads_of(&mut self, indexes: &Indexes, part: &Part) -> Result<(), OutOfMemory>
+        requires { AllPairs (λ a b. a.place < b.place) part.now.accesses }
+        ensures reads { OnOk result ((M : OnKey) → AreIndexes M indexes.now
+            → AreReadsJudged J.rules M indexes.now (reads_of part.now) (get read_cmp self.old.reads) (get read_cmp self.new.reads)) }
+        ensures overlaps { OnOk result (self.new.overlaps ≡ self.old.overlaps) }
+        ensures counted { OnOk result (J.answers self.new.judge ≡ risen (J.answers self.old.judge) (length (reads_of part.now))) }
+    {
+        let mut own = None;
+        for placed in part.accesses.as_slice() {
+            self.judge_one(indexes, read_at(part, own, *placed))?;
+            own = placed.access.written().or(own);
+        }
+        Ok(())
+    }
+
+    fn judge_one(&mut self, indexes: &Indexes, read: Option<ReadWithOwn>) -> Result<(), OutOfMemory>
+        ensures reads { OnOk result ((M : OnKey) → AreIndexes M indexes.now
+            → AreReadsJudged J.rules M indexes.now (option_to_list read) (get read_cmp self.old.reads) (get read_cmp self.new.reads)) }
+        ensures overlaps { OnOk result (self.new.overlaps ≡ self.old.overlaps) }
+        ensures counted { OnOk result (J.answers self.new.judge ≡ risen (J.answers self.old.judge) (length (option_to_list read))) }
+    {
+        if let Some(read) = read {
+            let kind = self.judge.read(&indexes.sight_of(read));
+            put(&mut self.reads, id_of(read), kind)?;
         }
         Ok(())
     }

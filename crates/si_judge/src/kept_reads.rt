@@ -1,14 +1,17 @@
 //! The reads of a key's committed transactions, found by what they returned.
 
-ghost use Rattle.std.specs.Prelude.{◌≡◌, ◌↔◌, ◌++◌, ◌-◌, None, IsTrue, OnErr, OnOk, Some, length, slice_get};
+ghost use Rattle.std.specs.Prelude.{◌≡◌, ◌↔◌, ◌<◌, ◌++◌, ◌-◌, None, IsTrue, OnErr, OnOk, Some, length, slice_get};
+ghost use Rattle.std.specs.List.{AllPairs};
 ghost use Rattle.std.specs.Map.{keys_of};
+ghost use Rattle.std.specs.Option.{option_to_list};
 ghost use Rattle.std.specs.Ordering.{eq_by_cmp};
 ghost use Rattle.si_sorted.specs.Entries.{Sets, value_at};
+ghost use Rattle.si_judge.specs.Indexes.{reads_in, reads_of};
 ghost use Rattle.si_judge.specs.Maps.{AreInserted, AreTakenOut};
 ghost use Rattle.si_judge.specs.KeptReads.{AreInOrder, SetsOwn, beyond, is_later, is_kept_read_of, least_kept_read, own_at, kept_read_cmp, kept_reads_among};
 
-use crate::reads::{KeptRead, ReadWithOwn};
-use si_model::{OutOfMemory, Stamp, TxnId, Value};
+use crate::reads::{KeptRead, ReadWithOwn, read_at};
+use si_model::{OutOfMemory, Part, Stamp, TxnId, Value};
 use si_sorted::{Choice, SortedMap};
 use std::alloc::Global;
 use std::marker::Model;
@@ -99,13 +102,39 @@ impl KeptReads {
         Some(reader)
     }
 
-    /// Puts the reads in.
-    pub fn insert_all(&mut self, reads: &[ReadWithOwn]) -> Result<(), OutOfMemory>
-        ensures values { OnOk result (AreInserted (eq_by_cmp kept_read_cmp) (own_at self.old) reads.now (own_at self.new)) }
+    /// Puts the reads of the transaction in, if it is committed.
+    #[tactic(auto, unfolding(crate::specs::Indexes::reads_in))]
+    pub fn insert_in(&mut self, part: &Part) -> Result<(), OutOfMemory>
+        requires { AllPairs (λ a b. a.place < b.place) part.now.accesses }
+        ensures values { OnOk result (AreInserted (eq_by_cmp kept_read_cmp) (own_at self.old) (reads_in part.now) (own_at self.new)) }
         ensures ordered { OnOk result (AreInOrder self.old → AreInOrder self.new) }
     {
-        for read in reads {
-            self.insert(read.0, read.1)?;
+        match part.status.commit() {
+            None => Ok(()),
+            Some(_) => self.insert_of(part),
+        }
+    }
+
+    #[tactic(auto, using(crate::proofs::OwnValues::own_is))]
+    fn insert_of(&mut self, part: &Part) -> Result<(), OutOfMemory>
+        requires { AllPairs (λ a b. a.place < b.place) part.now.accesses }
+        ensures values { OnOk result (AreInserted (eq_by_cmp kept_read_cmp) (own_at self.old) (reads_of part.now) (own_at self.new)) }
+        ensures ordered { OnOk result (AreInOrder self.old → AreInOrder self.new) }
+    {
+        let mut own = None;
+        for placed in part.accesses.as_slice() {
+            self.insert_one(read_at(part, own, *placed))?;
+            own = placed.access.written().or(own);
+        }
+        Ok(())
+    }
+
+    fn insert_one(&mut self, read: Option<ReadWithOwn>) -> Result<(), OutOfMemory>
+        ensures values { OnOk result (AreInserted (eq_by_cmp kept_read_cmp) (own_at self.old) (option_to_list read) (own_at self.new)) }
+        ensures ordered { OnOk result (AreInOrder self.old → AreInOrder self.new) }
+    {
+        if let Some((reader, own)) = read {
+            self.insert(reader, own)?;
         }
         Ok(())
     }

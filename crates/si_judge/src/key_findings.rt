@@ -14,15 +14,17 @@ ghost use Rattle.si_judge.specs.Touched.{IsTouched, IsTouchedBySetUp};
 ghost use Rattle.si_judge.specs.States.{AreSameOnKey};
 ghost use Rattle.si_judge.specs.Kept.{IsBare, IsInDoubt, IsShown, Shows};
 ghost use Rattle.si_judge.specs.declared.reads.KeptRead.{KeptRead};
-ghost use Rattle.si_judge.specs.Indexes.{AreIndexes, AreReadsBefore, AreTouchedReads, Fits, Joins, reads_in, version_by, writes_of};
+ghost use Rattle.si_judge.specs.Indexes.{AreIndexes, AreReadsBefore, AreTouchedReads, Fits, Joins, readers_of, reads_in, version_by, writes_of};
 ghost use Rattle.si_judge.specs.Mending.{IsJudgedWith, IsJudgedWithout, found_by};
 
 use crate::Judge;
-use crate::indexes::{Indexes, TakenOut};
+use crate::indexes::Indexes;
 use crate::judgements::Judgements;
-use crate::reads::{ReadWithOwn, Write, reads_in, version_by, writes_of};
+use crate::reads::{ReadWithOwn, version_by, version_with};
 use si_model::sorting::put_in_order;
-use si_model::{Finding, Key, Kind, OutOfMemory, Outcome, Part, Value};
+use si_model::versions::last_write;
+use si_model::{Finding, Key, Kind, OutOfMemory, Outcome, Part, Stamp, Value};
+use si_timeline::Version;
 use std::alloc::Global;
 use std::collections::BTreeMap;
 use std::marker::Model;
@@ -108,7 +110,7 @@ impl<J: Judge + Drop> KeyFindings<J> {
             &self.indexes,
             &mut self.judgements,
             part,
-            &taken,
+            taken.as_slice(),
         )?;
         Ok(())
     }
@@ -226,13 +228,13 @@ fn add<J: Judge + Drop>(
     ensures judged { OnOk result ((R : OnKey) → AreIndexes R indexes.new
         → IsJudgedWith J.rules part.now R indexes.old indexes.new (found_by J.answers judgements.old) (found_by J.answers judgements.new)) }
 {
-    let reads = reads_in(alloc, part)?;
-    let writes = writes_of(alloc, part)?;
-    let others = touched(alloc, indexes, part, writes.as_slice())?;
-    indexes.put_in(part, reads.as_slice(), writes.as_slice())?;
+    let last = last_write(part.accesses.as_slice());
+    let version = version_with(part, last);
+    let others = touched(alloc, indexes, part, version)?;
+    indexes.put_in(part, last, version)?;
     judgements.judge_reads(indexes, others.as_slice())?;
-    judgements.judge_reads(indexes, reads.as_slice())?;
-    judgements.judge_version(indexes, version_by(part))?;
+    judgements.judge_reads_in(indexes, part)?;
+    judgements.judge_version(indexes, version)?;
     Ok(())
 }
 
@@ -242,17 +244,17 @@ fn drop_out<J: Judge + Drop>(
     indexes: &Indexes,
     judgements: &mut Judgements<J>,
     part: &Part,
-    taken: &TakenOut,
+    taken: &[ReadWithOwn],
 ) -> Result<(), OutOfMemory>
-    requires reads { taken.now.reads.items ≡ reads_in part.now }
-    requires writes { taken.now.writes.items ≡ writes_of part.now }
+    requires { taken.now ≡ reads_in part.now }
     ensures { OnOk result ((R : OnKey) → AreIndexes R indexes.now
         → IsJudgedWithout J.rules part.now R indexes.now (found_by J.answers judgements.old) (found_by J.answers judgements.new)) }
 {
-    let others = touched(alloc, indexes, part, taken.writes.as_slice())?;
-    judgements.forget_reads(taken.reads.as_slice());
+    let version = version_by(part);
+    let others = touched(alloc, indexes, part, version)?;
+    judgements.forget_reads(taken);
     judgements.judge_reads(indexes, others.as_slice())?;
-    judgements.forget_version(indexes, version_by(part))?;
+    judgements.forget_version(indexes, version)?;
     Ok(())
 }
 
@@ -262,28 +264,43 @@ fn touched(
     alloc: Global,
     indexes: &Indexes,
     part: &Part,
-    writes: &[(Value, Write)],
+    version: Option<(Stamp, Version)>,
 ) -> Result<Vec<ReadWithOwn>, OutOfMemory>
-    ensures { IfOk result (λ reads. AreTouchedReads indexes.now part.now writes.now reads.items) }
+    requires { version ≡ version_by part.now }
+    ensures { IfOk result (λ reads. AreTouchedReads indexes.now part.now (writes_of part.now) reads.items) }
 {
     let mut reads = Vec::new(alloc);
-    for write in writes {
-        indexes.add_reads(&mut reads, Some(write.0), None)?;
+    for placed in part.accesses.as_slice() {
+        add_readers(indexes, &mut reads, placed.access.written())?;
     }
-    add_reads_before(indexes, part, &mut reads)?;
+    add_reads_before(indexes, version, &mut reads)?;
     Ok(reads)
 }
 
-/// Adds the reads of the version before the one that the transaction installs, by readers that started after its commit.
+/// Adds the reads that returned the value, if there is one.
+fn add_readers(
+    indexes: &Indexes,
+    reads: &mut Vec<ReadWithOwn>,
+    written: Option<Value>,
+) -> Result<(), OutOfMemory>
+    ensures { OnOk result (reads.new.items ≡ reads.old.items ++ readers_of indexes.now written) }
+{
+    match written {
+        Some(value) => indexes.add_reads(reads, Some(value), None),
+        None => Ok(()),
+    }
+}
+
+/// Adds the reads of the version before this one, if there is one, by readers that started after its commit.
 fn add_reads_before(
     indexes: &Indexes,
-    part: &Part,
+    version: Option<(Stamp, Version)>,
     reads: &mut Vec<ReadWithOwn>,
 ) -> Result<(), OutOfMemory>
-    ensures { OnOk result ((more : List (KeptRead × Option Value)) × AreReadsBefore indexes.now (version_by part.now) more
+    ensures { OnOk result ((more : List (KeptRead × Option Value)) × AreReadsBefore indexes.now version more
         × (reads.new.items ≡ reads.old.items ++ more)) }
 {
-    match version_by(part) {
+    match version {
         Some((commit, _)) => {
             let before = indexes.value_before(commit);
             indexes.add_reads(reads, before, Some(commit))

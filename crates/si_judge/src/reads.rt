@@ -103,7 +103,7 @@ fn reads_of(alloc: Global, part: &Part) -> Result<Vec<ReadWithOwn>, OutOfMemory>
 }
 
 /// The read, if the access is one, where the transaction's own value is `own`.
-fn read_at(part: &Part, own: Option<Value>, placed: Placed) -> Option<ReadWithOwn>
+pub fn read_at(part: &Part, own: Option<Value>, placed: Placed) -> Option<ReadWithOwn>
     requires { own ≡ own_value part.now placed.place }
     ensures { result ≡ read_at part.now placed }
 {
@@ -136,7 +136,7 @@ pub fn writes_of(alloc: Global, part: &Part) -> Result<Vec<(Value, Write)>, OutO
 }
 
 /// The write, if the access is one, of a transaction that writes `last` last.
-fn write_at(part: &Part, last: Option<Value>, placed: Placed) -> Option<(Value, Write)>
+pub fn write_at(part: &Part, last: Option<Value>, placed: Placed) -> Option<(Value, Write)>
     requires { last ≡ last_write part.now.accesses }
     ensures { result ≡ write_at part.now placed }
 {
@@ -167,8 +167,16 @@ fn fate_of(status: Status, last: Option<Value>, value: Value) -> Fate
 pub fn version_by(part: &Part) -> Option<(Stamp, Version)>
     ensures { result ≡ version_by part.now }
 {
+    version_with(part, last_write(part.accesses.as_slice()))
+}
+
+/// The same of a transaction that writes `last` last.
+pub fn version_with(part: &Part, last: Option<Value>) -> Option<(Stamp, Version)>
+    requires { last ≡ last_write part.now.accesses }
+    ensures { result ≡ version_by part.now }
+{
     let commit = part.status.commit()?;
-    let value = last_write(part.accesses.as_slice())?;
+    let value = last?;
     Some((
         commit,
         Version {

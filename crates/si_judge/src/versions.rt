@@ -2,18 +2,18 @@
 
 ghost use Rattle.std.specs.Prelude.{◌≡◌, [], ◌∷◌, ◌↔◌, IfOk, IsTrue, List, OnOk, ⊤};
 ghost use Rattle.std.specs.Option.{MatchOption};
-ghost use Rattle.si_timeline.specs.Timelines.{Adds, Dated, Has, IsNearestAfter, IsNearestBefore, Lacks};
+ghost use Rattle.si_timeline.specs.Timelines.{Adds, Dated, Has, IsNearestAfter, IsNearestBefore, IsOfValue, Lacks, ValuesRise};
 ghost use Rattle.si_timeline.specs.declared.versions.Version.{Version as Installed};
-ghost use Rattle.si_judge.specs.Commits.{AreCommitsOf, HaveValuesOnce, IsOfValue};
+ghost use Rattle.si_judge.specs.Commits.{AreCommitsOf, FitsRising, HaveValuesOnce, IsAboveEarlier, IsBelowLater};
 
 use si_model::{OutOfMemory, Stamp, Value};
 use si_sorted::SortedMap;
-use si_timeline::{Timeline, Version};
+use si_timeline::{Timeline, Version, of_rising};
 use std::alloc::Global;
 use std::marker::Model;
 
-/// Where there are more versions than this, an index leads from a value to the commit of its version. Among fewer ones it is looked for by
-/// a walk, which is about as fast, and they need no memory beside themselves.
+/// Where there are more versions than this, and their values don't rise with the commits, an index leads from a value to the commit of its
+/// version. Among fewer ones it is looked for by a walk, which is about as fast, and they need no memory beside themselves.
 const MOST_WALKED: usize = 64;
 
 /// From a value to the commit of its version.
@@ -26,20 +26,22 @@ type Commits = SortedMap<Value, Stamp>;
 pub struct Versions {
     alloc: Global,
     timeline: Timeline,
+    // Whether the values rise with the commits, as far as is known.
+    rising: bool,
     commits: Option<Box<Commits>>,
 }
 
 impl Model for Versions {
-    ghost use Rattle.std.specs.Prelude.{List, ⊤};
+    ghost use Rattle.std.specs.Prelude.{IsTrue, List, ⊤};
     ghost use Rattle.std.specs.Option.{MatchOption};
-    ghost use Rattle.si_timeline.specs.Timelines.{Dated};
+    ghost use Rattle.si_timeline.specs.Timelines.{Dated, ValuesRise};
     ghost use Rattle.si_judge.specs.Commits.{AreCommitsOf};
 
     ghost Value = { List Dated };
 
     ghost view = { λ s. s.timeline };
 
-    ghost invariant = { λ s. MatchOption s.commits ⊤ (λ b. AreCommitsOf s.timeline b.value) };
+    ghost invariant = { λ s. (IsTrue s.rising → ValuesRise s.timeline) × MatchOption s.commits ⊤ (λ b. AreCommitsOf s.timeline b.value) };
 }
 
 impl Versions {
@@ -50,6 +52,7 @@ impl Versions {
         Versions {
             alloc,
             timeline: Timeline::new(alloc),
+            rising: true,
             commits: None,
         }
     }
@@ -60,11 +63,52 @@ impl Versions {
         requires once { (more : List Dated) → Adds commit version self.old more → HaveValuesOnce more }
         ensures { OnOk result (Adds commit version self.old self.new) }
     {
+        let rises = self.keeps_rising(commit, version.value);
         // (while it is taken out, a walk finds what is looked for)
         let commits = self.commits.take();
         self.timeline.insert(commit, version)?;
-        self.commits = commits_with(self.alloc, commits, &self.timeline, commit, version.value)?;
+        self.rising = rises;
+        // (values that rise are searched where they stand side by side)
+        let is_wanted = !rises || self.timeline.as_flat().is_none();
+        self.commits = commits_with(
+            self.alloc,
+            commits,
+            &self.timeline,
+            is_wanted,
+            commit,
+            version.value,
+        )?;
         Ok(())
+    }
+
+    /// Whether the values are known to rise, and this one comes between those of the versions next to the commit.
+    fn keeps_rising(&self, commit: Stamp, value: Value) -> bool
+        ensures { IsTrue result → FitsRising self.now commit value }
+    {
+        if !self.rising {
+            return false;
+        }
+        self.is_above_former(commit, value) && self.is_below_next(commit, value)
+    }
+
+    /// Whether the version before the commit has a lesser value, if there is one.
+    fn is_above_former(&self, commit: Stamp, value: Value) -> bool
+        ensures { IsTrue result → ValuesRise self.now → IsAboveEarlier self.now commit value }
+    {
+        match self.timeline.before(commit) {
+            Some((_, former)) => former.value < value,
+            None => true,
+        }
+    }
+
+    /// Whether the version behind the commit has a greater value, if there is one.
+    fn is_below_next(&self, commit: Stamp, value: Value) -> bool
+        ensures { IsTrue result → ValuesRise self.now → IsBelowLater self.now commit value }
+    {
+        match self.timeline.after(commit) {
+            Some((_, next)) => value < next.value,
+            None => true,
+        }
     }
 
     /// Takes the version of that commit out.
@@ -76,6 +120,19 @@ impl Versions {
         let commits = self.commits.take();
         let version = self.timeline.remove(commit);
         self.commits = commits_without(commits, version.value);
+        self.index_tree();
+    }
+
+    /// Makes an index where values rise and don't stand side by side any more. Where memory is refused for it there is none.
+    fn index_tree(&mut self)
+        ensures { self.new ≡ self.old }
+    {
+        if self.commits.is_some() || !self.rising || self.timeline.as_flat().is_some() {
+            return;
+        }
+        if let Ok(made) = first_commits(self.alloc, &self.timeline) {
+            self.commits = made;
+        }
     }
 
     /// The version of the value, with its commit.
@@ -88,7 +145,10 @@ impl Versions {
                 let version = self.timeline.at(commit)?;
                 Some((commit, version))
             }
-            None => self.timeline.of_value(value),
+            None => match self.timeline.as_flat() {
+                Some(flat) if self.rising => of_rising(flat, value),
+                _ => self.timeline.of_value(value),
+            },
         }
     }
 
@@ -124,11 +184,12 @@ impl Versions {
     }
 }
 
-/// The index with the version that came to the timeline at the commit, or the first one once there are many versions.
+/// The index with the version that came to the timeline at the commit, or, if one is wanted, the first one once there are many versions.
 fn commits_with(
     alloc: Global,
     commits: Option<Box<Commits>>,
     timeline: &Timeline,
+    is_wanted: bool,
     commit: Stamp,
     value: Value,
 ) -> Result<Option<Box<Commits>>, OutOfMemory>
@@ -142,7 +203,8 @@ fn commits_with(
             commits.insert(value, commit)?;
             Ok(Some(commits))
         }
-        None => first_commits(alloc, timeline),
+        None if is_wanted => first_commits(alloc, timeline),
+        None => Ok(None),
     }
 }
 

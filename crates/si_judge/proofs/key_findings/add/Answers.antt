@@ -1,21 +1,24 @@
 use Rattle.std.proofs.Common.{◌∙◌, ◌+◌, IfSome, inr, length, refl, subst, sym}
 use Rattle.std.specs.List.{Contains}
 use Rattle.std.specs.BTreeMap.{get}
-use Rattle.si_judge.specs.Indexes.{AreTouchedReads, reads_in, version_by}
+use Rattle.si_judge.specs.Indexes.{reads_in, version_by}
 use Rattle.si_judge.specs.Mending.{AreReadsJudged, IsVersionJudged, RisesBy, read_cmp, stamp_cmp}
-use Rattle.si_judge.proofs.Coming.{version_stands}
+use Rattle.si_judge.proofs.Coming.{accesses_rise, version_stands}
 use Rattle.si_judge.proofs.Counts.{rises, rises_on}
 use Rattle.si_judge.proofs.key_findings.add.Goals as goal
 
-pub reads_in-requires : goal.reads_in-requires
-reads_in-requires g c = let fits = c.requires.2 in fits.2.places c.args.part.now ((fits.1.parts c.args.part.now).1 (inr refl))
+pub put_in-requires-clause-fits : goal.put_in-requires-clause-fits
+put_in-requires-clause-fits g c = c.requires
+
+pub judge_reads_in-requires : goal.judge_reads_in-requires
+judge_reads_in-requires g c = accesses_rise c.args.part.now c.requires.2
 
 pub judge_version-requires : goal.judge_version-requires
 judge_version-requires g c =
     let ix = c.put_in.new.self in
     let fits = c.requires.2 in
     let is = c.in_ok-put_in.ensures c.requires.0 fits.0 c.requires.1 fits.1 fits.2 in
-    subst (λ o. IfSome o (Contains ix.timeline)) (sym c.version_by.ensures) (version_stands ix c.args.part.now is ((fits.1.parts c.args.part.now).1 (inr refl)))
+    subst (λ o. IfSome o (Contains ix.timeline)) (sym c.version_with-version.ensures) (version_stands ix c.args.part.now is ((fits.1.parts c.args.part.now).1 (inr refl)))
 
 pub returns-clause-judged : goal.returns-clause-judged
 returns-clause-judged g c = λ R is.
@@ -25,21 +28,20 @@ returns-clause-judged g c = λ R is.
     let ix = c.put_in.new.self in
     let m0 = c.args.judgements.now in
     let m1 = c.judge_reads.new.self in
-    let m2 = c.judge_reads-2.new.self in
+    let m2 = c.judge_reads_in.new.self in
     let m3 = c.judge_version.new.self in
-    let own = c.as_slice-5.ensures.value ∙ c.in_ok-reads.ensures in
-    let overlaps = c.in_ok-judge_reads-2.ensures.overlaps ∙ c.in_ok-judge_reads.ensures.overlaps in
-    let first = subst (λ l. RisesBy (length l) (count m0.judge) (count m1.judge)) c.as_slice-4.ensures.value (rises (count m0.judge) (length c.as_slice-4.result.now) (count m1.judge) c.in_ok-judge_reads.ensures.counted) in
-    let second = subst (λ l. RisesBy (length l) (count m1.judge) (count m2.judge)) own (rises (count m1.judge) (length c.as_slice-5.result.now) (count m2.judge) c.in_ok-judge_reads-2.ensures.counted) in
+    let overlaps = c.in_ok-judge_reads_in.ensures.overlaps ∙ c.in_ok-judge_reads.ensures.overlaps in
+    let first = subst (λ l. RisesBy (length l) (count m0.judge) (count m1.judge)) c.as_slice-2.ensures.value (rises (count m0.judge) (length c.as_slice-2.result.now) (count m1.judge) c.in_ok-judge_reads.ensures.counted) in
+    let second = rises (count m1.judge) (length (reads_in T)) (count m2.judge) c.in_ok-judge_reads_in.ensures.counted in
     record {
       others = c.in_ok-others.others.items;
-      touched = subst (λ ws. AreTouchedReads c.args.indexes.now T ws c.in_ok-others.others.items) (c.as_slice.ensures.value ∙ c.in_ok-writes.ensures) c.in_ok-others.ensures;
+      touched = c.in_ok-others.ensures;
       middle = get read_cmp m1.reads;
-      others_judged = subst (λ l. AreReadsJudged J R ix l (get read_cmp m0.reads) (get read_cmp m1.reads)) c.as_slice-4.ensures.value (c.in_ok-judge_reads.ensures.reads R is);
+      others_judged = subst (λ l. AreReadsJudged J R ix l (get read_cmp m0.reads) (get read_cmp m1.reads)) c.as_slice-2.ensures.value (c.in_ok-judge_reads.ensures.reads R is);
       own_judged = subst (λ m. AreReadsJudged J R ix (reads_in T) (get read_cmp m1.reads) (get read_cmp m)) (sym c.in_ok-judge_version.ensures.reads)
-          (subst (λ l. AreReadsJudged J R ix l (get read_cmp m1.reads) (get read_cmp m2.reads)) own (c.in_ok-judge_reads-2.ensures.reads R is));
+          (c.in_ok-judge_reads_in.ensures.reads R is);
       version = subst (λ m. IsVersionJudged J R ix (version_by T) (get stamp_cmp m) (get stamp_cmp m3.overlaps)) overlaps
-          (subst (λ v. IsVersionJudged J R ix v (get stamp_cmp m2.overlaps) (get stamp_cmp m3.overlaps)) c.version_by.ensures (c.in_ok-judge_version.ensures.overlaps R is));
+          (subst (λ v. IsVersionJudged J R ix v (get stamp_cmp m2.overlaps) (get stamp_cmp m3.overlaps)) c.version_with-version.ensures (c.in_ok-judge_version.ensures.overlaps R is));
       counted = rises_on (length c.in_ok-others.others.items + length (reads_in T)) 2 (count m0.judge) (count m2.judge) (count m3.judge)
           (rises_on (length c.in_ok-others.others.items) (length (reads_in T)) (count m0.judge) (count m1.judge) (count m2.judge) first second) c.in_ok-judge_version.ensures.counted;
     }
