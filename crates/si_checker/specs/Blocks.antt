@@ -15,4 +15,4 @@ pub record IsPartOf (journal : List Edit) (block : BlockState) : Type 0 where
 -- they are no more than are copied at once
 pub record IsBlockOf (journal : List Edit) (block : BlockState) : Type 0 where
   pub part : IsPartOf journal block
-  pub most : length block.edits ≤ 64
+  pub most : length block.edits ≤ 1024

@@ -21,8 +21,9 @@ use std::alloc::Global;
 use std::marker::{Model, PhantomData};
 use std::snapshot::Snapshot;
 
-/// The most edits that are copied at once. Clauses name this number and the next one themselves, as bounds.
-pub const MOST_AT_ONCE: usize = 64;
+/// The most edits that are copied at once: a worker that takes few at a time comes to the book's lock more often, and the accepter waits
+/// for it there. Clauses name this number and the next one themselves, as bounds.
+pub const MOST_AT_ONCE: usize = 1024;
 
 /// The most blocks that are kept: a shard that is 16 blocks behind the one that is furthest finds its next edits still.
 const MOST_BLOCKS: usize = 16;
@@ -132,7 +133,7 @@ impl<N: Name> LockedBook<N> {
         ensures locked_book { self.new ≡ self.old }
         ensures edits { IfSome result (λ edits. edits ≡ take (length edits) (drop position (edits_of self.old.journal))) }
         ensures some { IfSome result (λ edits. 0 < length edits) }
-        ensures most { IfSome result (λ edits. length edits ≤ 64) }
+        ensures most { IfSome result (λ edits. length edits ≤ 1024) }
     {
         if let Some(copied) = self.kept_from(position) {
             return Some(copied);
@@ -194,7 +195,7 @@ impl<N: Name> LockedBook<N> {
     fn kept_from(&self, position: u64) -> Option<SharedEdits>
         ensures edits { IfSome result (λ edits. edits ≡ take (length edits) (drop position (edits_of self.now.journal))) }
         ensures some { IfSome result (λ edits. 0 < length edits) }
-        ensures most { IfSome result (λ edits. length edits ≤ 64) }
+        ensures most { IfSome result (λ edits. length edits ≤ 1024) }
     {
         for block in &self.blocks {
             if let Some(copied) = block.copied_from(position) {

@@ -9,18 +9,14 @@ use crate::gates::{Gate, Place};
 use crate::locked_shards::LockedShard;
 use crate::names::Name;
 use si_model::Number;
-use si_shard::{MOST_SHARDS, SharedEdits};
+use si_shard::SharedEdits;
 use si_words::Pass;
 use std::sync::Wait;
 use std::thread;
 use std::time::Duration;
 
 /// How long a worker rests once it has applied all that there was, in microseconds: what comes meanwhile is applied together.
-const REST_MICROS: u64 = 200;
-
-/// So long it rests for each shard that there is, where that is more: it takes as much to wake each of many workers as each of a few,
-/// but each has less to do then.
-const REST_MICROS_A_SHARD: u64 = 50;
+const REST_MICROS: u64 = 800;
 
 /// How long it rests at most, in microseconds. Each rest in which nothing came doubles the next one up to here.
 const MOST_REST_MICROS: u64 = 3_200;
@@ -138,7 +134,7 @@ impl<N: Name> Checker<N> {
             match self.work_on(rt, k, gate, &mut issued) {
                 Worked::Applied(position) => {
                     if position >= issued {
-                        self.rest(rt, self.least_rest());
+                        self.rest(rt, REST_MICROS);
                     }
                 }
                 Worked::Idle => self.wait_for_work(rt, k),
@@ -155,7 +151,7 @@ impl<N: Name> Checker<N> {
     fn wait_for_work<R: Wait>(&self, rt: &R, k: usize)
         requires { k < N.board.shards }
     {
-        let mut micros = self.least_rest();
+        let mut micros = REST_MICROS;
         for _ in rt.forever() {
             self.rest(rt, micros);
             if self.has_work(rt, k) {
@@ -163,11 +159,6 @@ impl<N: Name> Checker<N> {
             }
             micros = longer(micros);
         }
-    }
-
-    /// How long a worker rests first.
-    fn least_rest(&self) -> u64 {
-        REST_MICROS.max(REST_MICROS_A_SHARD * self.shards().min(MOST_SHARDS) as u64)
     }
 
     /// Sleeps so long, or until the checker was closed or a caller waits for the workers.

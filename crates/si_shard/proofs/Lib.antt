@@ -5,6 +5,7 @@ pub mod CountedArrivals
 pub mod KeyChanges
 pub mod Crossing
 pub mod EachKey
+pub mod EachFirst
 pub mod AppliedEach
 pub mod ShardFindings
 pub mod ShardsTogether

@@ -1,7 +1,8 @@
 -- What is kept of many keys, each changed by itself.
-use Rattle.std.proofs.Common.{◌≡◌, ◌≢◌, ◌∙◌, ◌↔◌, ℕ, Bool, true, false, cond, List, Option, Some, None, refl, sym, ap, subst, true≢false}
+use Rattle.std.proofs.Common.{◌≡◌, ◌≢◌, ◌∙◌, ◌↔◌, ℕ, Bool, true, false, cond, List, Option, Some, None, IfOk, Ok, Err, refl, sym, ap, subst, true≢false}
 use Rattle.std.specs.List.{Contains}
-use Rattle.std.specs.HashMap.{HashMap, get}
+use Rattle.std.specs.HashMap.{HashMap, Updates, get}
+use Rattle.std.specs.declared.result.Result.{Result}
 use Rattle.si_hashing.specs.declared.key_hashes.KeyHash.{KeyHash}
 use Rattle.std.specs.BTreeSet.{BTreeSet, contains, Updates as SetUpdates}
 use Rattle.std.specs.Ordering.{nat_cmp}
@@ -18,7 +19,7 @@ use Rattle.si_judge.proofs.Bare.{empty_bare, nothing_found}
 use Rattle.si_judge.proofs.Following.{nothing_of_history}
 use Rattle.si_shard.specs.declared.key_changes.Change.{Change}
 use Rattle.si_shard.specs.declared.key_states.KeyStates.{KeyStates}
-use Rattle.si_shard.specs.KeyChanges.{CanChange, changed_on}
+use Rattle.si_shard.specs.KeyChanges.{CanChange, IsChanged, changed_on}
 use Rattle.si_shard.specs.KeyStates.{HasFinding, IsChangedAt, IsChangedIn, IsLeft, IsMadeAt, IsOn, IsOnKey, IsToldAt, ShowsAt, StaysAt}
 
 -- ---- where nothing is kept
@@ -106,6 +107,23 @@ pub told_before : (x : List ℕ) (s : Kept) (Q : OnKey) (test had : Bool) → s.
 told_before x s Q test had key shows tells same =
     let told = subst (λ y. (test ≡ true) ↔ HasFinding y Q) key (tells Q shows) in
     ((λ e. told.0 (sym same ∙ e)), (λ h. same ∙ told.1 h))
+
+-- where a call succeeds
+pub where_ok : {A E : Type 0} (P R : A → Type 0) (r : Result A E) → IfOk r P → ((a : A) → P a → R a) → IfOk r R
+where_ok P R (Ok a) p then = then a p
+where_ok P R (Err e) p then = tt
+
+-- what was kept of a key was changed so
+pub changed_there : {S : Type 0} (x : List ℕ) (c : Change) (is_bare has_findings : Bool) (s new : Kept) (old_states new_states : HashMap (List ℕ) Kept S)
+    → get same_key old_states x ≡ Some s → s.key ≡ x → IsChanged c s new → IsLeft is_bare has_findings new → Updates same_key old_states new_states x (Some new)
+    → IsChangedIn x c is_bare has_findings old_states new_states
+changed_there x c is_bare has_findings s new old_states new_states there key made left states = record {
+  kept = new;
+  key = made.key ∙ key;
+  shows = λ Q on can. made.shows Q (subst (λ o. ShowsAt x o Q) there on).1 can;
+  left = left;
+  states = states;
+}
 
 -- what the calls of one change give: what is kept was changed, and it stayed or was dropped
 module _ (x : List ℕ) (c : Change) (old new : KeyStates) (is_bare has_findings : Bool)

@@ -1,6 +1,6 @@
 -- What an edit is on the keys of a shard, made on each of them by itself. All of it is this project's choice.
-use Rattle.std.specs.Prelude.{◌≡◌, ◌↔◌, ℕ, Option, Some, slice_get, true, List}
-use Rattle.std.specs.List.{Contains}
+use Rattle.std.specs.Prelude.{◌≡◌, ◌↔◌, ◌&&◌, ℕ, Bool, Option, Some, not, slice_get, true, List}
+use Rattle.std.specs.List.{Contains, list_any}
 use Rattle.std.specs.List.Sorted.{IsStrictlySortedBy}
 use Rattle.std.specs.declared.cmp.Ordering.{Ordering}
 use Rattle.std.specs.Ordering.{nat_cmp, ordering_then}
@@ -10,7 +10,7 @@ use Rattle.si_model.specs.declared.operations.Op.{Op}
 use Rattle.si_model.specs.declared.edits.Edit.{Edit}
 use Rattle.si_model.specs.declared.parts.OnKey.{OnKey}
 use Rattle.si_model.specs.KeyTexts.{shard_hash}
-use Rattle.si_model.specs.Operations.{key_of}
+use Rattle.si_model.specs.Operations.{key_of, same_key}
 use Rattle.si_shard.specs.declared.shard_ids.ShardId.{ShardId}
 use Rattle.si_shard.specs.declared.key_changes.Change.{Change}
 use Rattle.si_shard.specs.declared.key_states.KeyStates.{KeyStates}
@@ -27,6 +27,16 @@ CanBeMadeBy id t e ks = (x : List ℕ) (c : Change) → is_ours id x ≡ true �
 pub record IsMadeBy (id : ShardId) (t : Option TxnBefore) (e : Edit) (old new : KeyStates) : Type 0 where
   pub changed : (x : List ℕ) (c : Change) → is_ours id x ≡ true → IsChangeOn t e x c → IsMadeAt x c old new
   pub others : (x : List ℕ) → (is_ours id x ≡ true → (c : Change) → IsChangeOn t e x c → ⊥) → StaysAt x old new
+
+-- ---- the first operations on keys
+
+-- whether one of the operations is on the key
+abbrev pub is_accessed : List Op → List ℕ → Bool
+is_accessed ops x = list_any (λ p. same_key (key_of p) x) ops
+
+-- whether the key is one of the shard, and none of the operations before is on it
+abbrev pub is_first : ShardId → List Op → List ℕ → Bool
+is_first id before x = is_ours id x && not (is_accessed before x)
 
 -- ---- the operations in the order of their keys
 

@@ -58,17 +58,14 @@ pub fn change_by(head: TxnHead, edit: &Edit, accesses: Accesses) -> Change
 }
 
 /// Makes the change of one key.
-pub fn make_change(kept: &mut KeyFindings<Cases>, change: Change) -> Result<(), OutOfMemory>
-    requires { (Q : OnKey) × Shows cases Q kept.old × CanChange change Q }
-    ensures { OnOk result (IsChanged change kept.old kept.new) }
+pub fn make_change(kept: &mut KeyFindings<Cases>, change: &mut Change) -> Result<(), OutOfMemory>
+    requires { (Q : OnKey) × Shows cases Q kept.old × CanChange change.old Q }
+    ensures { OnOk result (IsChanged change.old kept.old kept.new) }
 {
     match change {
-        Change::Arrive(part) => kept.arrive(&part),
-        Change::Resolve(part, outcome) => {
-            let mut part = part;
-            kept.resolve(&mut part, outcome)
-        }
-        Change::Withdraw(part) => kept.withdraw(&part),
-        Change::SetUp(value) => kept.set_up(value),
+        Change::Arrive(part) => kept.arrive(part),
+        Change::Resolve(part, outcome) => kept.resolve(part, *outcome),
+        Change::Withdraw(part) => kept.withdraw(part),
+        Change::SetUp(value) => kept.set_up(*value),
     }
 }

@@ -3,11 +3,11 @@
 use super::*;
 use si_model::Txn;
 
-/// The turns of one worker: what was left for it, 64 edits at a time.
+/// The turns of one worker: what was left for it, 1,024 edits at a time.
 pub(super) fn turns<N: Name, R: Wait + Abort + AllocGlobal>(rt: &R, caller: &mut Caller<'_, N>) {
     are_same(rt, caller.work_one(rt, 0, &Open), Worked::Idle);
-    submit_seventy(rt, caller);
-    for wanted in [Worked::Applied(64), Worked::Applied(70), Worked::Idle] {
+    submit_many(rt, caller, 1030);
+    for wanted in [Worked::Applied(1024), Worked::Applied(1030), Worked::Idle] {
         are_same(rt, caller.work_one(rt, 0, &Open), wanted);
     }
     caller.close(rt);
@@ -21,15 +21,19 @@ pub(super) fn numbered(rt: &(impl Abort + AllocGlobal), id: u64) -> Edit {
     edit(rt, words.expect(rt, "memory").as_str())
 }
 
-fn submit_seventy<N: Name, R: Wait + Abort + AllocGlobal>(rt: &R, caller: &mut Caller<'_, N>) {
-    for id in 0..70 {
+fn submit_many<N: Name, R: Wait + Abort + AllocGlobal>(
+    rt: &R,
+    caller: &mut Caller<'_, N>,
+    count: u64,
+) {
+    for id in 0..count {
         caller.submits(rt, numbered(rt, id), id.saturating_add(1));
     }
 }
 
 #[test]
 fn one_worker_turns_by_turns(rt: HostRuntime) {
-    play(&rt, (1, 1, 100), Row::Alone(Alone::Turns));
+    play(&rt, (1, 1, 2000), Row::Alone(Alone::Turns));
 }
 
 /// Where nobody works, a caller that waits for workers returns, and what is left for them stays left.
@@ -38,7 +42,7 @@ pub(super) fn no_workers<N: Name, R: Wait + Abort + AllocGlobal>(
     caller: &mut Caller<'_, N>,
 ) {
     caller.await_workers(rt);
-    submit_seventy(rt, caller);
+    submit_many(rt, caller, 70);
     caller.await_workers(rt);
     are_same(rt, (caller.issued(), caller.watermark()), (70, 0));
     caller.look(rt, (70, 70, 0), "");

@@ -1,4 +1,4 @@
-use Rattle.std.proofs.Common.{◌≡◌, ◌∙◌, ◌+◌, ◌<◌, ◌≤◌, ap, arith, length, sym}
+use Rattle.std.proofs.Common.{◌∙◌, ◌+◌, ◌<◌, ◌≤◌, ap, arith, length, sym}
 use Rattle.si_shard.specs.Arrivals.{is_arrival_on}
 use Rattle.si_shard.proofs.CountedArrivals.{one_counted, one_passed}
 use Rattle.si_shard.proofs.arrivals.arrivals_between.Goals as goal

@@ -1,58 +1,52 @@
-use Rattle.std.proofs.Common.{rules, ◌≡◌, ◌∙◌, Some, None, subst}
+use Rattle.std.proofs.Common.{rules, ◌≡◌, ◌∙◌, ◌↔◌, ℕ, List, true, None, Some, slice_get, ap, subst, sym}
+use Rattle.std.proofs.lemmas.Option.{slice_get-map}
+use Rattle.std.specs.Option.{option_copied_mut, option_map}
+use Rattle.std.specs.Cmp.Lexicographic.{nat_list_eq_equiv}
 use Rattle.std.specs.HashMap.{get}
+use Rattle.indexmap.specs.IndexMap.{IndexMap, values}
+use Rattle.indexmap.proofs.CallerLemmas.{updates-with_value_at}
 use Rattle.si_model.specs.Operations.{same_key}
-use Rattle.si_shard.specs.KeyChanges.{IsChanged}
-use Rattle.si_shard.specs.KeyStates.{ShowsAt}
-use Rattle.si_shard.proofs.OnKeys.{told_before}
+use Rattle.si_lists.proofs.Members.{same_some}
+use Rattle.si_judge.specs.Kept.{Kept}
+use Rattle.si_shard.specs.KeyStates.{HasFinding, ShowsAt}
+use Rattle.si_shard.proofs.OnKeys.{changed_there, where_ok}
 use Rattle.si_shard.proofs.key_states.change_in.Goals as goal
 
-pub make_change-requires : goal.make_change-requires
-make_change-requires c =
-    let there : get same_key c.args.states.now c.args.key.now ≡ Some c.in-Some.kept.now = search rules in
-    let shown = subst (λ o. ShowsAt c.args.key.now o c.requires.0) there c.requires.1 in
-    (c.requires.0, shown.1, c.requires.2)
+-- what is kept at a place is what the entry there keeps
+there_kept : {S : Type 0} (x : List ℕ) (m : IndexMap (List ℕ) Kept S) (i : ℕ) (s t : Kept) → slice_get m.entries i ≡ Some (x, s) → Some t ≡ slice_get (values m) i → s ≡ t
+there_kept x m i s t at is = same_some (sym (is ∙ slice_get-map (λ (e : List ℕ × Kept). e.1) m.entries i ∙ ap (option_map (λ (e : List ℕ × Kept). e.1)) at))
 
-pub returns-in-Some-clause-changed : goal.returns-in-Some-clause-changed
-returns-in-Some-clause-changed c =
-    let there : get same_key c.args.states.now c.args.key.now ≡ Some c.in-Some.kept.now = search rules in
-    let made = c.in_ok-make_change.ensures in
-    let shown = subst (λ o. ShowsAt c.args.key.now o c.requires.0) there c.requires.1 in
-    record {
-      kept = c.make_change.new.kept;
-      key = made.key ∙ shown.0;
-      shows = λ Q on can. made.shows Q (subst (λ o. ShowsAt c.args.key.now o Q) there on).1 can;
-      left = c.left_on.ensures.left;
-      states = search rules;
-    }
+pub returns-then-is_at-clause-changed : goal.returns-then-is_at-clause-changed
+returns-then-is_at-clause-changed c =
+    let x = c.args.key.now in
+    let m = c.args.states.now in
+    let k = c.is_at.ensures c.if-is_at.true in
+    let s = c.unwrap-kept.result.now in
+    let same = there_kept x m c.args.near k.0 s k.1 (ap option_copied_mut (sym c.unwrap-kept.ensures) ∙ c.get_index_mut.ensures.value) in
+    let there = k.2 ∙ ap Some same in
+    let shown = subst (λ o. ShowsAt x o c.requires.0) there c.requires.1 in
+    where_ok _ _ c.change_of.result c.change_of.ensures.changed (λ left made.
+    changed_there x c.args.change.now left.is_bare left.has_findings s c.change_of.new.kept m _ there shown.0 made.0 made.1
+    (updates-with_value_at m c.args.near c.change_of.new.kept nat_list_eq_equiv c.get_index_mut.ensures.unique x s (k.1 ∙ ap (λ t. Some (x, t)) same)))
 
-pub make_change-requires-2 : goal.make_change-requires-2
-make_change-requires-2 c =
-    let none : get same_key c.args.states.now c.args.key.now ≡ None = search rules in
-    let bare = subst (λ o. ShowsAt c.args.key.now o c.requires.0) none c.requires.1 in
-    (c.requires.0, c.new-kept.ensures.shows c.requires.0 bare.0 bare.1, c.requires.2)
-
-pub returns-in_ok-insert-in-Ok-clause-changed : goal.returns-in_ok-insert-in-Ok-clause-changed
-returns-in_ok-insert-in-Ok-clause-changed c =
-    let none : get same_key c.args.states.now c.args.key.now ≡ None = search rules in
-    let made : IsChanged c.args.change c.new-kept.result c.make_change-2.new.kept = search rules in
-    record {
-      kept = c.make_change-2.new.kept;
-      key = search rules;
-      shows = λ Q on can. (let bare = subst (λ o. ShowsAt c.args.key.now o Q) none on in made.shows Q (c.new-kept.ensures.shows Q bare.0 bare.1) can);
-      left = c.left_on-left.ensures.left;
-      states = search rules;
-    }
+pub returns-then-is_at-clause-had : goal.returns-then-is_at-clause-had
+returns-then-is_at-clause-had c =
+    let x = c.args.key.now in
+    let m = c.args.states.now in
+    let k = c.is_at.ensures c.if-is_at.true in
+    let s = c.unwrap-kept.result.now in
+    let there = k.2 ∙ ap Some (there_kept x m c.args.near k.0 s k.1 (ap option_copied_mut (sym c.unwrap-kept.ensures) ∙ c.get_index_mut.ensures.value)) in
+    where_ok _ _ c.change_of.result c.change_of.ensures.had (λ left had Q on. let shown = subst (λ o. ShowsAt x o Q) there on in subst (λ y. (left.had_findings ≡ true) ↔ HasFinding y Q) shown.0 (had Q shown.1))
 
 pub returns-in-Some-clause-had : goal.returns-in-Some-clause-had
-returns-in-Some-clause-had c = λ Q on.
-    let there : get same_key c.args.states.now c.args.key.now ≡ Some c.in-Some.kept.now = search rules in
-    let shown = subst (λ o. ShowsAt c.args.key.now o Q) there on in
-    told_before c.args.key.now c.in-Some.kept.now Q c.has_findings-had_findings.result c.left_on.result.had_findings shown.0 shown.1 c.has_findings-had_findings.ensures c.left_on.ensures.had
+returns-in-Some-clause-had c =
+    let x = c.args.key.now in
+    let s = c.in-Some.kept.now in
+    let there : get same_key c.args.states.now x ≡ Some s = search rules in
+    where_ok _ _ c.change_of-in-Some.result c.change_of-in-Some.ensures.had (λ left had Q on. let shown = subst (λ o. ShowsAt x o Q) there on in subst (λ y. (left.had_findings ≡ true) ↔ HasFinding y Q) shown.0 (had Q shown.1))
 
-pub returns-in_ok-insert-in-Ok-clause-had : goal.returns-in_ok-insert-in-Ok-clause-had
-returns-in_ok-insert-in-Ok-clause-had c = λ Q on.
-    let none : get same_key c.args.states.now c.args.key.now ≡ None = search rules in
-    let bare = subst (λ o. ShowsAt c.args.key.now o Q) none on in
-    let key : c.new-kept.result.key ≡ c.args.key.now = search rules in
-    told_before c.args.key.now c.new-kept.result Q c.has_findings-had_findings-2.result c.left_on-left.result.had_findings key (c.new-kept.ensures.shows Q bare.0 bare.1)
-    c.has_findings-had_findings-2.ensures c.left_on-left.ensures.had
+pub returns-clause-had : goal.returns-clause-had
+returns-clause-had c =
+    let x = c.args.key.now in
+    let none : get same_key c.args.states.now x ≡ None = search rules in
+    where_ok _ _ c.begin_by.result c.begin_by.ensures.had (λ left had Q on. had Q (subst (λ o. ShowsAt x o Q) none on))

@@ -14,10 +14,10 @@ keep_found-requires c =
 pub returns-then-left : goal.returns-then-left
 returns-then-left c =
     let left = c.in_ok-left.left in
-    changed_dropped c.args.key.now c.args.change c.args.self.now _ left.is_bare left.has_findings c.in_ok-keep_found.ensures c.change_in.new.states c.in_ok-left.ensures.changed c.if-left.true
-    c.swap_remove.ensures.updates.0
+    changed_dropped c.args.key.now c.args.change.now c.args.self.now _ left.is_bare left.has_findings c.in_ok-keep_found.ensures c.change_in.new.states c.in_ok-left.ensures.changed c.if-left.true
+    c.forget.ensures.0
 
 pub returns-else-left : goal.returns-else-left
 returns-else-left c =
     let left = c.in_ok-left.left in
-    changed_kept c.args.key.now c.args.change c.args.self.now _ left.is_bare left.has_findings c.in_ok-keep_found.ensures c.in_ok-left.ensures.changed c.if-left.false
+    changed_kept c.args.key.now c.args.change.now c.args.self.now _ left.is_bare left.has_findings c.in_ok-keep_found.ensures c.in_ok-left.ensures.changed c.if-left.false

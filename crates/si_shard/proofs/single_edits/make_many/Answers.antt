@@ -10,8 +10,8 @@ use Rattle.si_shard.specs.KeyChanges.{CanChange}
 use Rattle.si_shard.specs.KeyStates.{IsChangedAt, IsOn}
 use Rattle.si_shard.specs.SingleEdits.{AreHashed, IsKeyAt, KeyPlace}
 use Rattle.si_shard.proofs.EachKey.{AreMade, can_access, can_make_here, made_all, made_on, made_past, none_made, placed}
-use Rattle.si_shard.proofs.single_edits.make_accessed.Goals as goal
-use Rattle.si_shard.proofs.single_edits.make_accessed.Goals.{then-not-is_at+in_ok-change, else-not-is_at}
+use Rattle.si_shard.proofs.single_edits.make_many.Goals as goal
+use Rattle.si_shard.proofs.single_edits.make_many.Goals.{then-not-is_at+in_ok-make_here, else-not-is_at}
 
 -- an element that was read from a list whose slice has that length
 at_index : (list whole : List KeyPlace) (n i : ℕ) (d : KeyPlace) → whole ≡ list → length whole ≡ n → i < n → d ≡ slice_index_or list i d → slice_get list i ≡ Some d
@@ -36,8 +36,8 @@ access_at-requires c =
     let at = at_index list c.deref.result.now c.len-index-end.result c.loop-index.index d c.deref.ensures.value (c.deref.ensures.len ∙ sym c.len-index-end.ensures) c.loop-index-test.true c.index.ensures in
     slice_get_within c.args.ops.now d.2 _ (placed c.args.id c.args.ops.now c.args.head c.args.edit.now list w.0 c.loop-index.index d at).at
 
-pub change-requires : goal.change-requires
-change-requires c =
+pub make_here-requires : goal.make_here-requires
+make_here-requires c =
     let id = c.args.id in
     let ops = c.args.ops.now in
     let h = c.args.head in
@@ -50,7 +50,7 @@ change-requires c =
     let at = at_index list c.deref.result.now c.len-index-end.result i d c.deref.ensures.value (c.deref.ensures.len ∙ sym c.len-index-end.ensures) c.loop-index-test.true c.index.ensures in
     let all = pushed c.push.new.self c.replace-all.result c.loop-index.accesses d.2 c.access_at.result p c.replace-all.ensures.value c.in_ok-push.ensures.ok c.access_at.ensures.2 in
     let last : IsKeyAt list (i + 1) d.1.now → ⊥ = λ k. (let yes : c.is_at.result ≡ true = c.is_at.ensures.1 (subst (λ l. IsKeyAt l (i + 1) d.1.now) (sym c.deref-in-loop-index.ensures.value) k) in let no = c.if-not-is_at.true in cc) in
-    subst (λ g. (Q : OnKey) × IsOn c.loop-index.keys d.1.now Q × CanChange g Q) (sym (c.change_by.ensures ∙ ap (change_by h e) all))
+    subst (λ g. (Q : OnKey) × IsOn c.loop-index.keys d.1.now Q × CanChange g Q) (sym (ap (change_by h e) all))
     (can_make_here id ops h e list w.0 i d at p c.access_at.ensures.1 c.loop-index.accesses c.args.keys.now c.loop-index.keys w.1 last (can_access id ops h e c.args.keys.now c.requires.other c.requires.can))
 
 pub loop-index-preserved : goal.loop-index-preserved
@@ -70,14 +70,14 @@ loop-index-preserved c =
     let at = at_index list c.deref.result.now c.len-index-end.result i d c.deref.ensures.value (c.deref.ensures.len ∙ sym c.len-index-end.ensures) c.loop-index-test.true c.index.ensures in
     let key_at = ap (λ l. IsKeyAt l (i + 1) d.1.now) c.deref-in-loop-index.ensures.value in
     elim c.if-not-is_at.branch [
-      | then-not-is_at+in_ok-change x ↦
+      | then-not-is_at+in_ok-make_here x ↦
           let all = pushed c.push.new.self x.replace-all.result hand d.2 c.access_at.result p x.replace-all.ensures.value c.in_ok-push.ensures.ok c.access_at.ensures.2 in
           let last : IsKeyAt list (i + 1) d.1.now → ⊥ = λ k. (let yes : c.is_at.result ≡ true = c.is_at.ensures.1 (subst (λ l. IsKeyAt l (i + 1) d.1.now) (sym c.deref-in-loop-index.ensures.value) k) in let no = x.if-not-is_at.true in cc) in (
             w.0,
             subst (λ ys. AreMade id ops h e list w.0 (i + 1) ys old c.if-not-is_at.keys) (sym (x.accesses-is ∙ x.replace-all.ensures.after ∙ x.new.ensures))
                 (subst (AreMade id ops h e list w.0 (i + 1) [] old) (sym x.keys-is)
-                (made_on id ops h e list w.0 i d at p c.access_at.ensures.1 hand old mid w.1 last x.change.new.self
-                (subst (λ g. IsChangedAt d.1.now g mid x.change.new.self) (x.change_by.ensures ∙ ap (change_by h e) all) x.in_ok-change.ensures))),
+                (made_on id ops h e list w.0 i d at p c.access_at.ensures.1 hand old mid w.1 last x.make_here.new.keys
+                (subst (λ g. IsChangedAt d.1.now g mid x.make_here.new.keys) (ap (change_by h e) all) x.in_ok-make_here.ensures))),
           )
       | else-not-is_at x ↦
           let next : IsKeyAt list (i + 1) d.1.now = subst (λ l. IsKeyAt l (i + 1) d.1.now) c.deref-in-loop-index.ensures.value (c.is_at.ensures.0 (let yes = x.if-not-is_at.false in cc)) in

@@ -1,0 +1,24 @@
+use Rattle.std.proofs.Common.{rules, ◌≡◌, ◌↔◌, true, subst}
+use Rattle.si_shard.specs.KeyChanges.{IsChanged}
+use Rattle.si_shard.specs.KeyStates.{HasFinding, IsLeft, ShowsAt}
+use Rattle.si_shard.proofs.key_states.begin_by.Goals as goal
+
+pub change_of-requires : goal.change_of-requires
+change_of-requires c = let can = c.requires.can in (can.0, c.new-kept.ensures.shows can.0 can.1.0 can.1.1, can.2)
+
+pub returns-in_ok-insert-in-Ok-clause-changed : goal.returns-in_ok-insert-in-Ok-clause-changed
+returns-in_ok-insert-in-Ok-clause-changed c =
+    let left = c.in-Ok.left in
+    let made : IsChanged c.args.change.now c.new-kept.result c.change_of.new.kept × IsLeft left.is_bare left.has_findings c.change_of.new.kept = c.in-Ok.ensures.changed in
+    record {
+      kept = c.change_of.new.kept;
+      key = search rules;
+      shows = λ Q on can. (let bare = subst (λ o. ShowsAt c.args.key.now o Q) c.requires.none on in made.0.shows Q (c.new-kept.ensures.shows Q bare.0 bare.1) can);
+      left = made.1;
+      states = search rules;
+    }
+
+pub returns-in_ok-insert-in-Ok-clause-had : goal.returns-in_ok-insert-in-Ok-clause-had
+returns-in_ok-insert-in-Ok-clause-had c = λ Q bare.
+    let key : c.new-kept.result.key ≡ c.args.key.now = search rules in
+    subst (λ y. (c.in-Ok.left.had_findings ≡ true) ↔ HasFinding y Q) key (c.in-Ok.ensures.had Q (c.new-kept.ensures.shows Q bare.0 bare.1))
