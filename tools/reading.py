@@ -61,6 +61,11 @@ def at_name(name):
     return crate, file, own
 
 
+def closed_in(text):
+    """Returns the definitions at which a page stops."""
+    return [at_name(it) for it in re.findall(r"\[(?:closed|named) ([\w.-]+)\]", text)]
+
+
 def examples_of(path):
     """Returns the example of each definition by CRATE.FILE.NAME."""
     rows = [it for it in text_of(path).split("\n") if it.strip() and not it.startswith("#")]
@@ -258,7 +263,7 @@ class Reading:
 
     def on_trust(self):
         """Returns what docs/TRUST.md has whole, nothing before what it names, and the definitions at which it stops."""
-        closed = [at_name(it) for it in re.findall(r"\[closed ([\w.-]+)\]", text_of(TRUST))]
+        closed = closed_in(text_of(TRUST))
         premises = {it for path, function in HEADLINE for it in Contract(path, function).named(premises=True) if it[0] != "type"}
         roots = self.roots(STATUS)[0] + sorted(premises & set(self.places), key=self.order)
         return self.bottom_up(roots, closed), closed
@@ -325,6 +330,15 @@ class Contract:
             if not (premises and kind.startswith("ensures")) and (not names or own in names)
             for it in reached
         }
+
+
+def premises_text():
+    """Returns what the headline's contracts ask of a caller, each premise once."""
+    asked = {}
+    for path, function in HEADLINE:
+        for said in Contract(path, function).printed("requires") or ["requires nothing"]:
+            asked.setdefault(said, []).append(function)
+    return "```text\n" + "\n".join(f"{', '.join(functions)} {said}" for said, functions in asked.items()) + "\n```"
 
 
 def clauses(text):

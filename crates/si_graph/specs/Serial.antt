@@ -59,15 +59,15 @@ pub record IsLeft (P : Present) (c : Stamp) (x : List ℕ) (v : Value) : Type 0 
 abbrev pub IsUntouched : Present → Stamp → List ℕ → Type 0
 IsUntouched P c x = (U : Txn) (d : Stamp) → CommitsWrite P U d x → d.0 < c.0 → ⊥
 
--- what x holds when the transaction that commits at c comes: what was left there last, or else what it was set up with, if it was
+-- what x holds at the stamp c: what was left there last, or else what it was set up with, if it was
 abbrev pub Holds : Present → Stamp → List ℕ → Option Value → Type 0
 Holds P c x v = ((w : Value) × (v ≡ Some w) × IsLeft P c x w) ⊎ (IsUntouched P c x × (v ≡ set_up_value x P.initial))
 
--- what the run gives to the read of x that is the operation i of T, which commits at c: what T wrote last to x before, if it did,
--- and else what x holds when T comes
+-- what the read of x that is the operation i of T is given, seen from the stamp c: what T wrote last to x before, if it did, and else
+-- what x holds at c
 abbrev pub Gives : Present → Txn → Stamp → ℕ → List ℕ → Option Value → Type 0
 Gives P T c i x v = ((w : Value) × (v ≡ Some w) × IsLastBefore T i x w) ⊎ (((w : Value) → IsLastBefore T i x w → ⊥) × Holds P c x v)
 
--- each read of a committed transaction returned what the run gives it
+-- each read of a committed transaction returned what the run gives it, which is seen from its commit stamp
 abbrev pub IsSerial : Present → Type 0
 IsSerial P = (T : Txn) (c : Stamp) (i : ℕ) (x : List ℕ) (v : Option Value) → Commits P T c → ReadsAt T i x v → Gives P T c i x v
