@@ -1,4 +1,4 @@
-"""The commands of the package: `python3 -m sicheck json|count|explain|page|number|in-commit-order|seal`."""
+"""The commands of the package: `python3 -m sicheck json|count|explain|page|number|in-commit-order|seal|shrink`."""
 import argparse
 import gc
 import os
@@ -6,6 +6,7 @@ import signal
 import sys
 from typing import Iterable, Iterator, List
 
+from .answers import KINDS, AnswerFault
 from .faults import CheckFailed, LogError
 from .places import Files
 from .reports import last_report_in
@@ -46,6 +47,13 @@ def parser() -> argparse.ArgumentParser:
     ordered = commands.add_parser("in-commit-order", help="a log of snapshots as one in commit order",
                                   description="Turns a finished log of snapshots, of the files or of standard input, into one in commit order.")
     ordered.add_argument("logs", metavar="LOG", nargs="*", help="the files of the log")
+    less = commands.add_parser("shrink", help="a least log that shows a violation of the same kind on the same key",
+                               description="Writes a log with the first violation that the program finds in LOG, or the first one of that kind and "
+                                           "key, of which no transaction and no operation can be left out, by the program's own answers. A "
+                                           "transaction that was resolved stands there as it became.")
+    less.add_argument("log", metavar="LOG", help="the file of the log")
+    less.add_argument("--kind", choices=sorted(set(KINDS.values()) - {"unknown", "doubt"}), help="the kind of the violation")
+    less.add_argument("--key", help="its key")
     sealed = commands.add_parser("seal", help="judges a history without stamps: Jepsen's and Elle's, or a log whose lines have none",
                                  description="Looks for stamps under which the history is clean, and has the program judge it by them. It reads "
                                              "EDN (list-append, rw-register), and logs without `start` and `commit`. The status is 20 where no "
@@ -153,13 +161,16 @@ def main(words: List[str]) -> int:
             print_all(counts(chosen.kinds))
         elif chosen.command == "explain":
             explain(chosen.answer, chosen.log, Stamps(chosen.stamps))
+        elif chosen.command == "shrink":
+            from .shrinking import shrunk
+            print_all(list(shrunk(chosen.log, chosen.kind, chosen.key)))
         elif chosen.command == "seal":
             return seal(chosen)
         elif chosen.command == "number":
             return number(chosen.raw, Stamps(chosen.stamps))
         else:
             in_order(chosen.logs)
-    except (CheckFailed, LogError, OSError) as fault:
+    except (AnswerFault, CheckFailed, LogError, OSError) as fault:
         what = f"cannot read {fault.filename}: {fault.strerror}" if isinstance(fault, OSError) and fault.filename else str(fault)
         sys.stderr.write(f"sicheck {chosen.command}: {what}\n")
         return 2
