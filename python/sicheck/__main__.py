@@ -1,4 +1,4 @@
-"""The commands of the package: `python3 -m sicheck json|count|explain|page|number|in-commit-order`."""
+"""The commands of the package: `python3 -m sicheck json|count|explain|page|number|in-commit-order|seal|shrink`."""
 import argparse
 import gc
 import os
@@ -6,6 +6,7 @@ import signal
 import sys
 from typing import Iterable, Iterator, List
 
+from .answers import KINDS, AnswerFault
 from .faults import CheckFailed, LogError
 from .places import Files
 from .reports import last_report_in
@@ -46,6 +47,21 @@ def parser() -> argparse.ArgumentParser:
     ordered = commands.add_parser("in-commit-order", help="a log of snapshots as one in commit order",
                                   description="Turns a finished log of snapshots, of the files or of standard input, into one in commit order.")
     ordered.add_argument("logs", metavar="LOG", nargs="*", help="the files of the log")
+    less = commands.add_parser("shrink", help="a least log that shows a violation of the same kind on the same key",
+                               description="Writes a log with the first violation that the program finds in LOG, or the first one of that kind and "
+                                           "key, of which no transaction and no operation can be left out, by the program's own answers. A "
+                                           "transaction that was resolved stands there as it became.")
+    less.add_argument("log", metavar="LOG", help="the file of the log")
+    less.add_argument("--kind", choices=sorted(set(KINDS.values()) - {"unknown", "doubt"}), help="the kind of the violation")
+    less.add_argument("--key", help="its key")
+    sealed = commands.add_parser("seal", help="judges a history without stamps: Jepsen's and Elle's, or a log whose lines have none",
+                                 description="Looks for stamps under which the history is clean, and has the program judge it by them. It reads "
+                                             "EDN (list-append, rw-register), and logs without `start` and `commit`. The status is 20 where no "
+                                             "stamps could make it clean, 10 where that isn't known.")
+    sealed.add_argument("history", metavar="HISTORY", help="the file of the history, or - for standard input")
+    sealed.add_argument("--log", metavar="OUT", help="keeps the log with its stamps there")
+    sealed.add_argument("--sessions", action="store_true", help="each process sees what it committed before")
+    sealed.add_argument("--real-time", action="store_true", help="each transaction sees what was answered before it was sent")
     return words
 
 
@@ -118,8 +134,18 @@ def in_order(names: List[str]) -> None:
     sys.stdout.flush()
 
 
+def seal(chosen: argparse.Namespace) -> int:
+    """Judges a history without stamps."""
+    from .sealing import seal as judge
+    gc.disable()  # what is read is kept to the end, and has no circles
+    sys.stdout.reconfigure(encoding="utf-8", newline="\n")  # type: ignore[union-attr]
+    status = judge(chosen.history, chosen.log, chosen.sessions, chosen.real_time, sys.stdout.write)
+    sys.stdout.flush()
+    return status
+
+
 def main(words: List[str]) -> int:
-    """Does what the words ask for, and returns the status: 0, or 2 where it couldn't be done; `page` and `number` have others too."""
+    """Does what the words ask for, and returns the status: 0, or 2 where it couldn't be done; `page`, `number` and `seal` have others too."""
     if words[:1] == ["page"]:
         from .page.command import main as page
         page(words[1:], f"{NAME} page")
@@ -135,11 +161,16 @@ def main(words: List[str]) -> int:
             print_all(counts(chosen.kinds))
         elif chosen.command == "explain":
             explain(chosen.answer, chosen.log, Stamps(chosen.stamps))
+        elif chosen.command == "shrink":
+            from .shrinking import shrunk
+            print_all(list(shrunk(chosen.log, chosen.kind, chosen.key)))
+        elif chosen.command == "seal":
+            return seal(chosen)
         elif chosen.command == "number":
             return number(chosen.raw, Stamps(chosen.stamps))
         else:
             in_order(chosen.logs)
-    except (CheckFailed, LogError, OSError) as fault:
+    except (AnswerFault, CheckFailed, LogError, OSError) as fault:
         what = f"cannot read {fault.filename}: {fault.strerror}" if isinstance(fault, OSError) and fault.filename else str(fault)
         sys.stderr.write(f"sicheck {chosen.command}: {what}\n")
         return 2

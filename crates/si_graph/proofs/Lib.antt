@@ -16,5 +16,6 @@ pub mod SerialRuns
 pub mod SortedRuns
 pub mod SerialFindings
 pub mod SnapshotFindings
+pub mod UnstampedFindings
 pub mod VersionOrders
 pub mod CommitChains

@@ -11,5 +11,7 @@ pub mod Serializability
 pub mod SerialLaws
 pub mod Snapshots
 pub mod SnapshotLaws
+pub mod Unstamped
+pub mod UnstampedLaws
 pub mod VersionOrders
 pub mod EvidenceTests

@@ -5,6 +5,7 @@ ghost use Rattle.si_graph.specs.Emptiness.{AbortedReadsAreFound, CircularFlowInt
 ghost use Rattle.si_graph.specs.Laws.{CircularWalksHaveCycles, MissedWalksHaveCycles, ShownIsThere, NothingIsShown, ExplainedIsShown, ModelLaws};
 ghost use Rattle.si_graph.specs.SerialLaws.{SerialReadsAreClean, SerialIsClean, RunsAreSerial, CleanIsARun, NoneOverlaps, FutureIsLater, CleanIsSerializable};
 ghost use Rattle.si_graph.specs.SnapshotLaws.{AlarmsAreTrue, SnapshotReadsAreClean, ApartIsClean, SnapshotsAreClean, SnapshotsAreExact};
+ghost use Rattle.si_graph.specs.UnstampedLaws.{NoStampsMendForks, NoStampsMendKnots};
 ghost use Rattle.si_graph.specs.VersionOrders.{AnyVersionOrder, CommitOrderIsOurs, PassingOrdersAreByCommits};
 
 use si_model::laws::{
@@ -167,6 +168,20 @@ pub fn snapshots_are_exact()
 /// Each finding of a history tells a read that isn't what its snapshot gives it, or two writers of one key that overlap.
 pub fn alarms_are_true()
     ensures { AlarmsAreTrue }
+{
+    model_laws();
+}
+
+/// Where two committed transactions each read one version of a key before they wrote it, the history has a finding whatever its stamps are.
+pub fn no_stamps_mend_forks()
+    ensures { NoStampsMendForks }
+{
+    model_laws();
+}
+
+/// So it has where wr edges, and rw edges whose writers read what they replaced, lead round in a circle without two rw edges side by side.
+pub fn no_stamps_mend_knots()
+    ensures { NoStampsMendKnots }
 {
     model_laws();
 }
