@@ -15,6 +15,7 @@ from .numbering import client_of
 READ, WRITE, APPEND = "r", "w", "append"
 NEVER = -1
 WITHDRAWN = "withdrawn"
+MOST_LINES = 8
 
 
 class Operation(NamedTuple):
@@ -47,9 +48,9 @@ class Lists:
         self.lines: List[List[Any]] = [[]]
 
     def place_of(self, elements: List[Any]) -> Tuple[int, int]:
-        """Where the list stands: in the longest line that it begins or goes on, else in one of its own."""
-        length = len(elements)
-        for number in range(len(self.lines) - 1, -1, -1):
+        """Where the list stands: in a line that it begins or goes on, of the first and the last few, else in one of its own."""
+        length, last = len(elements), len(self.lines) - 1
+        for number in dict.fromkeys([*range(last, max(last - MOST_LINES, -1), -1), *range(min(last + 1, MOST_LINES))]):
             line = self.lines[number]
             if length <= len(line):
                 if line[:length] == elements:
@@ -362,4 +363,5 @@ def check_kind(history: History) -> None:
             if op.kind == WRITE or (op.kind == READ and op.value is not None and not isinstance(op.value, tuple)):
                 raise history.fault(txn.form, f"the key {history.keys[op.key]} is a list in one place and a register in another")
             if op.kind == READ and op.value is None:
+                history.lists.setdefault(op.key, Lists())
                 txn.ops[place] = op._replace(value=(0, 0))

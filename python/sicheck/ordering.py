@@ -10,7 +10,7 @@ from typing import Any, Deque, Dict, Iterable, List, NamedTuple, Optional, Tuple
 
 INITIAL, OTHER = -1, -2  # versions that no committed transaction installed: the first one, and what isn't to be read at all
 MOST_ROUNDS = 2_000
-MOST_EVENTS = 100_000_000  # of all rounds together
+MOST_EVENTS = 10_000_000  # of all rounds together
 MOST_BEGINNINGS = 64  # from so many events a short circle is looked for
 
 Pair = Tuple[int, int, int]  # on this key this segment comes before that one

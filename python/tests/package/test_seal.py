@@ -265,6 +265,13 @@ class Forms(unittest.TestCase):
                           (3, "indoubt", [["w", "1", (1 << 62) + 1]])])
         self.assertEqual(status_of(lines)[0], 10)
 
+    def test_an_empty_list_is_nil_too(self):
+        lines = [line("ok", 0, [("r", 1, None), ("append", 2, 1)], 0), line("info", 1, [("append", 1, 1)], 1), line("ok", 2, [("r", 1, []), ("r", 2, [1])], 2)]
+        told, log, _ = sealed(lines)
+        self.assertEqual([json.loads(it)["ops"] for it in log],
+                         [[["r", "1", None], ["r", "2", None], ["w", "2", 1]], [["w", "1", (1 << 62) + 1]], [["r", "1", None], ["r", "2", 1]]])
+        self.assertEqual(told, ["sealed transactions=2"])
+
     def test_registers_of_any_value(self):
         lines = [line("ok", 0, [("w", 1, ":a")], 0), line("ok", 1, [("r", 1, ":a"), ("w", 1, 2)], 1), line("ok", 2, [("r", 1, 2)], 2)]
         told, log, _ = sealed(lines)
