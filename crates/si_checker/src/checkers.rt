@@ -63,8 +63,9 @@ impl<N: Name> Checker<N> {
             seats,
             limit,
         } = parts;
+        let shards = seats.len();
         let locked_shards = locked_shards_of(alloc, hash, seats)?;
-        let locked_book = LockedBook::new(alloc, Book::new(alloc, hash, limit), book);
+        let locked_book = LockedBook::new(alloc, Book::new(alloc, hash, limit), book, shards);
         Ok(Checker {
             alloc,
             words,
@@ -247,7 +248,7 @@ impl<N: Name> Checker<N> {
             return Err(ReportFault::Spoiled(k));
         };
         let locked_shard = &mut *guard;
-        locked_shard.settle(self.alloc, &self.words, locked_book)?;
+        locked_shard.settle(&self.words, locked_book)?;
         locked_shard.add_findings(found)
     }
 
@@ -285,11 +286,13 @@ impl<N: Name> Checker<N> {
     pub fn rebuild<R: Wait>(&self, rt: &R, k: usize) -> Result<(), OutOfMemory>
         requires { k < N.board.shards }
     {
+        let mut book = self.locked_book.lock(rt);
+        let locked_book = &mut *book;
         let Some(mut guard) = self.locked_shard(rt, k) else {
             return Err(AllocError);
         };
         let locked_shard = &mut *guard;
-        locked_shard.rebuild(k)
+        locked_shard.rebuild(&self.words, locked_book, k)
     }
 
     /// Tells workers that they may end once nothing is left. Edits that are submitted later are still accepted, and a settled

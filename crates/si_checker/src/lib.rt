@@ -13,6 +13,7 @@ pub mod locked_books;
 pub mod locked_shards;
 pub mod names;
 pub mod openings;
+mod positions;
 pub mod reports;
 pub mod workers;
 

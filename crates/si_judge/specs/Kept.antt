@@ -12,7 +12,8 @@ use Rattle.si_sorted.specs.Entries.{value_at}
 use Rattle.si_judge.specs.declared.judgements.ReadId.{ReadId}
 use Rattle.si_judge.specs.declared.indexes.Indexes.{Indexes}
 use Rattle.si_judge.specs.Indexes.{AreIndexes, reads_in, writes_of}
-use Rattle.si_judge.specs.Mending.{Found, IsRight, read_cmp, risen, stamp_cmp}
+use Rattle.si_judge.specs.Marks.{AreReadKindsBut, Marked}
+use Rattle.si_judge.specs.Mending.{ArePairKinds, Found, IsRight, read_cmp, risen, stamp_cmp}
 use Rattle.si_judge.specs.Touched.{IsBoundedBy}
 
 -- what is kept of a key
@@ -24,6 +25,8 @@ pub record Kept : Type 0 where
   pub overlaps : List (Stamp × Kind)
   -- how many answers the judge has given
   pub judged : ℕ
+  -- which reads are still to be judged again
+  pub marks : Marked
 
 -- what the judge found, and its count
 abbrev pub found_in : Kept → Found
@@ -33,6 +36,13 @@ found_in s = record { reads = value_at read_cmp s.reads; overlaps = value_at sta
 pub record Shows (J : Rules) (M : OnKey) (s : Kept) : Type 0 where
   pub indexes : AreIndexes M s.indexes
   pub right : IsRight J M (found_in s)
+
+-- it would show what is on the key if the reads that are marked were judged: it has the indexes of that, of each other read what the
+-- judge finds, and of the versions too
+pub record WouldShow (J : Rules) (M : OnKey) (s : Kept) : Type 0 where
+  pub indexes : AreIndexes M s.indexes
+  pub reads : AreReadKindsBut J M s.marks (found_in s).reads
+  pub overlaps : ArePairKinds J M (found_in s).overlaps
 
 -- no write, no read of a committed transaction and no set-up value is on the key
 pub record IsBare (M : OnKey) : Type 0 where

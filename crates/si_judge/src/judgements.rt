@@ -1,22 +1,23 @@
 //! What a judge found on a key, kept under what was judged.
 
-ghost use Rattle.std.specs.Prelude.{◌≡◌, ◌+◌, ◌<◌, ◌≤◌, None, Option, IfSome, OnOk, length};
+ghost use Rattle.std.specs.Prelude.{◌≡◌, ◌∷◌, [], ◌<◌, None, IfSome, OnOk, length};
 ghost use Rattle.std.specs.List.{AllPairs, Contains};
-ghost use Rattle.std.specs.BTreeMap.{get};
-ghost use Rattle.std.specs.Option.{option_to_list};
+ghost use Rattle.std.specs.Option.{option_map, option_to_list};
+ghost use Rattle.si_sorted.specs.Entries.{value_at};
+ghost use Rattle.si_judge.specs.Found.{overlap_of};
 ghost use Rattle.si_model.specs.declared.parts.OnKey.{OnKey};
 ghost use Rattle.si_model.specs.Findings.{overlap_with};
 ghost use Rattle.si_judge.specs.Indexes.{AreIndexes, reads_in, reads_of};
 ghost use Rattle.si_judge.specs.Mending.{AreForgotten, RisesBy, IsVersionForgotten, IsVersionJudged, AreReadsJudged, IsPairJudged, IsPairJudgedBefore, id_of, read_cmp, risen, stamp_cmp, with_kind};
 
 use crate::Judge;
+use crate::found_pairs::{FoundPairs, Pair};
+use crate::found_reads::FoundReads;
 use crate::indexes::{Indexes, installer};
-use crate::maps::put;
 use crate::reads::{ReadWithOwn, read_at};
-use si_model::{Installer, Kind, OutOfMemory, Part, Stamp, TxnId, VersionId};
+use si_model::{Installer, OutOfMemory, Part, Stamp, TxnId, VersionId};
 use si_timeline::Version;
 use std::alloc::Global;
-use std::collections::BTreeMap;
 
 /// A read, by its transaction and its place there.
 #[derive(Clone, Copy, Debug, PartialEq, Eq, PartialOrd, Ord)]
@@ -30,22 +31,22 @@ pub struct ReadId {
 pub struct Judgements<J> {
     pub judge: J,
     /// The findings of reads.
-    pub reads: BTreeMap<ReadId, Kind>,
+    pub reads: FoundReads,
     /// The overlaps, under the commit stamps of their first versions.
-    pub overlaps: BTreeMap<Stamp, Kind>,
+    pub overlaps: FoundPairs,
 }
 
 impl<J: Judge + Drop> Judgements<J> {
     /// Nothing is judged yet, and all is to be by this judge.
     pub fn new(alloc: Global, judge: J) -> Self
         ensures judge { result.judge ≡ judge }
-        ensures reads { (o : ReadId) → get read_cmp result.reads o ≡ None }
-        ensures overlaps { (c : Stamp) → get stamp_cmp result.overlaps c ≡ None }
+        ensures reads { (o : ReadId) → value_at read_cmp result.reads o ≡ None }
+        ensures overlaps { (c : Stamp) → value_at stamp_cmp result.overlaps c ≡ None }
     {
         Judgements {
             judge,
-            reads: BTreeMap::new(alloc),
-            overlaps: BTreeMap::new(alloc),
+            reads: FoundReads::new(alloc),
+            overlaps: FoundPairs::new(alloc),
         }
     }
 
@@ -56,12 +57,12 @@ impl<J: Judge + Drop> Judgements<J> {
         reads: &[ReadWithOwn],
     ) -> Result<(), OutOfMemory>
         ensures reads { OnOk result ((M : OnKey) → AreIndexes M indexes.now
-            → AreReadsJudged J.rules M indexes.now reads.now (get read_cmp self.old.reads) (get read_cmp self.new.reads)) }
+            → AreReadsJudged J.rules M indexes.now reads.now (value_at read_cmp self.old.reads) (value_at read_cmp self.new.reads)) }
         ensures overlaps { OnOk result (self.new.overlaps ≡ self.old.overlaps) }
         ensures counted { OnOk result (J.answers self.new.judge ≡ risen (J.answers self.old.judge) (length reads.now)) }
     {
         for read in reads {
-            self.judge_one(indexes, Some(*read))?;
+            self.judge_one(indexes, *read)?;
         }
         Ok(())
     }
@@ -71,7 +72,7 @@ impl<J: Judge + Drop> Judgements<J> {
     pub fn judge_reads_in(&mut self, indexes: &Indexes, part: &Part) -> Result<(), OutOfMemory>
         requires { AllPairs (λ a b. a.place < b.place) part.now.accesses }
         ensures reads { OnOk result ((M : OnKey) → AreIndexes M indexes.now
-            → AreReadsJudged J.rules M indexes.now (reads_in part.now) (get read_cmp self.old.reads) (get read_cmp self.new.reads)) }
+            → AreReadsJudged J.rules M indexes.now (reads_in part.now) (value_at read_cmp self.old.reads) (value_at read_cmp self.new.reads)) }
         ensures overlaps { OnOk result (self.new.overlaps ≡ self.old.overlaps) }
         ensures counted { OnOk result (J.answers self.new.judge ≡ risen (J.answers self.old.judge) (length (reads_in part.now))) }
     {
@@ -85,46 +86,57 @@ impl<J: Judge + Drop> Judgements<J> {
     fn judge_reads_of(&mut self, indexes: &Indexes, part: &Part) -> Result<(), OutOfMemory>
         requires { AllPairs (λ a b. a.place < b.place) part.now.accesses }
         ensures reads { OnOk result ((M : OnKey) → AreIndexes M indexes.now
-            → AreReadsJudged J.rules M indexes.now (reads_of part.now) (get read_cmp self.old.reads) (get read_cmp self.new.reads)) }
+            → AreReadsJudged J.rules M indexes.now (reads_of part.now) (value_at read_cmp self.old.reads) (value_at read_cmp self.new.reads)) }
         ensures overlaps { OnOk result (self.new.overlaps ≡ self.old.overlaps) }
         ensures counted { OnOk result (J.answers self.new.judge ≡ risen (J.answers self.old.judge) (length (reads_of part.now))) }
     {
         let mut own = None;
         for placed in part.accesses.as_slice() {
-            self.judge_one(indexes, read_at(part, own, *placed))?;
+            self.judge_if(indexes, read_at(part, own, *placed))?;
             own = placed.access.written().or(own);
         }
         Ok(())
     }
 
-    fn judge_one(&mut self, indexes: &Indexes, read: Option<ReadWithOwn>) -> Result<(), OutOfMemory>
+    /// Judges the read, if there is one.
+    fn judge_if(&mut self, indexes: &Indexes, read: Option<ReadWithOwn>) -> Result<(), OutOfMemory>
         ensures reads { OnOk result ((M : OnKey) → AreIndexes M indexes.now
-            → AreReadsJudged J.rules M indexes.now (option_to_list read) (get read_cmp self.old.reads) (get read_cmp self.new.reads)) }
+            → AreReadsJudged J.rules M indexes.now (option_to_list read) (value_at read_cmp self.old.reads) (value_at read_cmp self.new.reads)) }
         ensures overlaps { OnOk result (self.new.overlaps ≡ self.old.overlaps) }
         ensures counted { OnOk result (J.answers self.new.judge ≡ risen (J.answers self.old.judge) (length (option_to_list read))) }
     {
-        if let Some(read) = read {
-            let kind = self.judge.read(&indexes.sight_of(read));
-            put(&mut self.reads, id_of(read), kind)?;
+        match read {
+            Some(read) => self.judge_one(indexes, read),
+            None => Ok(()),
         }
+    }
+
+    fn judge_one(&mut self, indexes: &Indexes, read: ReadWithOwn) -> Result<(), OutOfMemory>
+        ensures reads { OnOk result ((M : OnKey) → AreIndexes M indexes.now
+            → AreReadsJudged J.rules M indexes.now (read ∷ []) (value_at read_cmp self.old.reads) (value_at read_cmp self.new.reads)) }
+        ensures overlaps { OnOk result (self.new.overlaps ≡ self.old.overlaps) }
+        ensures counted { OnOk result (J.answers self.new.judge ≡ risen (J.answers self.old.judge) 1) }
+    {
+        let kind = self.judge.read(&indexes.sight_of(read));
+        self.reads.put(id_of(read), kind)?;
         Ok(())
     }
 
     /// Forgets what was found of these reads.
     pub fn forget_reads(&mut self, reads: &[ReadWithOwn])
-        ensures reads { AreForgotten reads.now (get read_cmp self.old.reads) (get read_cmp self.new.reads) }
+        ensures reads { AreForgotten reads.now (value_at read_cmp self.old.reads) (value_at read_cmp self.new.reads) }
         ensures overlaps { self.new.overlaps ≡ self.old.overlaps }
         ensures judge { self.new.judge ≡ self.old.judge }
     {
         for read in reads {
-            self.reads.remove(&id_of(*read));
+            self.reads.remove(id_of(*read));
         }
     }
 
     /// Judges a version with the one next after it.
     pub fn judge_pair(&mut self, indexes: &Indexes, first: Installer) -> Result<(), OutOfMemory>
         ensures overlaps { OnOk result ((M : OnKey) → AreIndexes M indexes.now
-            → IsPairJudged J.rules M first (get stamp_cmp self.old.overlaps) (get stamp_cmp self.new.overlaps)) }
+            → IsPairJudged J.rules M first (value_at stamp_cmp self.old.overlaps) (value_at stamp_cmp self.new.overlaps)) }
         ensures reads { OnOk result (self.new.reads ≡ self.old.reads) }
         ensures counted { OnOk result (RisesBy 1 (J.answers self.old.judge) (J.answers self.new.judge)) }
     {
@@ -139,20 +151,20 @@ impl<J: Judge + Drop> Judgements<J> {
         first: Installer,
         next: Option<Installer>,
     ) -> Result<(), OutOfMemory>
-        ensures overlaps { OnOk result ((c : Stamp) → get stamp_cmp self.new.overlaps c
-            ≡ with_kind (get stamp_cmp self.old.overlaps) first.commit (overlap_with J.rules first next) c) }
+        ensures overlaps { OnOk result ((c : Stamp) → value_at stamp_cmp self.new.overlaps c
+            ≡ with_kind (value_at stamp_cmp self.old.overlaps) first.commit (overlap_with J.rules first next) c) }
         ensures reads { OnOk result (self.new.reads ≡ self.old.reads) }
         ensures counted { OnOk result (RisesBy 1 (J.answers self.old.judge) (J.answers self.new.judge)) }
     {
-        let kind = self.overlap_with(first, next);
-        put(&mut self.overlaps, first.commit, kind)?;
+        let pair = self.overlap_with(first, next);
+        self.overlaps.put(first.commit, pair)?;
         Ok(())
     }
 
     /// Judges the version that was installed last before the stamp with the one next after it.
     pub fn judge_pair_before(&mut self, indexes: &Indexes, stamp: Stamp) -> Result<(), OutOfMemory>
         ensures overlaps { OnOk result ((M : OnKey) → AreIndexes M indexes.now
-            → IsPairJudgedBefore J.rules M indexes.now stamp (get stamp_cmp self.old.overlaps) (get stamp_cmp self.new.overlaps)) }
+            → IsPairJudgedBefore J.rules M indexes.now stamp (value_at stamp_cmp self.old.overlaps) (value_at stamp_cmp self.new.overlaps)) }
         ensures reads { OnOk result (self.new.reads ≡ self.old.reads) }
         ensures counted { OnOk result (RisesBy 1 (J.answers self.old.judge) (J.answers self.new.judge)) }
     {
@@ -164,11 +176,11 @@ impl<J: Judge + Drop> Judgements<J> {
 
     /// Forgets the overlap of the version that was installed at the stamp.
     pub fn forget_pair(&mut self, commit: Stamp)
-        ensures overlaps { (c : Stamp) → get stamp_cmp self.new.overlaps c ≡ with_kind (get stamp_cmp self.old.overlaps) commit None c }
+        ensures overlaps { (c : Stamp) → value_at stamp_cmp self.new.overlaps c ≡ with_kind (value_at stamp_cmp self.old.overlaps) commit None c }
         ensures reads { self.new.reads ≡ self.old.reads }
         ensures judge { self.new.judge ≡ self.old.judge }
     {
-        self.overlaps.remove(&commit);
+        self.overlaps.remove(commit);
     }
 
     /// Judges the version with the one before it and the one after it, if there is a version.
@@ -179,7 +191,7 @@ impl<J: Judge + Drop> Judgements<J> {
     ) -> Result<(), OutOfMemory>
         requires { IfSome version (Contains indexes.now.timeline) }
         ensures overlaps { OnOk result ((M : OnKey) → AreIndexes M indexes.now
-            → IsVersionJudged J.rules M indexes.now version (get stamp_cmp self.old.overlaps) (get stamp_cmp self.new.overlaps)) }
+            → IsVersionJudged J.rules M indexes.now version (value_at stamp_cmp self.old.overlaps) (value_at stamp_cmp self.new.overlaps)) }
         ensures reads { OnOk result (self.new.reads ≡ self.old.reads) }
         ensures counted { OnOk result (RisesBy 2 (J.answers self.old.judge) (J.answers self.new.judge)) }
     {
@@ -199,7 +211,7 @@ impl<J: Judge + Drop> Judgements<J> {
     ) -> Result<(), OutOfMemory>
         requires { Contains indexes.now.timeline (commit, version) }
         ensures overlaps { OnOk result ((M : OnKey) → AreIndexes M indexes.now
-            → IsPairJudgedBefore J.rules M indexes.now commit (get stamp_cmp self.old.overlaps) (get stamp_cmp self.new.overlaps)) }
+            → IsPairJudgedBefore J.rules M indexes.now commit (value_at stamp_cmp self.old.overlaps) (value_at stamp_cmp self.new.overlaps)) }
         ensures reads { OnOk result (self.new.reads ≡ self.old.reads) }
         ensures counted { OnOk result (RisesBy 1 (J.answers self.old.judge) (J.answers self.new.judge)) }
     {
@@ -217,7 +229,7 @@ impl<J: Judge + Drop> Judgements<J> {
         version: Option<(Stamp, Version)>,
     ) -> Result<(), OutOfMemory>
         ensures overlaps { OnOk result ((M : OnKey) → AreIndexes M indexes.now
-            → IsVersionForgotten J.rules M indexes.now version (get stamp_cmp self.old.overlaps) (get stamp_cmp self.new.overlaps)) }
+            → IsVersionForgotten J.rules M indexes.now version (value_at stamp_cmp self.old.overlaps) (value_at stamp_cmp self.new.overlaps)) }
         ensures reads { OnOk result (self.new.reads ≡ self.old.reads) }
         ensures counted { OnOk result (RisesBy 2 (J.answers self.old.judge) (J.answers self.new.judge)) }
     {
@@ -228,18 +240,15 @@ impl<J: Judge + Drop> Judgements<J> {
         Ok(())
     }
 
-    fn overlap_with(&mut self, first: Installer, next: Option<Installer>) -> Option<Kind>
-        ensures overlap { result ≡ overlap_with J.rules first next }
+    fn overlap_with(&mut self, first: Installer, next: Option<Installer>) -> Option<Pair>
+        ensures overlap { option_map overlap_of result ≡ overlap_with J.rules first next }
         ensures reads { self.new.reads ≡ self.old.reads }
         ensures overlaps { self.new.overlaps ≡ self.old.overlaps }
         ensures counted { RisesBy 1 (J.answers self.old.judge) (J.answers self.new.judge) }
     {
         let next = next?;
         if self.judge.pair(first.commit, next.start) {
-            Some(Kind::Overlap {
-                first: first.txn,
-                second: next.txn,
-            })
+            Some((first.txn, next.txn))
         } else {
             None
         }

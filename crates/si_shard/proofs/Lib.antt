@@ -1,7 +1,6 @@
 pub mod OnKeys
 pub mod Beginnings
-pub mod ArrivalPlaces
-pub mod CountedArrivals
+pub mod ById
 pub mod KeyChanges
 pub mod Crossing
 pub mod EachKey
@@ -12,4 +11,4 @@ pub mod ShardsTogether
 pub mod Changing
 pub mod ByKey
 pub mod Listing
-pub mod Pieces
+pub mod Following

@@ -31,10 +31,10 @@ use Rattle.si_judge.specs.Following.{empty_key}
 use Rattle.si_shard.specs.declared.shard_ids.ShardId.{ShardId}
 use Rattle.si_shard.specs.declared.applied_edits.Applied.{Applied}
 use Rattle.si_shard.specs.ShardIds.{is_ours}
-use Rattle.si_shard.specs.AppliedEdits.{AreApplied}
+use Rattle.si_shard.specs.AppliedEdits.{AreApplied, AreSettled}
 use Rattle.si_shard.specs.KeyStates.{AreOn, IsOn, findings_at}
 use Rattle.si_shard.specs.Shards.{findings_in}
-use Rattle.si_shard.proofs.OnKeys.{none_empty, of_history}
+use Rattle.si_shard.proofs.OnKeys.{none_empty, of_history, told_settled}
 
 -- ---- lists of findings one after the other
 
@@ -71,12 +71,12 @@ shard_on id edits a sound x = by (is_ours id x) refl
     by true e = subst (λ b. IsOn a.keys x (cond b (on_key x (present edits)) empty_key)) (sym e) (sound.ours x e)
     by false e = subst (λ b. IsOn a.keys x (cond b (on_key x (present edits)) empty_key)) (sym e) (sound.others x e)
 
-module _ (id : ShardId) (edits : List Edit) (a : Applied) (accepted : IsAccepted edits) (sound : AreApplied id edits a) (ordered : IsOrdered (slice_cmp nat_cmp) a.keys.found) where
+module _ (id : ShardId) (edits : List Edit) (a : Applied) (accepted : IsAccepted edits) (sound : AreSettled id edits a) (ordered : IsOrdered (slice_cmp nat_cmp) a.keys.found) where
   abbrev At : List ℕ → List Finding
   At = findings_at (on_shard id edits)
 
   exact : (x : List ℕ) → IsOfHistory (on_shard id edits x)
-  exact x = of_history x (get same_key a.keys.states x) (on_shard id edits x) (shard_on id edits a sound x).shows
+  exact x = of_history x (get same_key a.keys.states x) (on_shard id edits x) (shard_on id edits a sound.applied x).shows
 
   at_key : (x : List ℕ) (f : Finding) → Contains (At x) f → f.key ≡ x
   at_key x f c = ((key_findings_exact cases (on_shard id edits x) (exact x) x).sound f c).0
@@ -102,7 +102,7 @@ module _ (id : ShardId) (edits : List Edit) (a : Applied) (accepted : IsAccepted
       let among = Contains-from_filter (λ g. is_ours id g.key) (findings (present edits)) f c in
       let here_is = Contains-filter (λ g. same_key g.key f.key) (findings (present edits)) f among.0 (same_key_from f.key f.key refl) in
       let at : Contains (At f.key) f = subst (λ fs. Contains fs f) (sym (same_on_key f.key among.1)) here_is in
-      let found : contains (slice_cmp nat_cmp) a.keys.found f.key ≡ true = (shard_on id edits a sound f.key).found.1 (f, at) in
+      let found : contains (slice_cmp nat_cmp) a.keys.found f.key ≡ true = (told_settled a.keys f.key (on_shard id edits f.key) sound.settled (shard_on id edits a sound.applied f.key)).1 (f, at) in
       let k = any_is (is_at (slice_cmp nat_cmp f.key)) a.keys.found.keys found in
       let key : f.key ≡ k.0 = same_key_is f.key k.0 (texts_ties f.key k.0 ∙ k.2) in
       Contains-flat_map At a.keys.found.keys f.key f (subst (Contains a.keys.found.keys) (sym key) k.1) at

@@ -1,10 +1,11 @@
 -- What the contracts of the shards cite.
 pub mod ShardIds
-pub mod Arrivals
+pub mod PresentTxns
+pub mod ToldEdits
 pub mod AppliedEdits
 pub mod KeyChanges
 pub mod KeyStates
+pub mod JournalShards
 pub mod Shards
-pub mod StoredEdits
 pub mod SingleEdits
 pub mod Laws

@@ -1,0 +1,14 @@
+use Rattle.si_model.specs.Parts.{on_key}
+use Rattle.si_model.specs.Journals.{present}
+use Rattle.si_judge.specs.Following.{empty_key}
+use Rattle.si_shard.proofs.AppliedEach.{ok_then}
+use Rattle.si_shard.proofs.applied_edits.Applied.settle.Goals as goal
+
+pub returns : goal.returns
+returns c = ok_then c.settle.result c.settle.ensures (λ done id J sound. record {
+  applied = record {
+    ours = λ x ours. done.stays x (on_key x (present J)) (sound.ours x ours);
+    others = λ x other. done.stays x empty_key (sound.others x other);
+  };
+  settled = done.none;
+})
