@@ -75,7 +75,7 @@ class History:
         self.has_times = True
         self._key_numbers: Dict[Any, int] = {}
         self._texts: Dict[str, Any] = {}
-        self.writers: List[Dict[Any, int]] = []  # by key: by value or element the place of its transaction
+        self.writers: List[Dict[Any, int]] = []  # by key: by value or element the place of its transaction, NEVER of a set-up value
         self._ids: Dict[int, int] = {}
 
     def fault(self, form: int, what: str) -> LogError:
@@ -97,10 +97,20 @@ class History:
         return number
 
     def write(self, key: int, value: Any, form: int, verb: str) -> None:
-        """The transaction that is read right now writes this, or the set-up does. Nothing is written twice to a key."""
+        """The transaction that is read right now writes this. Nothing is written twice to a key."""
+        self._write(key, value, form, verb, len(self.txns))
+
+    def set_up_with(self, key: int, value: int, form: int) -> None:
+        """The key holds this before all transactions, none of which writes it."""
+        if key in self.set_up:
+            raise self.fault(form, f"the key {self.keys[key]} is set up twice")
+        self._write(key, value, form, "written", NEVER)
+        self.set_up[key] = value
+
+    def _write(self, key: int, value: Any, form: int, verb: str, writer: int) -> None:
         if value in self.writers[key]:
             raise self.fault(form, f"{shown(value)} is {verb} twice to the key {self.keys[key]}")
-        self.writers[key][value] = len(self.txns)
+        self.writers[key][value] = writer
 
     def add(self, txn: Txn) -> None:
         if self._ids.setdefault(txn.id, txn.form) != txn.form:
@@ -247,10 +257,7 @@ class LogReader:
         kind = line.get("do")
         if kind == "setup":
             key = self.key(number, line.get("key"))
-            if key in self.history.set_up:
-                raise self.history.fault(number, f"the key {self.history.keys[key]} is set up twice")
-            self.history.set_up[key] = self.number(number, line.get("value"), "value")
-            self.history.write(key, self.history.set_up[key], number, False)
+            self.history.set_up_with(key, self.number(number, line.get("value"), "value"), number)
             return
         if kind not in ("txn", "resolve", "withdraw"):
             raise self.history.fault(number, "`do` is none of txn, resolve, withdraw and setup")

@@ -289,6 +289,14 @@ class Forms(unittest.TestCase):
         self.assertEqual([json.loads(it).get("status") for it in log], [None, "committed", "committed", "aborted", "aborted"])
         self.assertEqual(status_of(lines)[0], 0)
 
+    def test_a_set_up_value_settles_no_doubt(self):
+        doubtful = '{"do":"txn","id":1,"status":"indoubt","ops":[["w","x",5]]}'
+        for reads, status, doubt in (0, 10, "indoubt"), (5, 0, "committed"):
+            lines = ['{"do":"setup","key":"x","value":0}', doubtful,
+                     '{"do":"txn","id":2,"status":"committed","ops":[["r","x",%d]]}' % reads]
+            self.assertEqual([json.loads(it).get("status") for it in sealed(lines)[1]], [None, doubt, "committed"])
+            self.assertEqual(status_of(lines)[0], status)
+
     def test_faults(self):
         good = line("ok", 0, [("append", 1, 1)], 0)
         for lines, what in [
@@ -303,6 +311,7 @@ class Forms(unittest.TestCase):
                 (["{:type :ok, :process 0, :value 5}"], "history, form 1: the value '5' is no list of operations"),
                 (['{"do":"put"}'], "history, form 1: `do` is none of"), (['{"do":"withdraw","id":1}'], "there is no transaction 1 to withdraw"),
                 (['{"do":"setup","key":"x","value":1}', '{"do":"setup","key":"x","value":2}'], "the key x is set up twice"),
+                (['{"do":"txn","id":1,"status":"aborted","ops":[["w","x",7]]}', '{"do":"setup","key":"x","value":7}'], "7 is written twice to the key x"),
                 (['{"do":"txn","id":1,"status":"committed","ops":[["r","x",1.5]]}'], "`the value read` is 1.5"), (['{"do":"txn"'], "form 1: no JSON")]:
             with self.assertRaises(LogError) as told:
                 sealed(lines)
