@@ -127,12 +127,14 @@ class History:
 
 INVOKED = ":type :invoke"
 PROCESS = re.compile(r":process\s+(:?[^\s,}]+)")
+LOG_BEGINS = re.compile(r'\s*\{\s*"')
 ANSWERS = {":ok": COMMITTED, ":fail": ABORTED, ":info": IN_DOUBT}
 
 
 def is_sent(line: str) -> bool:
-    """Whether the line tells that a transaction was sent, as they are mostly written."""
-    return INVOKED in line and line.startswith("{") and line.rstrip().endswith("}") and line.count("{") == 1
+    """Whether the line tells that a transaction was sent, as they are mostly written: by its one type, and in no text or comment."""
+    return (INVOKED in line and line.startswith("{") and line.rstrip().endswith("}") and line.count("{") == 1 == line.count(":type")
+            and '"' not in line and ";" not in line)
 
 
 class JepsenReader:
@@ -330,7 +332,7 @@ def read_history(name: str, lines: Iterable[str]) -> History:
     """The history of the lines, of that name in what is told of a fault."""
     history = History(name)
     first, rest = first_of(lines)
-    is_log = first.lstrip().startswith('{"')
+    is_log = LOG_BEGINS.match(first) is not None
     reader: Any = LogReader(history) if is_log else JepsenReader(history)
     number = 0
     try:

@@ -297,6 +297,14 @@ class Forms(unittest.TestCase):
             self.assertEqual([json.loads(it).get("status") for it in sealed(lines)[1]], [None, doubt, "committed"])
             self.assertEqual(status_of(lines)[0], status)
 
+    def test_an_answer_that_says_invoke_in_a_text_is_an_answer(self):
+        for lines in (['{:type :ok, :f :txn, :value [[:w 1 ":type :invoke"]], :process 0, :index 0}\n'],
+                      ["{:type :ok, :f :txn, :value [[:w 1 2]], :process 0, :index 0 ; :type :invoke }\n", "}\n"]):
+            self.assertEqual(sealed(lines)[0], ["sealed transactions=1"])
+
+    def test_own_lines_with_blanks(self):
+        self.assertEqual(sealed([' { "do" : "txn", "id": 1, "status": "committed", "ops": [["w", "x", 1]] }'])[0], ["sealed transactions=1"])
+
     def test_faults(self):
         good = line("ok", 0, [("append", 1, 1)], 0)
         for lines, what in [
