@@ -14,6 +14,73 @@ from refusals import Refusing
 NOTHING = "/dev/null"
 
 
+KNOT = """{"do":"txn","id":1,"start":1,"status":"committed","commit":2,"ops":[["r","y",null],["w","x",1],["w","y",7]]}
+{"do":"txn","id":2,"start":3,"status":"committed","commit":4,"ops":[["r","x",1],["r","y",null]]}
+"""
+FORK = """{"do":"txn","id":1,"start":1,"status":"committed","commit":2,"ops":[["r","a, b",null],["w","a, b",1]]}
+{"do":"txn","id":2,"start":3,"status":"committed","commit":4,"ops":[["r","a, b",null],["w","a, b",2]]}
+"""
+
+
+class Evidence(ProgramTest):
+    """The evidence in an answer, checked by a log."""
+
+    def ends(self, log, answer):
+        path = self.work / "log.jsonl"
+        path.write_text(log)
+        done = subprocess.run([PROGRAM, "evidence", path], input=answer, capture_output=True, text=True, check=False)
+        return done.returncode, done.stdout, done.stderr
+
+    def test_knot(self):
+        self.assertEqual(self.ends(KNOT, 'no-order certain=yes\n  knot 1-wr->2 key="x", 2-rw->1 key="y"\n'), (0, "", ""))
+
+    def test_fork(self):
+        self.assertEqual(self.ends(FORK, '  fork key="a, b" 1 2\n  fork key="a, b" 2 1'), (0, "", ""))
+
+    def test_explained_answer(self):
+        path = self.work / "log.jsonl"
+        path.write_text(KNOT)
+        answer = subprocess.run([PROGRAM, "check", "--explain", path], capture_output=True, text=True, check=False).stdout
+        self.assertIn("  G-SI(b) ", answer)
+        self.assertEqual(self.ends(KNOT, answer), (0, "", ""))
+
+    def test_what_fails_is_told(self):
+        answer = '  knot 1-wr->2 key="x", 2-rw->1 key="x"\n  G-SI(b) 2-rw->1 1-st->2\n\n  fork key="y" 1 2\n'
+        self.assertEqual(self.ends(KNOT, answer), (10, "fails line=1\nfails line=4\n", ""))
+
+    def test_none(self):
+        self.assertEqual(self.ends(KNOT, " a\n\n"), (10, "", ""))
+        self.assertEqual(self.ends(KNOT, ""), (10, "", ""))
+
+    def test_refused_lines(self):
+        self.assertEqual(self.ends(KNOT + "{}\n\n" + KNOT, '  knot 1-wr->2 key="x", 2-rw->1 key="y"\n'), (
+            10, "refused source=0 line=3 code=4 reason=bad-kind\nrefused source=0 line=5 code=12 reason=id-present\n"
+            "refused source=0 line=6 code=12 reason=id-present\n", ""))
+
+    def test_malformed(self):
+        for line in ('  knot 1-wr->2 key="x",2-rw->1 key="y"', "  ", "  G-SI(b)  2-rw->1", "  G1a reader=01 op=0 writer=2", '  fork key="\\u0078" 1 2',
+                     '  fork key="" 1 2', "  G-SI(a) 1-ww->18446744073709551616", "  G-SI(a) 1-ww->2 ", "  fork key=x 1 2"):
+            self.assertEqual(self.ends(KNOT, f"a\n{line}\n"), (2, "", "sicheck: no evidence in line 2\n"), line)
+
+    def test_command_line(self):
+        self.assert_ends(["evidence"], 2, "", "sicheck: evidence takes one LOG, and the answer on standard input\n")
+        self.assert_ends(["evidence", NOTHING, NOTHING], 2, "", "sicheck: evidence takes one LOG, and the answer on standard input\n")
+        self.assert_ends(["evidence", self.work / "nothing"], 2, "", "sicheck: cannot open source 0\n")
+        self.assert_ends(["evidence", self.work], 2, "", "sicheck: cannot read source 0\n")
+
+    def test_many(self):
+        """As many lines as transactions, and a knot of as many edges, are checked in a moment."""
+        count = 100_000
+        log = "".join(f'{{"do":"txn","id":{own},"start":{2 * own},"status":"committed","commit":{2 * own + 1},"ops":[["r","k",{own or count}],'
+                      f'["w","k",{own + 1}]]}}\n' for own in range(count))
+        edges = [f'{own}-wr->{(own + 1) % count} key="k"' for own in range(count)]
+        began = time.monotonic()
+        self.assertEqual(self.ends(log, "  knot " + ", ".join(edges) + "\n"), (0, "", ""))
+        told = self.ends(log, "".join(f'  fork key="k" {own} {count - own}\n' for own in range(count)))[1]
+        self.assertEqual(told.count("\n"), count)
+        self.assertLess(time.monotonic() - began, 10)
+
+
 class CommandLines(ProgramTest):
     def test_no_input(self):
         self.assert_ends(["check"], 0, summary())
@@ -29,6 +96,10 @@ class CommandLines(ProgramTest):
 
     def test_help_of_check(self):
         self.assert_ends(["check", "--help"], 0, (ROOT / "tests/texts/check_help").read_text())
+
+    def test_help_of_evidence(self):
+        for words in (["evidence", "--help"], ["evidence", "-h"], ["help", "evidence"]):
+            self.assert_ends(words, 0, (ROOT / "tests/texts/evidence_help").read_text())
 
     def test_version(self):
         self.assert_ends(["--version"], 0, "sicheck 0.1.0\n")

@@ -6,6 +6,7 @@ import subprocess
 EXAMPLES = [
     ("sicheck check client-1.jsonl client-2.jsonl", "Checks the logs of two clients together."),
     ("sicheck check --expect 1000 log.jsonl", "Ends with 0 only where 1000 transactions are committed, none is in doubt, no line is refused and nothing is found."),
+    ("sicheck check --chances --expect-future 20 log.jsonl", "Tells at how many places each kind could have been found, and asks for 20 of one."),
     ("sicheck check --explain log.jsonl", "Tells the evidence behind each violation."),
     ("tests | sicheck check --every 1000 --new", "Reads a pipe while the tests run, and tells after each 1000 lines which violations came or are gone."),
 ]
@@ -20,8 +21,13 @@ class Help:
         self.about = top.split("\n", 1)[0].rstrip(".")
         self.commands = rows_of(top, "Commands")
         self.options = rows_of(check, "Options")
+        # (help shows these in the usage line alone)
+        if "--expect-KIND" in check:
+            kinds = re.findall(r"^  (\w+) +\S", check[check.index("\n  own "):], re.M)
+            self.options[-1:-1] = [(f"--expect-{kind} <N>", f"Expects N places at which {kind} could be found") for kind in kinds]
         self.top_options = [it for it in rows_of(top, "Options") if it not in self.options]
         self.usage = re.search(r"^Usage: (.*(?:\n +.*)*)$", check, re.M)[1].replace("\n" + len("Usage: ") * " ", "\n")
+        self.evidence_usage = re.search(r"^Usage: (.*)$", told(program, "evidence", "--help"), re.M)[1]
         behind = check.split("\n\n", 3)[3]
         self.paragraphs = [it.strip("\n") for it in re.split(r"\n\n", behind)]
         if top.split("\n\n", 4)[4] != behind:
@@ -56,14 +62,14 @@ def headed(paragraph):
 
 def words_of(rows):
     """Returns the long and short words of options."""
-    return [word for words, _ in rows for word in re.findall(r"-{1,2}[a-z]+", words)]
+    return [word for words, _ in rows for word in re.findall(r"-{1,2}[a-z][a-z-]*", words)]
 
 
 def examples(help_told):
     """Returns the rows of the manual page's examples."""
     rows = [".SH EXAMPLES"]
     for command, says in EXAMPLES:
-        unknown = set(re.findall(r"--[a-z]+", command)) - set(words_of(help_told.options))
+        unknown = set(re.findall(r"--[a-z][a-z-]*", command)) - set(words_of(help_told.options))
         if unknown:
             raise SystemExit(f"manual: an example has an option that help doesn't tell: {' '.join(unknown)}")
         rows += [".TP", f"\\fB{escaped(command)}\\fP", escaped(says)]
@@ -73,7 +79,7 @@ def examples(help_told):
 def manual(help_told, date):
     """Returns the manual page: help's own words, in the order of such pages."""
     rows = [f'.TH SICHECK 1 "{date}" "sicheck {help_told.version}" "User Commands"', ".SH NAME", f"sicheck \\- {escaped(help_told.about[0].lower() + help_told.about[1:])}"]
-    rows += [".SH SYNOPSIS", ".nf", f"\\fB{escaped(help_told.usage)}\\fP", "\\fBsicheck \\-\\-help\\fP", "\\fBsicheck \\-\\-version\\fP", ".fi", ".SH COMMANDS"]
+    rows += [".SH SYNOPSIS", ".nf", f"\\fB{escaped(help_told.usage)}\\fP", f"\\fB{escaped(help_told.evidence_usage)}\\fP", "\\fBsicheck \\-\\-help\\fP", "\\fBsicheck \\-\\-version\\fP", ".fi", ".SH COMMANDS"]
     for words, says in help_told.commands:
         rows += [".TP", f"\\fB{escaped(words)}\\fP", escaped(says)]
     rows += [".SH OPTIONS"]
@@ -90,16 +96,21 @@ def manual(help_told, date):
 
 
 def completion(help_told):
-    """Returns the completion for bash: the commands, the options of a check, and else names of files."""
+    """Returns the completion for bash: the commands, the options of a check, and else names of files, as of the log behind `evidence`."""
     commands = " ".join(words for words, _ in help_told.commands)
     options = " ".join(words_of(help_told.options))
-    numbers = "|".join(re.findall(r"--[a-z]+(?= <)", "\n".join(words for words, _ in help_told.options)))
+    numbers = "|".join(re.findall(r"--[a-z-]+(?= <)", "\n".join(words for words, _ in help_told.options)))
     return f"""# Completion of sicheck {help_told.version} for bash.
 _sicheck() {{
     local word=${{COMP_WORDS[COMP_CWORD]}} before=${{COMP_WORDS[COMP_CWORD - 1]}}
     COMPREPLY=()
     if [ "$COMP_CWORD" = 1 ]; then
         mapfile -t COMPREPLY < <(compgen -W "{commands} --help --version" -- "$word")
+        return
+    fi
+    if [ "${{COMP_WORDS[1]}}" = evidence ]; then
+        compopt -o filenames
+        mapfile -t COMPREPLY < <(compgen -f -- "$word")
         return
     fi
     [ "${{COMP_WORDS[1]}}" = check ] || return
@@ -117,7 +128,7 @@ complete -F _sicheck sicheck
 
 def parts_of(words):
     """Returns the short word of an option, if it has one, its long word, and whether a value follows."""
-    short, long = re.search(r"(?<![-\w])-([a-z])\b", words), re.search(r"--([a-z]+)", words)
+    short, long = re.search(r"(?<![-\w])-([a-z])\b", words), re.search(r"--([a-z-]+)", words)
     return short and short[1], long[1], " <" in words
 
 
@@ -149,6 +160,10 @@ _sicheck() {{
         compadd -- --help --version
         return
     fi
+    if [[ ${{words[2]}} == evidence ]]; then
+        _files
+        return
+    fi
     [[ ${{words[2]}} == check ]] || return 1
     shift words
     (( CURRENT -= 1 ))
@@ -169,7 +184,7 @@ def completion_of_fish(help_told):
     rows = [f"# Completion of sicheck {help_told.version} for fish.", "complete -c sicheck -f"]
     rows += [f"complete -c sicheck {first} -a {words} -d {quoted(says)}" for words, says in help_told.commands]
     rows += [f"complete -c sicheck {first} -l {parts_of(words)[1]} -d {quoted(says)}" for words, says in help_told.top_options]
-    rows += [f"complete -c sicheck {then} -F"]
+    rows += [f"complete -c sicheck {then} -F", "complete -c sicheck -n '__fish_seen_subcommand_from evidence' -F"]
     for words, says in help_told.options:
         short, long, has_value = parts_of(words)
         when = "" if long == "help" else f" {then}"

@@ -3,6 +3,7 @@ import json
 import re
 from typing import NamedTuple, Optional, Union
 
+from .circuits import is_told, steps_of
 from .log_lines import Place
 
 UNKNOWN, DOUBT, OWN, ABORTED_READ, INTERMEDIATE, FUTURE, STALE, OVERLAP = range(1, 9)
@@ -81,19 +82,47 @@ class Shortage(NamedTuple):
     ids: list
 
 
+class Chance(NamedTuple):
+    """At how many places a likely fault of the database would have been a finding of one kind, and on how many keys these are."""
+    kind: int
+    places: int
+    keys: int
+
+
+class FewPlaces(NamedTuple):
+    """A kind with fewer such places than were expected."""
+    kind: int
+    places: int
+    expected: int
+
+
+class Ending(NamedTuple):
+    """What the last report tells beside its findings and its summary: what could have been found, of each kind or of none, and what the run
+    is short of."""
+    chances: tuple = ()
+    shortage: Optional[Shortage] = None
+    few: tuple = ()
+
+
 class Answer(NamedTuple):
-    """What an answer says at its end. `lines` are the numbers of the findings' lines in it."""
+    """What an answer says at its end. `lines` are the numbers of the findings' lines in it. `circuits` has the steps of each fork and
+    knot that `seal` told before it."""
     refusals: dict
     findings: list
     lines: list
     summary: Summary
     is_explained: bool
-    shortage: Optional[Shortage] = None
+    ending: Ending = Ending()
+    circuits: tuple = ()
 
 
 NUMBER = "[0-9]{1,20}"  # Python takes no more than 4,300 digits for a number
 SUMMARY = re.compile(f"transactions=({NUMBER}) findings=({NUMBER}) refused=({NUMBER}) verdict=(clean|open|violation)")
 SHORT = re.compile(f"short committed=({NUMBER}) expected=({NUMBER}) indoubt=({NUMBER})(?: ids=({NUMBER}(?:,{NUMBER})*))?")
+VIOLATIONS = tuple(kind for kind in KINDS if kind >= OWN)
+WORDS = "|".join(KINDS[kind] for kind in VIOLATIONS)
+CHANCE = re.compile(f"chances kind=({WORDS}) places=({NUMBER}) keys=({NUMBER})")
+FEW = re.compile(f"short kind=({WORDS}) places=({NUMBER}) expected=({NUMBER})")
 # What a report on the way says is there no more.
 GONE = "gone "
 REFUSAL = re.compile(f"refused source=({NUMBER}) line=({NUMBER}) code=({NUMBER}) reason=(.+)")
@@ -142,21 +171,53 @@ def shortage_of(line):
     return parts and Shortage(int(parts[1]), int(parts[2]), int(parts[3]), ids)
 
 
+def chance_of(line):
+    parts = CHANCE.fullmatch(line)
+    return parts and Chance(NUMBERS[parts[1]], int(parts[2]), int(parts[3]))
+
+
+def few_of(line):
+    parts = FEW.fullmatch(line)
+    return parts and FewPlaces(NUMBERS[parts[1]], int(parts[2]), int(parts[3]))
+
+
+def is_of_ending(line):
+    """Whether the line may stand between the findings and the summary of the last report."""
+    return bool(CHANCE.fullmatch(line) or SHORT.fullmatch(line) or FEW.fullmatch(line))
+
+
+def ending_of(lines):
+    """The ending that these lines are, or None where they are none: in another order, or not whole."""
+    chances = [it for it in map(chance_of, lines[:len(VIOLATIONS)]) if it]
+    rest = lines[len(chances):]
+    shortage = shortage_of(rest[0]) if rest else None
+    few = [few_of(line) for line in rest[1 if shortage else 0:]]
+    if None in few or tuple(it.kind for it in chances) not in ((), VIOLATIONS):
+        return None
+    kinds, places = [it.kind for it in few], {it.kind: it.places for it in chances}
+    if any(it.keys > it.places or (it.keys == 0) != (it.places == 0) for it in chances):
+        return None
+    if kinds != sorted(set(kinds)) or any(it.places >= it.expected or places.get(it.kind, it.places) != it.places for it in few):
+        return None
+    return Ending(tuple(chances), shortage, tuple(few))
+
+
 def summary_of(line):
     parts = SUMMARY.fullmatch(line)
     return parts and Summary(int(parts[1]), int(parts[2]), int(parts[3]), parts[4])
 
 
-def refusals_in(lines):
-    """The refused lines by their places, of the whole answer; reports before the last one are passed over."""
+def refusals_in(lines, before):
+    """The refused lines by their places, of the whole answer, before which so many lines stand; reports before the last one are passed
+    over."""
     refusals = {}
-    for number, line in enumerate(lines, 1):
+    for number, line in enumerate(lines, before + 1):
         refusal = refusal_of(line)
         if refusal:
             if refusal.place in refusals:
                 raise AnswerFault(f"line {number} of the answer refuses a line that was refused before it")
             refusals[refusal.place] = refusal
-        elif not (line.startswith("  G") or HEAD.match(line.removeprefix(GONE)) or SUMMARY.fullmatch(line) or SHORT.fullmatch(line)):
+        elif not (line.startswith("  G") or HEAD.match(line.removeprefix(GONE)) or SUMMARY.fullmatch(line) or is_of_ending(line)):
             raise AnswerFault(f"line {number} of the answer is none that `sicheck check` writes")
     return refusals
 
@@ -169,21 +230,21 @@ def last_report(lines):
     return place
 
 
-def report_of(lines, begins):
-    """The findings of the last report, the numbers of their lines, and how many of them are explained."""
+def report_of(lines, begins, before):
+    """The findings of the last report, the numbers of their lines where so many stand before all, and how many of them are explained."""
     findings, numbers, explained = [], [], 0
     for place in range(begins, len(lines) - 1):
         line = lines[place]
         if line.startswith("  "):
-            if not findings or numbers[-1] != place or line != findings[-1].evidence():
-                raise AnswerFault(f"line {place + 1} of the answer isn't the evidence of the finding before it")
+            if not findings or numbers[-1] != before + place or line != findings[-1].evidence():
+                raise AnswerFault(f"line {before + place + 1} of the answer isn't the evidence of the finding before it")
             explained += 1
             continue
         finding = finding_of(line)
         if finding is None:
-            raise AnswerFault(f"line {place + 1} of the answer is no finding")
+            raise AnswerFault(f"line {before + place + 1} of the answer is no finding")
         findings.append(finding)
-        numbers.append(place + 1)
+        numbers.append(before + place + 1)
     return findings, numbers, explained
 
 
@@ -216,13 +277,20 @@ def answer_of(data):
         raise AnswerFault("the answer isn't UTF-8") from None
     # Keys may hold characters at which `splitlines` would part a line, so lines end at line feeds alone.
     lines = [line.removesuffix("\r") for line in text.removesuffix("\n").split("\n")]
+    before = next((place for place, line in enumerate(lines) if not is_told(line)), len(lines) - 1)
+    told, lines = lines[:before], lines[before:]
     summary = summary_of(lines[-1])
     if summary is None:
         raise AnswerFault("the answer has no report at its end: the run broke off, or its text was cut")
-    shortage = shortage_of(lines[-2]) if len(lines) > 1 else None
-    # The line of a shortage stands right before the summary.
-    report = lines[:-2] + lines[-1:] if shortage else lines
-    findings, numbers, explained = report_of(report, last_report(report))
-    answer = Answer(refusals_in(lines), findings, numbers, summary, explained > 0, shortage)
+    # The last report alone has an ending, and only its summary stands behind that.
+    begins = next((place for place, line in enumerate(lines) if is_of_ending(line)), len(lines) - 1)
+    ending = ending_of(lines[begins:-1])
+    if ending is None:
+        raise AnswerFault("the lines before the last summary that tell what could have been found, or what the run is short of, aren't whole, "
+                          "or others stand among them")
+    report = lines[:begins] + lines[-1:]
+    findings, numbers, explained = report_of(report, last_report(report), before)
+    circuits = tuple(steps for steps in map(steps_of, told) if steps)
+    answer = Answer(refusals_in(lines, before), findings, numbers, summary, explained > 0, ending, circuits)
     check_report(answer, explained)
     return answer

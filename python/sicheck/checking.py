@@ -6,7 +6,7 @@ import subprocess
 import tempfile
 import threading
 from pathlib import Path
-from typing import IO, Iterable, Iterator, List, Optional, Sequence, Tuple, Union
+from typing import IO, Iterable, Iterator, List, NamedTuple, Optional, Sequence, Tuple, Union
 
 from .faults import CheckFailed
 from .following import Line, Until, is_over, lines_of_caller, lines_of_files, lines_of_growing_files
@@ -47,7 +47,9 @@ def _is_unproved(program: str) -> bool:
 
 def check(paths: Paths = (), *, lines: Optional[Iterable[Line]] = None, every: Optional[int] = None, explain: bool = False,
           expect: Optional[int] = 1, shards: Optional[int] = None, program: Optional[OnePath] = None,
-          progress: Optional[bool] = None) -> Report:
+          progress: Optional[bool] = None, chances: bool = False, expect_own: Optional[int] = None, expect_aborted: Optional[int] = None,
+          expect_intermediate: Optional[int] = None, expect_future: Optional[int] = None, expect_stale: Optional[int] = None,
+          expect_overlap: Optional[int] = None) -> Report:
     """Judges a whole log, and returns the report of its end: `sicheck.check(paths).assert_passed()` in a test.
 
     The log is in files, of which there may be any number, or comes as `lines`: texts, bytes or objects. `explain` asks for the evidence of
@@ -55,10 +57,13 @@ def check(paths: Paths = (), *, lines: Optional[Iterable[Line]] = None, every: O
     doesn't pass. So say how many your test has committed; without it one is enough, and a log that lost all others passes. `expect=0` asks
     only that nothing is in doubt, and `expect=None` for nothing: then an empty log passes, and one that is all in doubt. `every` has reports
     made on the way, which `watch` gives; here they only are read. `progress` has the program show on standard error how far it is; where it
-    isn't given, it does so if that is a terminal. Raises `CheckFailed` where the check couldn't be made.
+    isn't given, it does so if that is a terminal. `chances` asks for the report's `chances`: at how many places a likely fault of the database
+    would have been found. With `expect_future=20` and so on there have to be so many of that kind, or the report has `few`, and doesn't pass.
+    Raises `CheckFailed` where the check couldn't be made.
     """
     last = None
-    for last in _reports(_names(paths), lines, None, every, explain, expect, False, shards, program, 0.0, progress):
+    asked = Asked(chances, expect_own, expect_aborted, expect_intermediate, expect_future, expect_stale, expect_overlap)
+    for last in _reports(_names(paths), lines, None, every, explain, expect, False, shards, program, 0.0, progress, asked):
         pass
     assert last is not None  # or the reading of the answer would have raised
     return last
@@ -66,7 +71,9 @@ def check(paths: Paths = (), *, lines: Optional[Iterable[Line]] = None, every: O
 
 def watch(paths: Paths = (), *, lines: Optional[Iterable[Line]] = None, until: Optional[Until] = None, every: int = 100,
           explain: bool = False, expect: Optional[int] = 1, new: bool = False, shards: Optional[int] = None,
-          program: Optional[OnePath] = None, pause: float = 0.1, progress: Optional[bool] = None) -> Iterator[Report]:
+          program: Optional[OnePath] = None, pause: float = 0.1, progress: Optional[bool] = None, chances: bool = False,
+          expect_own: Optional[int] = None, expect_aborted: Optional[int] = None, expect_intermediate: Optional[int] = None,
+          expect_future: Optional[int] = None, expect_stale: Optional[int] = None, expect_overlap: Optional[int] = None) -> Iterator[Report]:
     """Gives a report after each `every` lines, and one at the end, while a test runs:
 
         for report in sicheck.watch(logs, until=test):
@@ -78,12 +85,29 @@ def watch(paths: Paths = (), *, lines: Optional[Iterable[Line]] = None, until: O
     With `until` (a process, a thread, an event or a function that says that the test is over, and that no client writes any more) the files
     are followed while they grow, and needn't be there at first; one that isn't there at the end, or was replaced or emptied meanwhile, is a
     `CheckFailed`. Without it files are read to their end, and named pipes until nobody writes to them; of these at most 8. Whoever leaves
-    the loop ends the check. The last report alone is one of the whole run, and `expect`, as `check` has it, speaks of that one: a report on
-    the way may be clean too early, or find `unknown` and `doubt` whose lines are still to come. Whether the test itself ended well is for
+    the loop ends the check. The last report alone is one of the whole run, and `expect`, `chances` and `expect_future` with its like, as `check`
+    has them, speak of that one: a report on the way may be clean too early, or find `unknown` and `doubt` whose lines are still to come. Whether the test itself ended well is for
     the caller to ask. With `new` the program tells less on the way: of the violations those that came and those that are gone, and how many
     findings there are; the findings of such a report are the violations of that moment. `progress` is that of `check`.
     """
-    return _reports(_names(paths), lines, until, every, explain, expect, new, shards, program, pause, progress)
+    asked = Asked(chances, expect_own, expect_aborted, expect_intermediate, expect_future, expect_stale, expect_overlap)
+    return _reports(_names(paths), lines, until, every, explain, expect, new, shards, program, pause, progress, asked)
+
+
+class Asked(NamedTuple):
+    """What is asked of the places at which something could have been found."""
+    tells: bool = False
+    own: Optional[int] = None
+    aborted: Optional[int] = None
+    intermediate: Optional[int] = None
+    future: Optional[int] = None
+    stale: Optional[int] = None
+    overlap: Optional[int] = None
+
+    def words(self) -> List[str]:
+        """The options of the command line."""
+        expected = [(kind, number) for kind, number in zip(self._fields[1:], self[1:]) if number is not None]
+        return ["--chances"] * bool(self.tells) + [word for kind, number in expected for word in (f"--expect-{kind}", str(number))]
 
 
 def _names(paths: Paths) -> List[str]:
@@ -93,13 +117,13 @@ def _names(paths: Paths) -> List[str]:
 
 
 def _words(program: str, names: Sequence[str], every: Optional[int], explain: bool, expect: Optional[int], new: bool,
-           shards: Optional[int], shows: bool) -> List[str]:
+           shards: Optional[int], shows: bool, asked: Asked) -> List[str]:
     """The command line. A name that begins like an option is made to be none."""
     words = [program, "check"]
     for option, value in (("--shards", shards), ("--every", every), ("--expect", expect)):
         if value is not None:
             words += [option, str(value)]
-    words += ["--new"] * new + ["--explain"] * explain + ["--progress"] * shows
+    words += ["--new"] * new + ["--explain"] * explain + ["--progress"] * shows + asked.words()
     return words + [f"./{name}" if name.startswith("-") else name for name in names]
 
 
@@ -153,11 +177,11 @@ class _Feeding(threading.Thread):
 
 def _reports(names: List[str], lines: Optional[Iterable[Line]], until: Optional[Until], every: Optional[int], explain: bool,
              expect: Optional[int], new: bool, shards: Optional[int], program: Optional[OnePath], pause: float,
-             progress: Optional[bool]) -> Iterator[Report]:
+             progress: Optional[bool], asked: Asked) -> Iterator[Report]:
     stop = threading.Event()
     files, given, fed = _input_of(names, lines, until, pause, stop)
     shows = is_watched() if progress is None else progress
-    words = _words(program_path(program), given, every, explain, expect, new, shards, shows)
+    words = _words(program_path(program), given, every, explain, expect, new, shards, shows, asked)
     is_unproved = _is_unproved(words[0])
     if is_unproved and os.environ.get(PROVED):
         raise CheckFailed(f"{words[0]} isn't proved, and {PROVED} asks for the proved program")

@@ -27,6 +27,7 @@ def message_of(head: str, report: "Report", findings: Sequence["Finding"]) -> st
     if report.short:
         lines.append(f"  {report.short.committed} committed, {report.short.expected} expected, in doubt {report.short.indoubt}"
                      + (f": {', '.join(map(str, report.short.ids))}" if report.short.ids else ""))
+    lines += [f"  at {it.places} places {it.kind} could have been found, {it.expected} expected" for it in report.few]
     if not report.proved:
         lines.append(f"  told by a build of sicheck that isn't proved: {HOW_TO_PROVE}")
     return "\n".join(lines)

@@ -3,7 +3,7 @@ import re
 from typing import Dict, Iterable, Iterator, List, NamedTuple, Optional, Tuple, Union
 
 from . import answers
-from .answers import GONE, HEAD, KINDS, LATER, NUMBER, OVERLAP, OWN, finding_of, refusal_of, shortage_of, summary_of
+from .answers import GONE, HEAD, KINDS, LATER, NUMBER, OVERLAP, OWN, ending_of, finding_of, is_of_ending, refusal_of, summary_of
 from .failing import HOW_TO_PROVE, message_of
 from .faults import CheckFailed, Undecided, Unproved, Violation
 from .places import FilePlace, Files, Places
@@ -126,6 +126,29 @@ class Short(NamedTuple):
     """The least ids of those in doubt, at most 20."""
 
 
+class Chance(NamedTuple):
+    """At how many places a likely fault of the database would have been a finding of one kind, and on how many keys these are."""
+    places: int
+    keys: int
+
+
+class Chances(NamedTuple):
+    """What could have been found, by kind: docs/FORMAT.md says what a place is."""
+    own: Chance
+    aborted: Chance
+    intermediate: Chance
+    future: Chance
+    stale: Chance
+    overlap: Chance
+
+
+class Few(NamedTuple):
+    """The run ended with fewer places of a kind than were expected: with `expect_future` and its like."""
+    kind: str
+    places: int
+    expected: int
+
+
 class Report(NamedTuple):
     """What is known at one moment: after so many lines, or at the end of the run."""
     verdict: str
@@ -146,11 +169,15 @@ class Report(NamedTuple):
     proved: bool = True
     """Whether the program is the proved one; False where a checkout ran what it builds before its proof. Of an answer that is read from
     elsewhere it isn't known, and taken to be so."""
+    chances: Optional[Chances] = None
+    """What could have been found, at the end of a run with `chances`."""
+    few: Tuple[Few, ...] = ()
+    """The kinds with fewer places than were expected."""
 
     @property
     def status(self) -> int:
         """The exit status of a run that ends so: 0, 10 or 20."""
-        return status_of(self, self.short)
+        return status_of(self, self.short, self.few)
 
     @property
     def passed(self) -> bool:
@@ -185,18 +212,19 @@ class Report(NamedTuple):
         if self.status == 20:
             raise Violation(message_of("snapshot isolation is violated", self, self.violations), self)
         if self.status == 10:
-            raise Undecided(message_of("not everything could be judged", self, self.findings), self)
+            is_short = self.verdict == "clean" and not self.refused
+            raise Undecided(message_of("less is there than was expected" if is_short else "not everything could be judged", self, self.findings), self)
         if not (self.proved or unproved):
             raise Unproved(f"nothing was found, but this build of sicheck isn't proved: {HOW_TO_PROVE}; assert_passed(unproved=True) takes "
                            "its word", self)
         return self
 
 
-def status_of(summary: Union[answers.Summary, Report], short: Optional[Short]) -> int:
+def status_of(summary: Union[answers.Summary, Report], short: Optional[Short], few: Tuple[Few, ...]) -> int:
     """The exit status of a run whose last report says so."""
     if summary.verdict == "violation":
         return 20
-    return 10 if summary.verdict == "open" or summary.refused or short else 0
+    return 10 if summary.verdict == "open" or summary.refused or short or few else 0
 
 
 class Told(NamedTuple):
@@ -209,6 +237,8 @@ class Told(NamedTuple):
     refusals: Tuple[Refusal, ...]
     """The lines refused since the report before."""
     short: Optional[Short]
+    chances: Optional[Chances]
+    few: Tuple[Few, ...]
 
 
 def _order(finding: Finding) -> Tuple[bytes, int, int, int]:
@@ -229,7 +259,8 @@ class ReportReader:
         self._refused_before = 0
         self._told: List[Finding] = []
         self._gone: List[Finding] = []
-        self._short: Optional[Short] = None
+        self._ending: List[str] = []
+        self._has_ended = False  # whether a report had lines that the last one alone may have
         self._standing: Dict[Finding, Finding] = {}
         self._count = 0
         self._is_open = False  # whether lines came since the last report
@@ -245,16 +276,20 @@ class ReportReader:
         findings = told.findings if self._is_whole else tuple(sorted(self._standing.values(), key=_order))
         summary = told.summary
         return Report(summary.verdict, summary.transactions, summary.findings, summary.refused, findings, tuple(self._refusals), told.new,
-                      told.gone, told.short)
+                      told.gone, told.short, chances=told.chances, few=told.few)
 
     def read(self, line: str) -> Optional[Told]:
         """The same, but returns what the report tells alone, which costs nothing for what stands as it stood."""
         self._count += 1
         line = line[:-1] if line.endswith("\r") else line
         summary = summary_of(line)
+        if self._has_ended:
+            raise self._fault("stands behind the last report")
         if summary:
             return self._report(summary)
         self._is_open = True
+        if self._ending and not is_of_ending(line):
+            raise self._fault("stands behind lines that only a summary follows")
         refusal = refusal_of(line)
         if refusal:
             self._refusals.append(self._refusal(refusal))
@@ -264,8 +299,10 @@ class ReportReader:
             self._gone.append(self._finding(line[len(GONE):]))
         elif HEAD.match(line):
             self._told.append(self._finding(line))
+        elif is_of_ending(line):
+            self._ending.append(line)
         else:
-            self._short = self._shortfall(line)
+            raise self._fault("is none that `sicheck check` writes")
         return None
 
     def end(self) -> None:
@@ -297,11 +334,15 @@ class ReportReader:
             raise self._fault("isn't the evidence of the finding before it")
         self._told[-1].evidence = line.strip()
 
-    def _shortfall(self, line: str) -> Short:
-        told = shortage_of(line)
+    def _ended(self) -> Tuple[Optional[Short], Optional[Chances], Tuple[Few, ...]]:
+        """What stands between the findings and the summary."""
+        told = ending_of(self._ending)
         if told is None:
-            raise self._fault("is none that `sicheck check` writes")
-        return Short(told.committed, told.expected, told.in_doubt, tuple(told.ids))
+            raise self._fault("is the summary, and the lines before it that tell what could have been found, or what the run is short of, "
+                              "aren't whole")
+        short = told.shortage and Short(told.shortage.committed, told.shortage.expected, told.shortage.in_doubt, tuple(told.shortage.ids))
+        chances = Chances(*(Chance(it.places, it.keys) for it in told.chances)) if told.chances else None
+        return short, chances, tuple(Few(KINDS[it.kind], it.places, it.expected) for it in told.few)
 
     def _report(self, summary: answers.Summary) -> Told:
         findings, gone = tuple(self._told), tuple(self._gone)
@@ -320,8 +361,9 @@ class ReportReader:
             self._standing.update((it, it) for it in findings)
         self._check(summary)
         refusals, self._refused_before = tuple(self._refusals[self._refused_before:]), len(self._refusals)
-        told = Told(summary, findings, new, gone, refusals, self._short)
-        self._told, self._gone, self._short, self._is_open = [], [], None, False
+        told = Told(summary, findings, new, gone, refusals, *self._ended())
+        self._has_ended = bool(self._ending)
+        self._told, self._gone, self._ending, self._is_open = [], [], [], False
         return told
 
     def _check(self, summary: answers.Summary) -> None:

@@ -3,7 +3,7 @@ import json
 from typing import Any, Dict, Iterable, Iterator, List, Optional
 
 from .places import Files
-from .reports import Finding, Refusal, Report, ReportReader, Short, Told, lines_in, status_of
+from .reports import Chances, Few, Finding, Refusal, Report, ReportReader, Short, Told, lines_in, status_of
 
 
 def json_reports(answer: Iterable[bytes], files: Optional[Files], only_last: bool) -> Iterator[str]:
@@ -25,7 +25,8 @@ def json_reports(answer: Iterable[bytes], files: Optional[Files], only_last: boo
 
 def json_lines(number: int, told: Told, findings: Iterable[Finding], refusals: Iterable[Refusal], files: Optional[Files],
                is_last: bool) -> Iterator[str]:
-    """The lines of one report: of each refusal, each of the findings, each that is gone, what is short, and the summary."""
+    """The lines of one report: of each refusal, each of the findings, each that is gone, what could have been found, what is short, and the
+    summary."""
     head = {"report": number}
     for refusal in refusals:
         yield _text({"is": "refusal", **head, **_refusal(refusal)})
@@ -33,11 +34,15 @@ def json_lines(number: int, told: Told, findings: Iterable[Finding], refusals: I
         yield _text({"is": "finding", **head, **_finding(finding, files)})
     for finding in told.gone:
         yield _text({"is": "gone", **head, **_finding(finding, files)})
+    for kind, chance in zip(Chances._fields, told.chances or ()):
+        yield _text({"is": "chances", **head, "kind": kind, "places": chance.places, "keys": chance.keys})
     if told.short:
         yield _text({"is": "short", **head, **_short(told.short)})
+    for few in told.few:
+        yield _text({"is": "short", **head, **_few(few)})
     summary = told.summary
     yield _text({"is": "summary", **head, "last": is_last, "transactions": summary.transactions, "findings": summary.findings,
-                 "refused": summary.refused, "verdict": summary.verdict, "status": status_of(summary, told.short)})
+                 "refused": summary.refused, "verdict": summary.verdict, "status": status_of(summary, told.short, told.few)})
 
 
 def _text(line: Dict[str, Any]) -> str:
@@ -71,9 +76,13 @@ def _short(short: Short) -> Dict[str, Any]:
     return {"committed": short.committed, "expected": short.expected, "indoubt": short.indoubt, "ids": list(short.ids)}
 
 
+def _few(few: Few) -> Dict[str, Any]:
+    return {"kind": few.kind, "places": few.places, "expected": few.expected}
+
+
 def count_lines(report: Report, by_key: bool = True) -> Iterator[str]:
     """How many findings there are of each kind, and of each kind on each key, most first; the lines refused, by reason; and of a run that is
-    short of what was expected, how many are in doubt and how many are committed."""
+    short of what was expected, how many are in doubt, how many are committed, and how many places there are of the kinds with too few."""
     rows: List[List[str]] = []
     for kind, keys in report.counts().items():
         rows.append([str(sum(keys.values())), kind])
@@ -87,6 +96,8 @@ def count_lines(report: Report, by_key: bool = True) -> Iterator[str]:
     if report.short:
         rows.append([str(report.short.indoubt), "in doubt"])
         rows.append([str(report.short.committed), "committed, of", str(report.short.expected), "expected"])
+    for few in report.few:
+        rows.append([str(few.places), f"places of the kind {few.kind}, of", str(few.expected), "expected"])
     width = max([len(row[0]) for row in rows], default=0)
     for row in rows:
         yield " ".join([row[0].rjust(width), *row[1:]])

@@ -8,6 +8,7 @@ from dataclasses import dataclass, field, replace
 
 MOST_BYTES, MOST_OPS, MOST_KEY, MOST_DEPTH = 1_048_576, 4_096, 128, 127
 NUMBERS = {"unknown": 1, "doubt": 2, "own": 3, "aborted": 4, "intermediate": 5, "future": 6, "stale": 7, "overlap": 8}
+CHANCES = ("own", "aborted", "intermediate", "future", "stale", "overlap")
 FIELDS = {"txn": ("id", "start", "status", "commit", "ops"), "resolve": ("id", "status", "commit"), "withdraw": ("id",), "setup": ("key", "value")}
 CODES = {"too-long": 1, "not-json": 2, "not-object": 3, "bad-kind": 4, "bad-field": 5, "bad-status": 6, "too-many-ops": 7, "bad-op": 8,
          "id-present": 12, "no-such": 13, "not-in-doubt": 14, "stamp-order": 15, "stamp-taken": 16, "value-twice": 17, "value-taken": 18,
@@ -259,14 +260,58 @@ def findings(present):
     return [(place[1], line, shown) for place, line, shown in sorted(found, key=lambda it: it[0])]
 
 
+# ---- what could have been found
+
+
+def is_free(txn, number, key):
+    """Whether the operation is a free read of the key: "its transaction is committed and wrote the key at no earlier operation"."""
+    return txn.status == "committed" and txn.ops[number][:2] == ("r", key) and txn.last_write(key, number) is None
+
+
+def concurrent(one, other):
+    """Whether they are: "Committed transactions are concurrent if each starts before the other commits."."""
+    return one.status == other.status == "committed" and one.start < other.commit and other.start < one.commit
+
+
+def places(present, key):
+    """The places on the key: of a read by the transaction and the operation, of a writer by the transaction."""
+    found = {kind: set() for kind in CHANCES}
+    reads = [(it, number) for it in present.txns for number, op in enumerate(it.ops) if op[:2] == ("r", key) and it.status == "committed"]
+    free = [(it, number) for it, number in reads if is_free(it, number, key)]
+    for txn, number in reads:
+        if not is_free(txn, number, key):
+            found["own"].add((txn.id, number))
+    for txn, number in free:
+        for other in present.txns:
+            if other.id != txn.id and concurrent(txn, other) and other.installs(key):
+                found["future"].add((txn.id, number))
+                if len([word for word, name, _ in other.ops if (word, name) == ("w", key)]) >= 2:
+                    found["intermediate"].add((txn.id, number))
+    for writer in present.txns:
+        if writer.last_write(key) is not None and writer.status == "aborted":
+            if any(reader.commit > writer.start for reader, _ in free):
+                found["aborted"].add(writer.id)
+            if any(it.commit > writer.start for it in present.versions(key)):
+                found["overlap"].add(writer.id)
+        if writer.installs(key) and any(reader.id != writer.id and reader.ops[number][2] == writer.last_write(key) for reader, number in free):
+            found["stale"].add(writer.id)
+    return found
+
+
+def chances(present):
+    """Of each kind how many places there are, and on how many keys."""
+    on_keys = [places(present, key) for key in {op[1] for txn in present.txns for op in txn.ops}]
+    return {kind: (sum(len(it[kind]) for it in on_keys), sum(1 for it in on_keys if it[kind])) for kind in CHANCES}
+
+
 # ---- lines out
 
 
 class Run:
     """A run over lines in the order in which they are taken: what it writes, and its status."""
 
-    def __init__(self, every=None, explain=False):
-        self.every, self.explain = every, explain
+    def __init__(self, every=None, explain=False, chances=False, expected=None):
+        self.every, self.explain, self.chances, self.expected = every, explain, chances, expected or {}
         self.present, self.decided, self.refused, self.text, self.verdict = Present(), 0, 0, [], None
 
     def take(self, source, number, line):
@@ -282,17 +327,23 @@ class Run:
         if self.every and self.decided % self.every == 0:
             self.report()
 
-    def report(self):
+    def report(self, ending=()):
         found = findings(self.present)
         for _, line, shown in found:
             self.text += [line, shown] if self.explain and shown else [line]
+        self.text += ending
         self.verdict = "clean" if not found else "violation" if any(kind >= 3 for kind, _, _ in found) else "open"
         self.text.append(f"transactions={len(self.present.txns)} findings={len(found)} refused={self.refused} verdict={self.verdict}")
 
     def end(self):
         """The last report: the whole text, and the exit status."""
-        self.report()
-        return "".join(it + "\n" for it in self.text), 20 if self.verdict == "violation" else 10 if self.verdict == "open" or self.refused else 0
+        there = chances(self.present) if self.chances or self.expected else {}
+        told = [f"chances kind={kind} places={there[kind][0]} keys={there[kind][1]}" for kind in CHANCES if self.chances]
+        short = [f"short kind={kind} places={there[kind][0]} expected={self.expected[kind]}"
+                 for kind in CHANCES if there.get(kind, (0,))[0] < self.expected.get(kind, 0)]  # fmt: skip
+        self.report(told + short)
+        return ("".join(it + "\n" for it in self.text),
+                20 if self.verdict == "violation" else 10 if self.verdict == "open" or self.refused or short else 0)  # fmt: skip
 
 
 def lines_of(log):

@@ -57,6 +57,8 @@ STANDS_ON_REFUSED = re.compile(r"not proved; it stands on (.*), which antt refus
 LAST_ROW = re.compile(r"^(holes=\d+|only=\d+ holes=\d+)\s*\Z", re.M)
 # No function has the name that --only has.
 NO_SUCH_FUNCTION = re.compile(r"error: `\w+` has (?:no function|several functions)[^`]*`([^`]+)`")
+# Several functions have the name that --only has, and these are their paths.
+SEVERAL_FUNCTIONS = re.compile(r"error: several functions are named `([^`]+)`: help: write one of (.*)")
 # A row with a place, and one of the front end, which stopped before the prover read anything.
 PLACED_ROW = re.compile(r"(?:note: )?(?:\./)?((?:src|proofs)/\S+?):(\d+):\d+: (.*)", re.S)
 FRONT_END_PLACE = re.compile(r"--> (src/\S+?):(\d+)()")

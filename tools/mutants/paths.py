@@ -1,5 +1,7 @@
 """Finds under which path a check prints a function, and where the function's proofs stand by that."""
 
+import re
+
 from . import kit
 
 
@@ -48,8 +50,11 @@ class PrintedPaths:
                 self.of[it] = found[0]
 
     def ask_for_next(self, said):
-        """Asks for the next path where a check has no function of the one that was asked for, and returns whether there
-        is one."""
+        """Asks for the next path where a check has no function of the one that was asked for, or several, and returns
+        whether there is one."""
+        several = kit.SEVERAL_FUNCTIONS.search(said)
+        if several:
+            return self.ask_for_one_of(several[1], re.findall(r"`([^`]+)`", several[2]))
         told = kit.NO_SUCH_FUNCTION.search(said)
         unfit = [it for it, path in self.asked.items() if told and told[1] in (path, path.partition("::")[2])]
         for it in unfit:
@@ -59,6 +64,20 @@ class PrintedPaths:
                 self.unnamed.add(it)
                 return False
             self.asked[it] = left[0]
+        return bool(unfit)
+
+    def ask_for_one_of(self, name, paths):
+        """Asks for the one of these paths that each function has which was asked for by this name, and returns whether
+        each has one. Behind a trait's name a path has all arguments of the trait."""
+        unfit = [it for it, path in self.asked.items() if name in (path, path.partition("::")[2])]
+        for it in unfit:
+            *modules, scope, _ = it.path.split("::")
+            begins = "::".join([*modules, scope.partition(":")[0]])
+            fit = [path for path in paths if path.startswith(begins)]
+            if len(fit) != 1:
+                self.unnamed.add(it)
+                return False
+            self.asked[it] = fit[0]
         return bool(unfit)
 
     def proof_folders(self, function):

@@ -1,4 +1,5 @@
 pub mod Empty
+pub mod Noting
 pub mod Holders
 pub mod KeyPlaces
 pub mod WriterChanges

@@ -1,4 +1,5 @@
 pub mod Faults
+pub mod Notes
 pub mod Books
 pub mod Stamps
 pub mod KeyNumbers

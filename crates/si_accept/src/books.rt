@@ -1,18 +1,23 @@
 //! The book: the journal of accepted edits with its limit, over what is present. What decides an edit stands here; how it is found who
 //! holds what, in `contents.rt` and the indexes below it.
 
-ghost use Rattle.std.specs.Prelude.{◌≡◌, ℕ, ◌≤◌, ◌<◌, [], ◌∷◌, ◌++◌, length, None, IfOk, OnOk, IfErr, OnErr, IfNone, IsTrue, ◌↔◌};
+ghost use Rattle.std.specs.Prelude.{◌≡◌, ℕ, ◌≤◌, ◌<◌, [], ◌∷◌, ◌++◌, length, max, take, slice_get, None, Some, IfOk, OnOk, IfErr, OnErr, IfNone, IsTrue, ◌↔◌};
 ghost use Rattle.std.specs.Option.{option_copied};
 ghost use Rattle.si_model.specs.Edits.{IsAcceptable, with_id, after};
 ghost use Rattle.si_model.specs.History.{IsHistory};
 ghost use Rattle.si_model.specs.Journals.{present, IsAccepted, refusal_after};
+ghost use Rattle.si_model.specs.declared.edits.Edit.{Edit as AnEdit};
 ghost use Rattle.si_accept.specs.Faults.{IsFaultOf};
+ghost use Rattle.si_accept.specs.Notes.{AreNotes, IsNoted, noted_at, txn_before};
 ghost use Rattle.si_accept.specs.Statuses.{committed_among, doubtful_among};
 
 use crate::AcceptFault;
 use crate::contents::Contents;
+use crate::notes::Notes;
 use si_model::laws::{accepted_grows, present_grows, present_is_history};
-use si_model::{Edit, Key, MOST_EDITS, Number, OutOfMemory, Refusal, Txn, TxnId, Value};
+use si_model::{
+    Edit, Holders, Key, MOST_EDITS, Number, Op, OutOfMemory, Refusal, Stamp, Txn, TxnId, Value,
+};
 use std::alloc::Global;
 use std::hash::RandomState;
 use std::marker::Model;
@@ -26,6 +31,7 @@ pub struct Book {
     limit: usize,
     // The journal, and what is present after it.
     contents: Contents,
+    notes: Notes,
 }
 
 impl Model for Book {
@@ -33,9 +39,40 @@ impl Model for Book {
 
     ghost Value = { BookState };
 
-    ghost view = { λ b. record { limit = b.limit; journal = b.contents.journal } };
+    ghost view = { λ b. record { limit = b.limit; journal = b.contents.journal; noted = b.notes.from } };
 
-    ghost invariant = { λ b. IsBook b.limit b.contents.journal b.contents.present };
+    ghost invariant = { λ b. IsBook b.limit b.contents.journal b.contents.present b.notes };
+}
+
+impl Holders for Book {
+    ghost use Rattle.si_accept.specs.Books.{BookState};
+    ghost use Rattle.si_model.specs.Journals.{present};
+
+    ghost present = { λ (b : BookState). present b.journal };
+
+    fn with_id(&self, id: TxnId) -> Option<&Txn> {
+        self.contents.with_id(id)
+    }
+
+    fn least_that_installs_at(&self, stamp: Stamp) -> Option<TxnId> {
+        self.contents.least_that_installs_at(stamp)
+    }
+
+    fn least_with_stamp(&self, stamp: Stamp) -> Option<TxnId> {
+        self.contents.least_with_stamp(stamp)
+    }
+
+    fn writer(&self, key: &Key, value: Value) -> Option<TxnId> {
+        self.contents.writer(key, value)
+    }
+
+    fn set_up_value(&self, key: &Key) -> Option<Value> {
+        self.contents.set_up_value(key)
+    }
+
+    fn twice_refusal(&self, ops: &[Op]) -> Option<Refusal> {
+        self.contents.twice_refusal(ops)
+    }
 }
 
 impl Book {
@@ -45,11 +82,12 @@ impl Book {
     pub fn new(alloc: Global, hash: RandomState, limit: usize) -> Self
         requires some { 1 ≤ limit }
         requires most { limit ≤ MOST_EDITS }
-        ensures { result ≡ record { limit = limit; journal = [] } }
+        ensures { result ≡ record { limit = limit; journal = []; noted = 0 } }
     {
         Book {
             limit,
             contents: Contents::new(alloc, hash),
+            notes: Notes::new(alloc, hash),
         }
     }
 
@@ -84,10 +122,11 @@ impl Book {
         ensures present { OnOk result (present self.new.journal ≡ after edit (present self.old.journal)) }
         ensures err { OnErr result (self.new ≡ self.old) }
     {
+        note(&mut self.notes, &self.contents, &edit)?;
         self.contents.apply(edit)?;
         present_grows();
         accepted_grows();
-        Ok(Number(self.journal().len() as u64))
+        Ok(Number(self.contents.journal().len() as u64))
     }
 
     /// The first reason against the edit, if there is one.
@@ -135,6 +174,37 @@ impl Book {
         self.contents.journal()
     }
 
+    /// The transaction that the edit at this place of the journal resolves or withdraws, as it was before that edit.
+    ///
+    /// It is known from a place on that [`Book::forget`] moves.
+    pub fn before(&self, place: usize) -> Option<&Txn>
+        requires noted { self.now.noted ≤ place }
+        requires within { place < length self.now.journal }
+        ensures { (e : AnEdit) → slice_get self.now.journal place ≡ Some e → option_copied result ≡ txn_before (present (take place self.now.journal)) e }
+    {
+        match &self.contents.journal()[place] {
+            Edit::Arrive(_) | Edit::SetUp(..) => None,
+            Edit::Resolve(..) | Edit::Withdraw(_) => self.notes.get(place),
+        }
+    }
+
+    /// From which place of the journal on [`Book::before`] can be asked.
+    pub fn noted(&self) -> usize
+        ensures noted { result ≡ self.now.noted }
+        ensures within { result ≤ length self.now.journal }
+    {
+        self.notes.from
+    }
+
+    /// Nobody asks [`Book::before`] for a place before the first one any more: so what is kept for them may go.
+    pub fn forget(&mut self, first: usize)
+        ensures others { self.new ≡ record self.old { noted = self.new.noted } }
+        ensures onward { self.old.noted ≤ self.new.noted }
+        ensures kept { self.new.noted ≤ max self.old.noted first }
+    {
+        self.notes.forget(first, self.contents.journal().len());
+    }
+
     /// How many transactions are present.
     pub fn len(&self) -> usize
         ensures { result ≡ length (present self.now.journal).txns }
@@ -170,5 +240,23 @@ impl Book {
         ensures most { result ≤ MOST_EDITS }
     {
         self.limit
+    }
+}
+
+/// Notes the transaction that the edit, which is accepted next, resolves or withdraws.
+#[tactic(auto, unfolding(si_model::specs::Edits::refusal_on))]
+fn note(notes: &mut Notes, contents: &Contents, edit: &Edit) -> Result<(), OutOfMemory>
+    requires notes { AreNotes contents.now.journal notes.old }
+    requires acceptable { IsAcceptable contents.now.present edit.now }
+    ensures from { notes.new.from ≡ notes.old.from }
+    ensures notes { AreNotes contents.now.journal notes.new }
+    ensures next { OnOk result (IsNoted contents.now.present edit.now (noted_at notes.new (length contents.now.journal))) }
+{
+    match edit {
+        Edit::Resolve(id, _) | Edit::Withdraw(id) => match contents.get(*id) {
+            Some(txn) => notes.add(contents.journal().len(), txn.try_clone()?),
+            None => Ok(()),
+        },
+        Edit::Arrive(_) | Edit::SetUp(..) => Ok(()),
     }
 }

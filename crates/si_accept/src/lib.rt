@@ -11,6 +11,7 @@ mod contents;
 pub mod faults;
 mod index;
 mod key_numbers;
+mod notes;
 mod pairs;
 mod set_ups;
 mod stamps;

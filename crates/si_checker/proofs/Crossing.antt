@@ -10,7 +10,7 @@ use Rattle.std.proofs.alloc.Global.TheSendSync as global
 use Rattle.std.proofs.marker.PhantomData.TheSendSync as phantom
 use Rattle.si_words.proofs.seats.ShardSeat.TheSendSync as seat
 use Rattle.si_words.proofs.words.Words.TheSendSync as words
-use Rattle.si_shard.proofs.Crossing.{shard_send}
+use Rattle.si_shard.proofs.journal_shards.JournalShard.TheSendSync as shard
 use Rattle.si_checker.specs.declared.names.Name.{Ghosts}
 use Rattle.si_checker.specs.contracts.locked_shards.LockedShard as LockedShard
 use Rattle.si_checker.specs.contracts.locked_shards.LockedShard.TheInside as inside
@@ -22,7 +22,7 @@ module _ (N : RattleType) (G : Ghosts N.Denot) where
   locked_shard_send : IsSend (LockedShard.the_row N G)
   locked_shard_send =
       view_send (inside.the_row N G) _ _ _ _
-      (recorded_send (inside.the_field N G).row _ _ (inside.the_type N G).to_one (struct_send (shape (inside.the_type N G)) (shard_send, (seat.the_send, (phantom.the_field_send N, tt)))))
+      (recorded_send (inside.the_field N G).row _ _ (inside.the_type N G).to_one (struct_send (shape (inside.the_type N G)) (shard.the_field_send, (seat.the_send, (phantom.the_field_send N, tt)))))
 
   locked_book_send : IsSend (LockedBook.the_row N G)
   locked_book_send = search (locked_book.the_send)

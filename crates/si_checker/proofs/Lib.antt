@@ -4,3 +4,4 @@ pub mod Storing
 pub mod Covering
 pub mod Fresh
 pub mod Told
+pub mod Present

@@ -2,8 +2,8 @@
 ghost use Rattle.std.specs.Prelude.{◌≡◌, ◌+◌, ◌-◌, ◌<◌, ◌≤◌, length, drop, IfOk, IfSome};
 ghost use Rattle.std.specs.Vec.{vec_len};
 
-use si_model::{Edit, MOST_EDITS, OutOfMemory};
-use si_shard::SharedEdits;
+use si_model::{MOST_EDITS, OutOfMemory};
+use si_shard::{SharedEdits, ToldEdit};
 use std::marker::Model;
 
 /// A part of the journal. Contracts see where it begins, and its edits.
@@ -28,7 +28,7 @@ impl Model for Block {
 
 impl Block {
     /// The block of these edits, which begins at this position. It fails where memory is refused.
-    pub fn new(first: u64, edits: Vec<Edit>) -> Result<Self, OutOfMemory>
+    pub fn new(first: u64, edits: Vec<ToldEdit>) -> Result<Self, OutOfMemory>
         requires { first + vec_len edits ≤ MOST_EDITS }
         ensures { IfOk result (λ block. block ≡ record { first = first; edits = edits.items }) }
     {

@@ -1,13 +1,15 @@
 //! The checker: what callers with a pass do.
-ghost use Rattle.std.specs.Prelude.{◌≡◌, ◌↔◌, ℕ, ◌<◌, ◌≤◌, true, [], ◌++◌, length, take, slice_index, IfOk, OnOk, IfErr, OnErr, IfSome};
+ghost use Rattle.std.specs.Prelude.{◌≡◌, ◌↔◌, ℕ, ◌<◌, ◌≤◌, true, [], ◌++◌, length, take, vec_len, slice_index, IfOk, OnOk, IfErr, OnErr, IfSome};
 ghost use Rattle.std.specs.Sync.Mutex.{mutex_guard_value};
 ghost use Rattle.si_model.specs.Findings.{findings};
 ghost use Rattle.si_model.specs.Form.{IsWellFormed};
+ghost use Rattle.si_model.specs.History.{IsHistory};
 ghost use Rattle.si_model.specs.Journals.{IsAccepted, present, refusal_after};
 ghost use Rattle.si_graph.specs.Phenomena.{IsPlSi};
 ghost use Rattle.si_graph.specs.Snapshots.{IsSnapshot};
 ghost use Rattle.si_accept.specs.Faults.{IsFaultOf};
 ghost use Rattle.si_accept.specs.Statuses.{committed_among, doubtful_among};
+ghost use Rattle.si_shard.specs.KeyNotes.{not_among};
 ghost use Rattle.si_shard.specs.Laws.{shard_id};
 ghost use Rattle.si_shard.specs.Shards.{findings_in};
 ghost use Rattle.si_words.specs.Entries.{IsBeginning, edits_of};
@@ -20,13 +22,13 @@ ghost use Rattle.si_checker.specs.declared.reports.ReportFault.TheVariants as fa
 use crate::locked_books::LockedBook;
 use crate::locked_shards::LockedShard;
 use crate::openings::Parts;
-use crate::reports::{Report, ReportFault, SettledFindings, ShardReport, Statuses};
+use crate::reports::{Report, ReportFault, SettledChanges, SettledFindings, ShardReport, Statuses};
 use crate::{AcceptFault, Name};
 use si_accept::Book;
 use si_graph::laws::{emptiness_is_exact, snapshots_are_clean};
-use si_model::laws::present_is_history;
-use si_model::{Edit, Finding, MOST_EDITS, Number, OutOfMemory};
-use si_shard::put_all_in_order;
+use si_model::laws::{accepted_begins, present_is_history};
+use si_model::{Edit, Finding, MOST_EDITS, Number, OutOfMemory, Txn};
+use si_shard::{Changes, put_all_in_order, put_changes_in_order};
 use si_words::{Pass, ShardSeat, Words};
 use std::alloc::{AllocError, Global};
 use std::hash::RandomState;
@@ -63,8 +65,9 @@ impl<N: Name> Checker<N> {
             seats,
             limit,
         } = parts;
+        let shards = seats.len();
         let locked_shards = locked_shards_of(alloc, hash, seats)?;
-        let locked_book = LockedBook::new(alloc, Book::new(alloc, hash, limit), book);
+        let locked_book = LockedBook::new(alloc, Book::new(alloc, hash, limit), book, shards);
         Ok(Checker {
             alloc,
             words,
@@ -193,6 +196,107 @@ impl<N: Name> Checker<N> {
         })
     }
 
+    /// What is found in the whole journal, which the pass sees, and wasn't after so many first edits of it, and what was and isn't.
+    ///
+    /// It costs what changed where this was asked last after those edits, and else as much as applying them. What shards have left to apply
+    /// is applied here. After a fault what was applied stands, and the pass has seen the journal.
+    pub fn settled_changes<R: Wait>(
+        &self,
+        rt: &R,
+        pass: &mut Pass,
+        since: u64,
+    ) -> Result<SettledChanges, ReportFault>
+        requires own { pass.old.table ≡ N.board.table }
+        requires since { since ≤ length pass.old.view.seen }
+        ensures fault { (j : ℕ) → IfErr result (λ f. f ≡ fault.Spoiled j → j < N.board.shards) }
+        ensures number { IfOk result (λ r. r.number ≡ length pass.new.view.seen) }
+        ensures count { IfOk result (λ r. r.transactions ≡ length (present (edits_of pass.new.view.seen)).txns) }
+        ensures came { IfOk result (λ r. r.came.items ≡ not_among (findings (present (take since (edits_of pass.new.view.seen)))) (findings (present (edits_of pass.new.view.seen)))) }
+        ensures went { IfOk result (λ r. r.went.items ≡ not_among (findings (present (edits_of pass.new.view.seen))) (findings (present (take since (edits_of pass.new.view.seen))))) }
+        ensures sees { SeesJournal N.board pass.new.view.seen pass.old pass.new }
+    {
+        let mut guard = self.locked_book.lock(rt);
+        let locked_book = &mut *guard;
+        locked_book.show(&self.words, pass);
+        self.changes_of(rt, locked_book, since as usize)
+    }
+
+    /// What is found in the whole journal and wasn't after so many first edits of it, and what was and isn't.
+    fn changes_of<R: Wait>(
+        &self,
+        rt: &R,
+        locked_book: &mut LockedBook<N>,
+        since: usize,
+    ) -> Result<SettledChanges, ReportFault>
+        requires { since ≤ length locked_book.old.journal }
+        ensures fault { (j : ℕ) → IfErr result (λ f. f ≡ fault.Spoiled j → j < N.board.shards) }
+        ensures locked_book { locked_book.new ≡ locked_book.old }
+        ensures number { IfOk result (λ r. r.number ≡ length locked_book.old.journal) }
+        ensures count { IfOk result (λ r. r.transactions ≡ length (present (edits_of locked_book.old.journal)).txns) }
+        ensures came { IfOk result (λ r. r.came.items ≡ not_among (findings (present (take since (edits_of locked_book.old.journal)))) (findings (present (edits_of locked_book.old.journal)))) }
+        ensures went { IfOk result (λ r. r.went.items ≡ not_among (findings (present (edits_of locked_book.old.journal))) (findings (present (take since (edits_of locked_book.old.journal))))) }
+    {
+        let Changes { came, went } = self.settle_changes(rt, locked_book, since)?;
+        let transactions = locked_book.transactions();
+        Ok(SettledChanges {
+            number: locked_book.len(),
+            transactions,
+            came,
+            went,
+        })
+    }
+
+    /// Each shard applies what it has left of the journal: what came and what went on the keys of all, in order.
+    fn settle_changes<R: Wait>(
+        &self,
+        rt: &R,
+        locked_book: &mut LockedBook<N>,
+        since: usize,
+    ) -> Result<Changes, ReportFault>
+        requires { since ≤ length locked_book.old.journal }
+        ensures fault { (j : ℕ) → IfErr result (λ f. f ≡ fault.Spoiled j → j < N.board.shards) }
+        ensures locked_book { locked_book.new ≡ locked_book.old }
+        ensures came { IfOk result (λ r. r.came.items ≡ not_among (findings (present (take since (edits_of locked_book.old.journal)))) (findings (present (edits_of locked_book.old.journal)))) }
+        ensures went { IfOk result (λ r. r.went.items ≡ not_among (findings (present (edits_of locked_book.old.journal))) (findings (present (take since (edits_of locked_book.old.journal))))) }
+    {
+        let mut changes = Changes::new(self.alloc);
+        for k in 0..self.locked_shards.len() {
+            self.change_shard(rt, locked_book, k, since, &mut changes)?;
+        }
+        put_changes_in_order(&mut changes.came);
+        put_changes_in_order(&mut changes.went);
+        present_is_history();
+        accepted_begins();
+        let _accepted = locked_book.journal();
+        Ok(changes)
+    }
+
+    /// The shard applies what it has left of the journal, and what came and what went on its keys is added.
+    fn change_shard<R: Wait>(
+        &self,
+        rt: &R,
+        locked_book: &mut LockedBook<N>,
+        k: usize,
+        since: usize,
+        changes: &mut Changes,
+    ) -> Result<(), ReportFault>
+        requires shard { k < N.board.shards }
+        requires since { since ≤ length locked_book.old.journal }
+        ensures fault { (j : ℕ) → IfErr result (λ f. f ≡ fault.Spoiled j → j ≡ k) }
+        ensures locked_book { locked_book.new ≡ locked_book.old }
+        ensures came { OnOk result (changes.new.came.items ≡ changes.old.came.items
+            ++ not_among (findings_in (shard_id k N.board.shards) (present (take since (edits_of locked_book.old.journal)))) (findings_in (shard_id k N.board.shards) (present (edits_of locked_book.old.journal)))) }
+        ensures went { OnOk result (changes.new.went.items ≡ changes.old.went.items
+            ++ not_among (findings_in (shard_id k N.board.shards) (present (edits_of locked_book.old.journal))) (findings_in (shard_id k N.board.shards) (present (take since (edits_of locked_book.old.journal))))) }
+    {
+        let Some(mut guard) = self.locked_shard(rt, k) else {
+            return Err(ReportFault::Spoiled(k));
+        };
+        let shard = &mut *guard;
+        shard.settle(&self.words, locked_book)?;
+        shard.add_changes(locked_book, since, changes)
+    }
+
     /// What became of the transactions that are present after the whole journal, which the pass sees. It walks over all of them.
     pub fn statuses<R: Wait>(&self, rt: &R, pass: &mut Pass) -> Result<Statuses, OutOfMemory>
         requires { pass.old.table ≡ N.board.table }
@@ -204,6 +308,22 @@ impl<N: Name> Checker<N> {
         let locked_book = &mut *guard;
         locked_book.show(&self.words, pass);
         locked_book.statuses()
+    }
+
+    /// Copies of the transactions that are present after the whole journal, which the pass sees, in the order of arrival. They share the
+    /// operations.
+    pub fn present<R: Wait>(&self, rt: &R, pass: &mut Pass) -> Result<Vec<Txn>, OutOfMemory>
+        requires { pass.old.table ≡ N.board.table }
+        ensures txns { IfOk result (λ txns. txns.items ≡ (present (edits_of pass.new.view.seen)).txns) }
+        ensures most { IfOk result (λ txns. vec_len txns ≤ length pass.new.view.seen) }
+        ensures history { IsHistory (present (edits_of pass.new.view.seen)) }
+        ensures sees { SeesJournal N.board pass.new.view.seen pass.old pass.new }
+    {
+        let mut guard = self.locked_book.lock(rt);
+        let locked_book = &mut *guard;
+        locked_book.show(&self.words, pass);
+        present_is_history();
+        locked_book.present()
     }
 
     /// Each shard applies what it has left of the journal: the findings of all, in order.
@@ -247,7 +367,7 @@ impl<N: Name> Checker<N> {
             return Err(ReportFault::Spoiled(k));
         };
         let locked_shard = &mut *guard;
-        locked_shard.settle(self.alloc, &self.words, locked_book)?;
+        locked_shard.settle(&self.words, locked_book)?;
         locked_shard.add_findings(found)
     }
 
@@ -285,11 +405,13 @@ impl<N: Name> Checker<N> {
     pub fn rebuild<R: Wait>(&self, rt: &R, k: usize) -> Result<(), OutOfMemory>
         requires { k < N.board.shards }
     {
+        let mut book = self.locked_book.lock(rt);
+        let locked_book = &mut *book;
         let Some(mut guard) = self.locked_shard(rt, k) else {
             return Err(AllocError);
         };
         let locked_shard = &mut *guard;
-        locked_shard.rebuild(k)
+        locked_shard.rebuild(&self.words, locked_book, k)
     }
 
     /// Tells workers that they may end once nothing is left. Edits that are submitted later are still accepted, and a settled

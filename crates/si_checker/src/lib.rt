@@ -13,6 +13,7 @@ pub mod locked_books;
 pub mod locked_shards;
 pub mod names;
 pub mod openings;
+mod positions;
 pub mod reports;
 pub mod workers;
 
@@ -20,7 +21,7 @@ pub use checkers::Checker;
 pub use gates::{Gate, Place};
 pub use names::Name;
 pub use openings::{OpenFault, Parts, open};
-pub use reports::{Report, ReportFault, SettledFindings, ShardReport, Statuses};
+pub use reports::{Report, ReportFault, SettledChanges, SettledFindings, ShardReport, Statuses};
 pub use si_accept::AcceptFault;
 pub use si_words::Pass;
 pub use workers::Worked;

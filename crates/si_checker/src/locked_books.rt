@@ -1,5 +1,5 @@
 //! What lies under the lock of the book, and what calls do there.
-ghost use Rattle.std.specs.Prelude.{◌≡◌, ◌+◌, ◌<◌, ◌≤◌, None, [], length, take, drop, IfOk, OnOk, IfErr, OnErr, IfSome};
+ghost use Rattle.std.specs.Prelude.{◌≡◌, ◌+◌, ◌-◌, ◌<◌, ◌≤◌, None, [], length, take, drop, IfOk, OnOk, IfErr, OnErr, IfSome};
 ghost use Rattle.std.specs.Vec.{vec_len};
 ghost use Rattle.si_model.specs.Journals.{IsAccepted, present, refusal_after};
 ghost use Rattle.si_accept.specs.Faults.{IsFaultOf};
@@ -7,14 +7,16 @@ ghost use Rattle.si_accept.specs.Statuses.{committed_among, doubtful_among};
 ghost use Rattle.si_words.specs.Entries.{IsBeginning, edits_of, entry};
 ghost use Rattle.si_words.specs.Seats.{seated};
 ghost use Rattle.si_words.specs.Views.{book_closed, new_book, with_entry};
-ghost use Rattle.si_checker.specs.Blocks.{IsBlockOf, IsPartOf};
+ghost use Rattle.si_shard.specs.ToldEdits.{AreTold};
+ghost use Rattle.si_checker.specs.Blocks.{IsBlockOf};
 ghost use Rattle.si_checker.specs.Calls.{SeesJournal, issuing};
 
 use crate::blocks::Block;
+use crate::positions::Positions;
 use crate::{Name, Statuses};
 use si_accept::{AcceptFault, Book};
 use si_model::{Edit, Key, Number, OutOfMemory, Txn, Value};
-use si_shard::SharedEdits;
+use si_shard::{SharedEdits, ToldEdit, told_edit};
 use si_words::laws::edits_append;
 use si_words::{BookSeat, Pass, Words};
 use std::alloc::Global;
@@ -34,8 +36,8 @@ pub struct LockedBook<N: Name> {
     book: Book,
     // Those that were copied last, the oldest first.
     blocks: Vec<Block>,
-    // All that was left for a shard that settled.
-    left: Option<Block>,
+    // How far each shard was when it last came for edits.
+    positions: Positions,
     pub(crate) seat: BookSeat,
     of: PhantomData<N>,
 }
@@ -48,13 +50,13 @@ impl<N: Name> Model for LockedBook<N> {
 
     ghost view = { λ d. d.seat.view };
 
-    ghost invariant = { λ d. IsLockedBook N.board N.limit d.book d.blocks.items d.left d.seat };
+    ghost invariant = { λ d. IsLockedBook N.board N.limit d.book d.blocks.items d.seat };
 }
 
 impl<N: Name> LockedBook<N> {
     /// A book with an empty journal, and its seat.
-    pub fn new(alloc: Global, book: Book, seat: BookSeat) -> Self
-        requires book { book ≡ record { limit = N.limit; journal = [] } }
+    pub fn new(alloc: Global, book: Book, seat: BookSeat, shards: usize) -> Self
+        requires book { book ≡ record { limit = N.limit; journal = []; noted = 0 } }
         requires seat { seat ≡ seated N.board.table (new_book N.board.passes) }
         ensures { result ≡ new_book N.board.passes }
     {
@@ -63,7 +65,7 @@ impl<N: Name> LockedBook<N> {
         LockedBook {
             book,
             blocks: Vec::new(alloc),
-            left: None,
+            positions: Positions::new(shards),
             seat,
             of: PhantomData,
         }
@@ -124,14 +126,22 @@ impl<N: Name> LockedBook<N> {
         words.close(&mut self.seat);
     }
 
+    /// The shard of this number has applied so many edits: what was noted for those that all have applied is let go.
+    pub fn pass_by(&mut self, shard: usize, position: u64)
+        ensures { self.new ≡ self.old }
+    {
+        let least = self.positions.pass_by(shard, position);
+        self.book.forget(least as usize);
+    }
+
     /// Copies of the edits from this position on, [`MOST_AT_ONCE`] at most, which share the operations. If memory is refused, there are
-    /// fewer, or none.
+    /// fewer, or none. Nor are there any where a shard has come back behind what it had applied, which none does.
     ///
     /// They are copied once for all shards: whoever asks for what a kept block covers shares that block.
     pub fn copy(&mut self, alloc: Global, position: u64) -> Option<SharedEdits>
         requires { position ≤ length self.old.journal }
         ensures locked_book { self.new ≡ self.old }
-        ensures edits { IfSome result (λ edits. edits ≡ take (length edits) (drop position (edits_of self.old.journal))) }
+        ensures edits { IfSome result (AreTold (edits_of self.old.journal) position) }
         ensures some { IfSome result (λ edits. 0 < length edits) }
         ensures most { IfSome result (λ edits. length edits ≤ 1024) }
     {
@@ -144,56 +154,9 @@ impl<N: Name> LockedBook<N> {
         Some(copied)
     }
 
-    /// Copies of all edits from this position on, which share the operations. There are none where none is left, or memory is refused.
-    ///
-    /// They are copied once for all shards that ask one after the other, unless one asks from further back.
-    pub fn copy_left(&mut self, alloc: Global, position: u64) -> Option<SharedEdits>
-        requires { position ≤ length self.old.journal }
-        ensures locked_book { self.new ≡ self.old }
-        ensures edits { IfSome result (λ edits. edits ≡ drop position (edits_of self.old.journal)) }
-        ensures some { IfSome result (λ edits. 0 < length edits) }
-    {
-        if let Some(left) = self.left_from(position) {
-            return Some(left);
-        }
-        let block = self.whole_from(alloc, position)?;
-        let left = block.copied_from(position)?;
-        self.left = Some(block);
-        Some(left)
-    }
-
-    /// What was left for another shard has from this position on, if that is all.
-    fn left_from(&self, position: u64) -> Option<SharedEdits>
-        ensures edits { IfSome result (λ edits. edits ≡ drop position (edits_of self.now.journal)) }
-        ensures some { IfSome result (λ edits. 0 < length edits) }
-    {
-        let Some(block) = &self.left else {
-            return None;
-        };
-        if block.end() != self.book.journal().len() as u64 {
-            return None;
-        }
-        block.copied_from(position)
-    }
-
-    /// A new block of all edits from this position on. There is none where memory is refused for it.
-    fn whole_from(&self, alloc: Global, position: u64) -> Option<Block>
-        requires { position ≤ length self.now.journal }
-        ensures block { IfSome result (λ block. IsPartOf (edits_of self.now.journal) block) }
-        ensures first { IfSome result (λ block. block.first ≡ position) }
-        ensures whole { IfSome result (λ block. block.first + length block.edits ≡ length self.now.journal) }
-    {
-        let left = &self.book.journal()[position as usize..];
-        let edits = copies(alloc, left);
-        if edits.len() < left.len() {
-            return None;
-        }
-        Block::new(position, edits).ok()
-    }
-
     /// What a kept block has from this position on.
     fn kept_from(&self, position: u64) -> Option<SharedEdits>
-        ensures edits { IfSome result (λ edits. edits ≡ take (length edits) (drop position (edits_of self.now.journal))) }
+        ensures edits { IfSome result (AreTold (edits_of self.now.journal) position) }
         ensures some { IfSome result (λ edits. 0 < length edits) }
         ensures most { IfSome result (λ edits. length edits ≤ 1024) }
     {
@@ -211,13 +174,12 @@ impl<N: Name> LockedBook<N> {
         ensures block { IfSome result (λ block. IsBlockOf (edits_of self.now.journal) block) }
         ensures first { IfSome result (λ block. block.first ≡ position) }
     {
-        let left = &self.book.journal()[position as usize..];
-        let count = if left.len() < MOST_AT_ONCE {
-            left.len()
-        } else {
-            MOST_AT_ONCE
-        };
-        Block::new(position, copies(alloc, &left[..count])).ok()
+        let from = position as usize;
+        if from < self.book.noted() {
+            return None;
+        }
+        let count = (self.book.journal().len() - from).min(MOST_AT_ONCE);
+        Block::new(position, copies(alloc, &self.book, from, from + count)).ok()
     }
 
     /// Keeps the block in place of the oldest. Where memory is refused for that, it is let go.
@@ -229,6 +191,14 @@ impl<N: Name> LockedBook<N> {
             self.blocks.remove(0);
         }
         let _kept = self.blocks.push(block).is_ok();
+    }
+
+    /// The book, which tells what its edits are about.
+    pub fn book(&self) -> &Book
+        ensures journal { result.now.journal ≡ edits_of self.now.journal }
+        ensures accepted { IsAccepted (edits_of self.now.journal) }
+    {
+        &self.book
     }
 
     /// The accepted edits, in the order of their numbers.
@@ -280,22 +250,25 @@ impl<N: Name> LockedBook<N> {
     }
 }
 
-/// Copies of the first of these edits, of all where memory is there.
-fn copies(alloc: Global, edits: &[Edit]) -> Vec<Edit>
-    ensures edits { result.items ≡ take (vec_len result) edits.now }
-    ensures most { vec_len result ≤ length edits.now }
+/// Copies of the edits from one place to another, or of the first of these where memory is refused.
+fn copies(alloc: Global, book: &Book, from: usize, end: usize) -> Vec<ToldEdit>
+    requires noted { book.now.noted ≤ from }
+    requires onward { from ≤ end }
+    requires within { end ≤ length book.now.journal }
+    ensures edits { AreTold book.now.journal from result.items }
+    ensures most { vec_len result ≤ end - from }
 {
     // The room comes first, so that nothing grows under the book's lock.
-    let Ok(mut copies) = Vec::with_capacity(alloc, edits.len()) else {
+    let Ok(mut copies) = Vec::with_capacity(alloc, end - from) else {
         return Vec::new(alloc);
     };
-    for edit in edits {
-        let Ok(copy) = edit.try_clone() else {
+    for place in from..end {
+        let Ok(copy) = told_edit(book, place) else {
             return copies;
         };
-        if copies.push(copy).is_err() {
+        let Ok(()) = copies.push(copy) else {
             return copies;
-        }
+        };
     }
     copies
 }

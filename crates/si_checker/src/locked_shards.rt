@@ -1,12 +1,14 @@
 //! What lies under the lock of one shard, and what calls do there.
 ghost use Rattle.std.specs.Prelude.{◌≡◌, ℕ, ◌+◌, ◌<◌, ◌≤◌, Bool, true, false, IsTrue, ◌↔◌, ◌++◌, length, take, drop, slice_index, IfOk, OnOk, IfErr, OnErr};
 ghost use Rattle.si_model.specs.Journals.{IsAccepted, present};
+ghost use Rattle.si_shard.specs.KeyNotes.{not_among};
 ghost use Rattle.si_shard.specs.Laws.{shard_id};
 ghost use Rattle.si_shard.specs.Shards.{findings_in};
+ghost use Rattle.si_shard.specs.ToldEdits.{AreTold};
 ghost use Rattle.si_words.specs.Entries.{IsBeginning, edits_of};
 ghost use Rattle.si_words.specs.Seats.{seated};
 ghost use Rattle.si_words.specs.Views.{new_shard, shard_closed, shard_counted, with_done, with_due, with_learned};
-ghost use Rattle.si_checker.specs.LockedShards.{stored_by};
+ghost use Rattle.si_checker.specs.LockedShards.{applied_by};
 ghost use Rattle.si_checker.specs.declared.reports.ReportFault.TheVariants as fault;
 
 use crate::Name;
@@ -14,18 +16,18 @@ use crate::locked_books::LockedBook;
 use crate::reports::{ReportFault, ShardReport};
 use si_model::laws::accepted_begins;
 use si_model::{Finding, MOST_EDITS, OutOfMemory};
-use si_shard::{KeyFault, MOST_SHARDS, Shard, SharedEdits};
+use si_shard::{Changes, JournalShard, KeyFault, MOST_SHARDS, SharedEdits};
 use si_words::laws::{edits_begin, edits_keep_length};
 use si_words::{Pass, ShardSeat, Words};
 use std::alloc::Global;
 use std::hash::RandomState;
 use std::marker::{Model, PhantomData};
 
-/// One shard and its seat. Contracts see what the seat knows, and whether the shard is spoiled: what it has stored is the first
+/// One shard and its seat. Contracts see what the seat knows, and whether the shard is spoiled: what it has applied is the first
 /// of what it is due, as far as its seat has published.
 #[derive(Drop)]
 pub struct LockedShard<N: Name> {
-    shard: Shard,
+    shard: JournalShard,
     seat: ShardSeat,
     of: PhantomData<N>,
 }
@@ -41,7 +43,7 @@ impl<N: Name> Model for LockedShard<N> {
 }
 
 impl<N: Name> LockedShard<N> {
-    /// The shard of the seat, among so many. It has stored no edit.
+    /// The shard of the seat, among so many. It has applied no edit.
     pub fn new(alloc: Global, hash: RandomState, shards: usize, seat: ShardSeat) -> Self
         requires shards { shards ≡ N.board.shards }
         requires most { shards ≤ MOST_SHARDS }
@@ -49,7 +51,7 @@ impl<N: Name> LockedShard<N> {
         requires number { seat.view.number < shards }
         ensures { result ≡ record { seat = seat.view; spoiled = false } }
     {
-        let shard = Shard::new(alloc, hash, seat.number(), shards);
+        let shard = JournalShard::new(alloc, hash, seat.number(), shards);
         LockedShard {
             shard,
             seat,
@@ -89,6 +91,7 @@ impl<N: Name> LockedShard<N> {
         ensures locked_book { locked_book.new ≡ locked_book.old }
         ensures begins { IsBeginning self.old.seat.due locked_book.old.journal }
     {
+        locked_book.pass_by(self.seat.number(), self.shard.position());
         words.pull(&mut self.seat, &mut locked_book.seat);
         edits_begin();
     }
@@ -98,14 +101,13 @@ impl<N: Name> LockedShard<N> {
     /// Where memory is refused some first of them stand, or none, and the shard is spoiled. One that was spoiled before stays so.
     pub fn apply(&mut self, words: &Words, edits: SharedEdits)
         requires words { words.now ≡ N.board }
-        requires next { edits ≡ take (length edits) (drop self.old.seat.done (edits_of self.old.seat.due)) }
+        requires next { AreTold (edits_of self.old.seat.due) self.old.seat.done edits }
         ensures seat { self.new.seat ≡ with_done self.new.seat.done self.old.seat }
         ensures onward { self.old.seat.done ≤ self.new.seat.done }
         ensures within { self.new.seat.done ≤ self.old.seat.done + length edits }
         ensures whole { self.new.spoiled ≡ false → (self.new.seat.done ≡ self.old.seat.done + length edits) × (self.old.spoiled ≡ false) }
     {
-        accepted_begins();
-        self.shard.apply_first(edits);
+        self.shard.apply_first(edits.as_slice());
         words.publish(&mut self.seat, self.shard.position());
         edits_keep_length();
     }
@@ -115,7 +117,6 @@ impl<N: Name> LockedShard<N> {
     /// Where it is spoiled, by this or before, it has applied no more than before.
     pub fn settle(
         &mut self,
-        alloc: Global,
         words: &Words,
         locked_book: &mut LockedBook<N>,
     ) -> Result<(), ReportFault>
@@ -127,11 +128,7 @@ impl<N: Name> LockedShard<N> {
         ensures spoiled { OnErr result (self.new ≡ record self.old { seat = with_due locked_book.old.journal self.old.seat; spoiled = true }) }
     {
         self.pull(words, locked_book);
-        let applied = match locked_book.copy_left(alloc, self.shard.position()) {
-            Some(left) => self.shard.apply_whole(left),
-            None => self.shard.catch_up(locked_book.journal()),
-        };
-        if applied.is_err() {
+        if self.shard.catch_up(locked_book.book()).is_err() {
             return Err(ReportFault::Spoiled(self.seat.number()));
         }
         words.publish(&mut self.seat, self.shard.position());
@@ -140,7 +137,7 @@ impl<N: Name> LockedShard<N> {
 
     /// Adds the findings on the shard's keys of what is present after the edits that it has applied.
     pub fn add_findings(&self, found: &mut Vec<Finding>) -> Result<(), ReportFault>
-        ensures ok { OnOk result (found.new.items ≡ found.old.items ++ findings_in (shard_id self.now.seat.number N.board.shards) (present (stored_by self.now.seat))) }
+        ensures ok { OnOk result (found.new.items ≡ found.old.items ++ findings_in (shard_id self.now.seat.number N.board.shards) (present (applied_by self.now.seat))) }
         ensures spoiled { (k : ℕ) → IfErr result (λ f. f ≡ fault.Spoiled k → (k ≡ self.now.seat.number) × (self.now.spoiled ≡ true)) }
     {
         let mut more = self.findings()?;
@@ -148,9 +145,36 @@ impl<N: Name> LockedShard<N> {
         Ok(())
     }
 
+    /// Adds what is found on the shard's keys after the edits that it has applied and wasn't after so many first ones of the journal, and
+    /// what was and isn't.
+    pub fn add_changes(
+        &mut self,
+        locked_book: &LockedBook<N>,
+        since: usize,
+        changes: &mut Changes,
+    ) -> Result<(), ReportFault>
+        requires due { self.old.seat.due ≡ locked_book.now.journal }
+        requires since { since ≤ self.old.seat.done }
+        ensures locked_shard { self.new ≡ self.old }
+        ensures came { OnOk result (changes.new.came.items ≡ changes.old.came.items
+            ++ not_among (findings_in (shard_id self.old.seat.number N.board.shards) (present (take since (edits_of self.old.seat.due)))) (findings_in (shard_id self.old.seat.number N.board.shards) (present (applied_by self.old.seat)))) }
+        ensures went { OnOk result (changes.new.went.items ≡ changes.old.went.items
+            ++ not_among (findings_in (shard_id self.old.seat.number N.board.shards) (present (applied_by self.old.seat))) (findings_in (shard_id self.old.seat.number N.board.shards) (present (take since (edits_of self.old.seat.due))))) }
+        ensures spoiled { (k : ℕ) → IfErr result (λ f. f ≡ fault.Spoiled k → (k ≡ self.old.seat.number) × (self.old.spoiled ≡ true)) }
+    {
+        match self
+            .shard
+            .add_changes(locked_book.journal(), since, changes)
+        {
+            Ok(()) => Ok(()),
+            Err(KeyFault::Spoiled) => Err(ReportFault::Spoiled(self.seat.number())),
+            Err(KeyFault::OutOfMemory) => Err(ReportFault::OutOfMemory),
+        }
+    }
+
     /// The findings on the shard's keys of what is present after the edits that it has applied, in order.
     pub fn findings(&self) -> Result<Vec<Finding>, ReportFault>
-        ensures ok { IfOk result (λ found. found.items ≡ findings_in (shard_id self.now.seat.number N.board.shards) (present (stored_by self.now.seat))) }
+        ensures ok { IfOk result (λ found. found.items ≡ findings_in (shard_id self.now.seat.number N.board.shards) (present (applied_by self.now.seat))) }
         ensures spoiled { (k : ℕ) → IfErr result (λ f. f ≡ fault.Spoiled k → (k ≡ self.now.seat.number) × (self.now.spoiled ≡ true)) }
     {
         match self.shard.findings() {
@@ -168,13 +192,13 @@ impl<N: Name> LockedShard<N> {
         ensures locked_shard { self.new ≡ self.old }
         ensures learned { OnOk result (pass.new ≡ record pass.old { view = with_learned self.old.seat self.old.seat.done pass.old.view }) }
         ensures position { IfOk result (λ r. r.position ≡ self.old.seat.done) }
-        ensures findings { IfOk result (λ r. r.findings.items ≡ findings_in (shard_id self.old.seat.number N.board.shards) (present (stored_by self.old.seat))) }
+        ensures findings { IfOk result (λ r. r.findings.items ≡ findings_in (shard_id self.old.seat.number N.board.shards) (present (applied_by self.old.seat))) }
         ensures mark { OnOk result (slice_index pass.new.view.marks self.old.seat.number ≡ self.old.seat.done) }
         ensures rises { OnOk result (slice_index pass.old.view.marks self.old.seat.number ≤ self.old.seat.done) }
         ensures seen { OnOk result (IsBeginning pass.old.view.seen pass.new.view.seen) }
         ensures due { OnOk result (IsBeginning self.old.seat.due pass.new.view.seen) }
         ensures applied { self.old.seat.done ≤ length self.old.seat.due }
-        ensures accepted { IsAccepted (stored_by self.old.seat) }
+        ensures accepted { IsAccepted (applied_by self.old.seat) }
         ensures spoiled { (k : ℕ) → IfErr result (λ f. f ≡ fault.Spoiled k → (k ≡ self.old.seat.number) × (self.old.spoiled ≡ true)) }
         ensures err { OnErr result (pass.new ≡ pass.old) }
     {
@@ -187,16 +211,25 @@ impl<N: Name> LockedShard<N> {
         })
     }
 
-    /// Makes all that the shard of this number knows anew from the edits that it has applied, and so ends a spoiled state.
+    /// Makes all that the shard of this number knows anew from the edits that it has applied, and so ends a spoiled state. It is due the
+    /// whole journal then, from which it takes them.
     ///
-    /// If memory is refused, everything stays as it was.
-    pub fn rebuild(&mut self, number: usize) -> Result<(), OutOfMemory>
-        requires { number ≡ self.old.seat.number }
-        ensures ok { OnOk result (self.new ≡ record self.old { spoiled = false }) }
-        ensures err { OnErr result (self.new ≡ self.old) }
+    /// If memory is refused, all else stays as it was.
+    pub fn rebuild(
+        &mut self,
+        words: &Words,
+        locked_book: &mut LockedBook<N>,
+        number: usize,
+    ) -> Result<(), OutOfMemory>
+        requires words { words.now ≡ N.board }
+        requires number { number ≡ self.old.seat.number }
+        ensures locked_book { locked_book.new ≡ locked_book.old }
+        ensures ok { OnOk result (self.new ≡ record self.old { seat = with_due locked_book.old.journal self.old.seat; spoiled = false }) }
+        ensures err { OnErr result (self.new ≡ record self.old { seat = with_due locked_book.old.journal self.old.seat }) }
     {
         let _number = number;
-        self.shard.rebuild()
+        self.pull(words, locked_book);
+        self.shard.rebuild(locked_book.journal())
     }
 
     /// Whether more edits were issued than the shard has applied. It takes no lock of the book.

@@ -30,6 +30,19 @@ pub struct SettledFindings {
     pub findings: Vec<Finding>,
 }
 
+/// What changed between two settled states of a journal, and how much is present after it.
+#[derive(Drop)]
+pub struct SettledChanges {
+    /// How many edits the journal has.
+    pub number: u64,
+    /// How many transactions are present.
+    pub transactions: usize,
+    /// The findings that came, in order.
+    pub came: Vec<Finding>,
+    /// The findings that went, in order.
+    pub went: Vec<Finding>,
+}
+
 /// What became of the transactions that are present after a journal.
 #[derive(Drop)]
 pub struct Statuses {

@@ -1,5 +1,6 @@
 //! What workers do: each shard's edits are applied in batches, with the book's lock held for no more than their copies.
 ghost use Rattle.std.specs.Prelude.{◌≡◌, ◌<◌, ◌≤◌, ℕ, length, slice_index, take, drop};
+ghost use Rattle.si_shard.specs.ToldEdits.{AreTold};
 ghost use Rattle.si_words.specs.Entries.{edits_of};
 ghost use Rattle.si_words.specs.Views.{with_count, with_marks};
 ghost use Rattle.si_checker.specs.Workers.{EndsWork, TellsPosition};
@@ -104,7 +105,7 @@ impl<N: Name> Checker<N> {
         locked_shard: &mut LockedShard<N>,
         edits: SharedEdits,
     ) -> Worked
-        requires { edits ≡ take (length edits) (drop locked_shard.old.seat.done (edits_of locked_shard.old.seat.due)) }
+        requires { AreTold (edits_of locked_shard.old.seat.due) locked_shard.old.seat.done edits }
         ensures { TellsPosition result }
     {
         let before = locked_shard.position();

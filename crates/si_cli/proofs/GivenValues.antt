@@ -29,7 +29,7 @@ use Rattle.clap.specs.declared.parser.matches.ValueSource.TheVariants.{CommandLi
 use Rattle.clap.proofs.OnLiterals.{clap_on_literals}
 use Rattle.clap.proofs.WalkLemmas.{raw_values-rows}
 use Rattle.clap.proofs.ValueTestLemmas.{accepts-Accepts}
-use Rattle.si_cli.specs.declared.command_lines.TheConstants.{MOST_EVERY}
+use Rattle.si_cli.specs.declared.command_lines.TheConstants.{MOST_EVERY, MOST_PLACES}
 use Rattle.si_model.specs.declared.edits.TheConstants.{MOST_EDITS}
 use Rattle.si_shard.specs.declared.shards.TheConstants.{MOST_SHARDS}
 use Rattle.si_cli.specs.CommandLines.{NumberFits, NumbersFit, files_given, number_given, number_of, rows_given, sicheck_app}
@@ -409,25 +409,71 @@ module _ (name : Text) (least most : ℕ) where
 
 -- ---- the program's numbers
 
+-- an option of another name is none of it
+other : (name : Text) (least most : ℕ) (r : Rule) → bytes_eq r.id name ≡ false → Good name least most r
+other name least most r e is = absurd (true≢false (sym is ∙ e))
+
 shards_good : All (λ t. All (Good (codes "shards") 1 MOST_SHARDS) t.rules) (built sicheck_app).subs
 unfolding clap_on_literals
 shards_good = (
-  (λ e. record { action = refl; ignore_case = refl; parser = refl; defaults = refl }, (λ e. absurd (true≢false (sym e)), (λ e. absurd (true≢false (sym e)), (λ e. absurd (true≢false (sym e)), (λ e. absurd (true≢false (sym e)), (λ e. absurd (true≢false (sym e)), (λ e. absurd (true≢false (sym e)), (λ e. absurd (true≢false (sym e)), tt)))))))),
-  ((λ e. absurd (true≢false (sym e)), tt), tt),
+  ((λ e. record { action = refl; ignore_case = refl; parser = refl; defaults = refl }), (other _ _ _ _ refl, (other _ _ _ _ refl, (other _ _ _ _ refl, (other _ _ _ _ refl, (other _ _ _ _ refl, (other _ _ _ _ refl, (other _ _ _ _ refl, (other _ _ _ _ refl, (other _ _ _ _ refl, (other _ _ _ _ refl, (other _ _ _ _ refl, (other _ _ _ _ refl, (other _ _ _ _ refl, (other _ _ _ _ refl, tt))))))))))))))),
+  ((other _ _ _ _ refl, tt), tt),
 )
 
 every_good : All (λ t. All (Good (codes "every") 1 MOST_EVERY) t.rules) (built sicheck_app).subs
 unfolding clap_on_literals
 every_good = (
-  (λ e. absurd (true≢false (sym e)), (λ e. record { action = refl; ignore_case = refl; parser = refl; defaults = refl }, (λ e. absurd (true≢false (sym e)), (λ e. absurd (true≢false (sym e)), (λ e. absurd (true≢false (sym e)), (λ e. absurd (true≢false (sym e)), (λ e. absurd (true≢false (sym e)), (λ e. absurd (true≢false (sym e)), tt)))))))),
-  ((λ e. absurd (true≢false (sym e)), tt), tt),
+  (other _ _ _ _ refl, ((λ e. record { action = refl; ignore_case = refl; parser = refl; defaults = refl }), (other _ _ _ _ refl, (other _ _ _ _ refl, (other _ _ _ _ refl, (other _ _ _ _ refl, (other _ _ _ _ refl, (other _ _ _ _ refl, (other _ _ _ _ refl, (other _ _ _ _ refl, (other _ _ _ _ refl, (other _ _ _ _ refl, (other _ _ _ _ refl, (other _ _ _ _ refl, (other _ _ _ _ refl, tt))))))))))))))),
+  ((other _ _ _ _ refl, tt), tt),
 )
 
 expected_good : All (λ t. All (Good (codes "expect") 0 MOST_EDITS) t.rules) (built sicheck_app).subs
 unfolding clap_on_literals
 expected_good = (
-  (λ e. absurd (true≢false (sym e)), (λ e. absurd (true≢false (sym e)), (λ e. absurd (true≢false (sym e)), (λ e. absurd (true≢false (sym e)), (λ e. record { action = refl; ignore_case = refl; parser = refl; defaults = refl }, (λ e. absurd (true≢false (sym e)), (λ e. absurd (true≢false (sym e)), (λ e. absurd (true≢false (sym e)), tt)))))))),
-  ((λ e. absurd (true≢false (sym e)), tt), tt),
+  (other _ _ _ _ refl, (other _ _ _ _ refl, (other _ _ _ _ refl, (other _ _ _ _ refl, ((λ e. record { action = refl; ignore_case = refl; parser = refl; defaults = refl }), (other _ _ _ _ refl, (other _ _ _ _ refl, (other _ _ _ _ refl, (other _ _ _ _ refl, (other _ _ _ _ refl, (other _ _ _ _ refl, (other _ _ _ _ refl, (other _ _ _ _ refl, (other _ _ _ _ refl, (other _ _ _ _ refl, tt))))))))))))))),
+  ((other _ _ _ _ refl, tt), tt),
+)
+
+own_good : All (λ t. All (Good (codes "expect-own") 0 MOST_PLACES) t.rules) (built sicheck_app).subs
+unfolding clap_on_literals
+own_good = (
+  (other _ _ _ _ refl, (other _ _ _ _ refl, (other _ _ _ _ refl, (other _ _ _ _ refl, (other _ _ _ _ refl, (other _ _ _ _ refl, (other _ _ _ _ refl, ((λ e. record { action = refl; ignore_case = refl; parser = refl; defaults = refl }), (other _ _ _ _ refl, (other _ _ _ _ refl, (other _ _ _ _ refl, (other _ _ _ _ refl, (other _ _ _ _ refl, (other _ _ _ _ refl, (other _ _ _ _ refl, tt))))))))))))))),
+  ((other _ _ _ _ refl, tt), tt),
+)
+
+aborted_good : All (λ t. All (Good (codes "expect-aborted") 0 MOST_PLACES) t.rules) (built sicheck_app).subs
+unfolding clap_on_literals
+aborted_good = (
+  (other _ _ _ _ refl, (other _ _ _ _ refl, (other _ _ _ _ refl, (other _ _ _ _ refl, (other _ _ _ _ refl, (other _ _ _ _ refl, (other _ _ _ _ refl, (other _ _ _ _ refl, ((λ e. record { action = refl; ignore_case = refl; parser = refl; defaults = refl }), (other _ _ _ _ refl, (other _ _ _ _ refl, (other _ _ _ _ refl, (other _ _ _ _ refl, (other _ _ _ _ refl, (other _ _ _ _ refl, tt))))))))))))))),
+  ((other _ _ _ _ refl, tt), tt),
+)
+
+intermediate_good : All (λ t. All (Good (codes "expect-intermediate") 0 MOST_PLACES) t.rules) (built sicheck_app).subs
+unfolding clap_on_literals
+intermediate_good = (
+  (other _ _ _ _ refl, (other _ _ _ _ refl, (other _ _ _ _ refl, (other _ _ _ _ refl, (other _ _ _ _ refl, (other _ _ _ _ refl, (other _ _ _ _ refl, (other _ _ _ _ refl, (other _ _ _ _ refl, ((λ e. record { action = refl; ignore_case = refl; parser = refl; defaults = refl }), (other _ _ _ _ refl, (other _ _ _ _ refl, (other _ _ _ _ refl, (other _ _ _ _ refl, (other _ _ _ _ refl, tt))))))))))))))),
+  ((other _ _ _ _ refl, tt), tt),
+)
+
+future_good : All (λ t. All (Good (codes "expect-future") 0 MOST_PLACES) t.rules) (built sicheck_app).subs
+unfolding clap_on_literals
+future_good = (
+  (other _ _ _ _ refl, (other _ _ _ _ refl, (other _ _ _ _ refl, (other _ _ _ _ refl, (other _ _ _ _ refl, (other _ _ _ _ refl, (other _ _ _ _ refl, (other _ _ _ _ refl, (other _ _ _ _ refl, (other _ _ _ _ refl, ((λ e. record { action = refl; ignore_case = refl; parser = refl; defaults = refl }), (other _ _ _ _ refl, (other _ _ _ _ refl, (other _ _ _ _ refl, (other _ _ _ _ refl, tt))))))))))))))),
+  ((other _ _ _ _ refl, tt), tt),
+)
+
+stale_good : All (λ t. All (Good (codes "expect-stale") 0 MOST_PLACES) t.rules) (built sicheck_app).subs
+unfolding clap_on_literals
+stale_good = (
+  (other _ _ _ _ refl, (other _ _ _ _ refl, (other _ _ _ _ refl, (other _ _ _ _ refl, (other _ _ _ _ refl, (other _ _ _ _ refl, (other _ _ _ _ refl, (other _ _ _ _ refl, (other _ _ _ _ refl, (other _ _ _ _ refl, (other _ _ _ _ refl, ((λ e. record { action = refl; ignore_case = refl; parser = refl; defaults = refl }), (other _ _ _ _ refl, (other _ _ _ _ refl, (other _ _ _ _ refl, tt))))))))))))))),
+  ((other _ _ _ _ refl, tt), tt),
+)
+
+overlap_good : All (λ t. All (Good (codes "expect-overlap") 0 MOST_PLACES) t.rules) (built sicheck_app).subs
+unfolding clap_on_literals
+overlap_good = (
+  (other _ _ _ _ refl, (other _ _ _ _ refl, (other _ _ _ _ refl, (other _ _ _ _ refl, (other _ _ _ _ refl, (other _ _ _ _ refl, (other _ _ _ _ refl, (other _ _ _ _ refl, (other _ _ _ _ refl, (other _ _ _ _ refl, (other _ _ _ _ refl, (other _ _ _ _ refl, ((λ e. record { action = refl; ignore_case = refl; parser = refl; defaults = refl }), (other _ _ _ _ refl, (other _ _ _ _ refl, tt))))))))))))))),
+  ((other _ _ _ _ refl, tt), tt),
 )
 
 numbers_fit : (words : List Text) → fault_of sicheck_app words ≡ [] → NumbersFit (rows_given words)
@@ -435,6 +481,14 @@ numbers_fit words none = record {
   shards = number_fits (codes "shards") 1 MOST_SHARDS shards_good words none;
   every = number_fits (codes "every") 1 MOST_EVERY every_good words none;
   expected = number_fits (codes "expect") 0 MOST_EDITS expected_good words none;
+  places = record {
+    own = number_fits (codes "expect-own") 0 MOST_PLACES own_good words none;
+    aborted = number_fits (codes "expect-aborted") 0 MOST_PLACES aborted_good words none;
+    intermediate = number_fits (codes "expect-intermediate") 0 MOST_PLACES intermediate_good words none;
+    future = number_fits (codes "expect-future") 0 MOST_PLACES future_good words none;
+    stale = number_fits (codes "expect-stale") 0 MOST_PLACES stale_good words none;
+    overlap = number_fits (codes "expect-overlap") 0 MOST_PLACES overlap_good words none;
+  };
 }
 
 -- the same of the rows of the subcommand that a parse entered

@@ -1,3 +1,5 @@
 pub mod GivenValues
 pub mod Opened
 pub mod Parts
+pub mod Simple
+pub mod HeldLogs

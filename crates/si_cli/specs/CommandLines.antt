@@ -10,7 +10,8 @@ use Rattle.clap.specs.Words.{App, HasKind, IsUnsignedIn, kind_of, Row, Rule, Tex
 use Rattle.clap.specs.Words.{all_of, fault_of, first_of, new_app, new_rule, one_of, subcommand_of, with_rule, with_subcommand}
 use Rattle.si_model.specs.declared.edits.TheConstants.{MOST_EDITS}
 use Rattle.si_shard.specs.declared.shards.TheConstants.{MOST_SHARDS}
-use Rattle.si_cli.specs.declared.command_lines.TheConstants.{MOST_EVERY}
+use Rattle.si_cli.specs.declared.command_lines.TheConstants.{MOST_EVERY, MOST_PLACES}
+use Rattle.si_text.specs.declared.endings.ExpectedPlaces.{ExpectedPlaces}
 use Rattle.si_run.specs.Outputs.{Terms}
 use Rattle.si_run.specs.Runs.{terms_by}
 use Rattle.si_run.specs.declared.options.TheConstants.{USUAL_SHARDS}
@@ -49,9 +50,20 @@ explain_rule = flag_rule (codes "explain")
 abbrev pub expect_rule : Rule
 expect_rule = number_rule (codes "expect") 0 MOST_EDITS
 
+-- `--chances`
+abbrev pub chances_rule : Rule
+chances_rule = flag_rule (codes "chances")
+
 -- `--progress`
 abbrev pub progress_rule : Rule
 progress_rule = flag_rule (codes "progress")
+
+-- a command with an option for each kind, as `--expect-future N`
+abbrev pub with_places : App → App
+with_places a =
+    with_rule (with_rule (with_rule (with_rule (with_rule (with_rule a (number_rule (codes "expect-own") 0 MOST_PLACES)) (number_rule (codes "expect-aborted") 0 MOST_PLACES))
+    (number_rule (codes "expect-intermediate") 0 MOST_PLACES)) (number_rule (codes "expect-future") 0 MOST_PLACES)) (number_rule (codes "expect-stale") 0 MOST_PLACES))
+    (number_rule (codes "expect-overlap") 0 MOST_PLACES)
 
 -- a file, or several
 abbrev pub file_rule : Rule
@@ -60,8 +72,8 @@ file_rule = record (new_rule (codes "FILE")) { action = Some Append }
 -- the subcommand
 abbrev pub check_app : App
 check_app =
-    with_rule (with_rule (with_rule (with_rule (with_rule (with_rule (with_rule (new_app (codes "check")) shards_rule) every_rule) only_new_rule) explain_rule) expect_rule) progress_rule)
-    file_rule
+    with_rule (with_places (with_rule (with_rule (with_rule (with_rule (with_rule (with_rule (with_rule (new_app (codes "check")) shards_rule) every_rule) only_new_rule) explain_rule)
+    expect_rule) chances_rule) progress_rule)) file_rule
 
 -- the program before its subcommand is added, which has to be given
 abbrev pub top_app : App
@@ -113,6 +125,21 @@ is_new_alone rows = only_new_given rows && is_none (every_given rows)
 abbrev pub explain_given : List Row → Bool
 explain_given rows = flag_given (codes "explain") rows
 
+-- whether `--chances` is there
+abbrev pub chances_given : List Row → Bool
+chances_given rows = flag_given (codes "chances") rows
+
+-- the N of `--expect-own N`, and so on
+abbrev pub places_given : List Row → ExpectedPlaces
+places_given rows = record {
+  own = number_given (codes "expect-own") rows;
+  aborted = number_given (codes "expect-aborted") rows;
+  intermediate = number_given (codes "expect-intermediate") rows;
+  future = number_given (codes "expect-future") rows;
+  stale = number_given (codes "expect-stale") rows;
+  overlap = number_given (codes "expect-overlap") rows;
+}
+
 -- whether `--progress` is there
 abbrev pub progress_given : List Row → Bool
 progress_given rows = flag_given (codes "progress") rows
@@ -129,6 +156,7 @@ terms_of rows = record {
   only_new = only_new_given rows;
   explain = explain_given rows;
   expected = expected_given rows;
+  asked = record { tells = chances_given rows; expected = places_given rows };
   shows = progress_given rows;
 }
 
@@ -167,11 +195,21 @@ IsToldBy words (Err TooManyFiles) = (fault_of sicheck_app words ≡ []) × AreTo
 abbrev pub NumberFits : Text → ℕ → ℕ → List Row → Type 0
 NumberFits name least most rows = (text : Text) → one_of name rows ≡ Some text → IsUnsignedIn least most text
 
--- the numbers of `--shards`, `--every` and `--expect` are in their ranges
+-- the numbers of places are in their ranges
+pub record PlacesFit (rows : List Row) : Type 0 where
+  pub own : NumberFits (codes "expect-own") 0 MOST_PLACES rows
+  pub aborted : NumberFits (codes "expect-aborted") 0 MOST_PLACES rows
+  pub intermediate : NumberFits (codes "expect-intermediate") 0 MOST_PLACES rows
+  pub future : NumberFits (codes "expect-future") 0 MOST_PLACES rows
+  pub stale : NumberFits (codes "expect-stale") 0 MOST_PLACES rows
+  pub overlap : NumberFits (codes "expect-overlap") 0 MOST_PLACES rows
+
+-- the numbers of all options are in their ranges
 pub record NumbersFit (rows : List Row) : Type 0 where
   pub shards : NumberFits (codes "shards") 1 MOST_SHARDS rows
   pub every : NumberFits (codes "every") 1 MOST_EVERY rows
   pub expected : NumberFits (codes "expect") 0 MOST_EDITS rows
+  pub places : PlacesFit rows
 
 -- what reading the rows gives: the settings, `--new` alone, too many files, or that memory was refused
 abbrev pub IsReadOf : List Row → Result Settings SettingsFault → Type 0

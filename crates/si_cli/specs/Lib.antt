@@ -3,3 +3,5 @@ pub mod Openings
 pub mod Programs
 pub mod CommandLines
 pub mod Helps
+pub mod Judges
+pub mod Endings

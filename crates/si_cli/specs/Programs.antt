@@ -173,8 +173,8 @@ EndsUnasked words out err result =
 
 -- clap tells something of the words, or that memory was refused; or it has no fault to tell, and `--new` comes alone, or they name too many files, or the check
 -- of the input or of the files ends, by the terms of the words
-abbrev pub EndsProgram : List Text → Lent Input → Files → Lent Output → Lent Output → ℕ → Type 0
-EndsProgram words input files out err result =
+abbrev pub EndsChecker : List Text → Lent Input → Files → Lent Output → Lent Output → ℕ → Type 0
+EndsChecker words input files out err result =
     ((error : Error) × HasKind (fault_of sicheck_app words) error × EndsLine words error out err result)
     ⊎ ((fault_of sicheck_app words ≡ [])
     × (EndsUnasked words out err result
@@ -182,8 +182,8 @@ EndsProgram words input files out err result =
 
 -- with no secret key: clap tells something of the words, or that memory was refused; or it has no fault to tell, and `--new` comes alone, or they name too many files,
 -- or ask for a check, which couldn't be made
-abbrev pub EndsWithoutKey : List Text → Lent Output → Lent Output → ℕ → Type 0
-EndsWithoutKey words out err result =
+abbrev pub EndsCheckerWithoutKey : List Text → Lent Output → Lent Output → ℕ → Type 0
+EndsCheckerWithoutKey words out err result =
     ((error : Error) × HasKind (fault_of sicheck_app words) error × EndsLine words error out err result)
     ⊎ ((fault_of sicheck_app words ≡ [])
     × (EndsUnasked words out err result

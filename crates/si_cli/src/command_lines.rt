@@ -3,7 +3,7 @@
 ghost use Rattle.std.specs.Prelude.{◌≡◌, IfOk, map, false};
 ghost use Rattle.clap.specs.declared.builder.command.Command.{Command};
 ghost use Rattle.clap.specs.Words.{AddsSubcommand, FailsBy, app_of, fault_of, rule_of, subcommand_of, subcommand_rows_of, with_subcommand};
-ghost use Rattle.si_cli.specs.CommandLines.{check_app, every_rule, expect_rule, explain_rule, file_rule, only_new_rule, progress_rule, shards_rule, sicheck_app};
+ghost use Rattle.si_cli.specs.CommandLines.{chances_rule, check_app, every_rule, expect_rule, explain_rule, file_rule, number_rule, only_new_rule, progress_rule, shards_rule, sicheck_app};
 
 use crate::helps::MANUAL;
 use clap::builder::ValueParser;
@@ -28,6 +28,30 @@ pub const NEW: &str = "new";
 /// The id of the option that says how many transactions are expected.
 pub const EXPECT: &str = "expect";
 
+/// The id of the flag that asks at how many places something could have been found.
+pub const CHANCES: &str = "chances";
+
+/// The greatest number of places that may be expected.
+pub const MOST_PLACES: u64 = 16_777_216;
+
+/// The id of the option that says how many places of the kind `own` are expected.
+pub const EXPECT_OWN: &str = "expect-own";
+
+/// The id of the option that says how many places of the kind `aborted` are expected.
+pub const EXPECT_ABORTED: &str = "expect-aborted";
+
+/// The id of the option that says how many places of the kind `intermediate` are expected.
+pub const EXPECT_INTERMEDIATE: &str = "expect-intermediate";
+
+/// The id of the option that says how many places of the kind `future` are expected.
+pub const EXPECT_FUTURE: &str = "expect-future";
+
+/// The id of the option that says how many places of the kind `stale` are expected.
+pub const EXPECT_STALE: &str = "expect-stale";
+
+/// The id of the option that says how many places of the kind `overlap` are expected.
+pub const EXPECT_OVERLAP: &str = "expect-overlap";
+
 /// The id of the flag that asks for evidence.
 pub const EXPLAIN: &str = "explain";
 
@@ -44,7 +68,7 @@ const ABOUT: &str = "Checks a history of transactions against snapshot isolation
 
 const USAGE: &str = "\
 sicheck check [--shards K] [--every N [--new]] [--explain] [--expect N]
-                     [--progress] [FILE]...";
+                     [--chances] [--expect-KIND N]... [--progress] [FILE]...";
 
 /// Reads the words of a command line, of which the first is the program's name.
 ///
@@ -76,7 +100,7 @@ fn check<'a>(alloc: Global) -> Result<Command<'a>, AllocError>
     ensures { IfOk result (λ check. (old new : Command) → AddsSubcommand old check new → app_of new ≡ with_subcommand (app_of old) check_app.top) }
 {
     Command::new(alloc, "check")
-        .about("Checks the history in FILEs, or on standard input where none is named")
+        .about("Checks the history in FILEs, or on standard input if none is named")
         .override_usage(USAGE)
         .after_help(manual())
         .arg(shards(alloc))?
@@ -84,7 +108,14 @@ fn check<'a>(alloc: Global) -> Result<Command<'a>, AllocError>
         .arg(only_new(alloc))?
         .arg(explain(alloc))?
         .arg(expect(alloc))?
+        .arg(chances(alloc))?
         .arg(progress(alloc))?
+        .arg(places(alloc, EXPECT_OWN))?
+        .arg(places(alloc, EXPECT_ABORTED))?
+        .arg(places(alloc, EXPECT_INTERMEDIATE))?
+        .arg(places(alloc, EXPECT_FUTURE))?
+        .arg(places(alloc, EXPECT_STALE))?
+        .arg(places(alloc, EXPECT_OVERLAP))?
         .arg(file(alloc))
 }
 
@@ -142,6 +173,30 @@ fn expect<'a>(alloc: Global) -> Arg<'a>
         .action(ArgAction::Set)
         .value_parser(ValueParser::unsigned(0, MOST_EDITS as u64))
         .help("Expects N committed transactions, and none in doubt")
+}
+
+/// The flag that asks at how many places something could have been found.
+fn chances<'a>(alloc: Global) -> Arg<'a>
+    ensures rule { rule_of result ≡ chances_rule }
+    ensures local { result.global ≡ false }
+{
+    Arg::new(alloc, CHANCES)
+        .long("chances")
+        .action(ArgAction::SetTrue)
+        .help("Tells at how many places a fault would have shown")
+}
+
+/// An option of that name which says how many places of a kind are expected at least. The usage line of help shows them, and the manual.
+fn places<'a>(alloc: Global, name: &'a str) -> Arg<'a>
+    ensures rule { rule_of result ≡ number_rule name.now 0 MOST_PLACES }
+    ensures local { result.global ≡ false }
+{
+    Arg::new(alloc, name)
+        .long(name)
+        .value_name("N")
+        .action(ArgAction::Set)
+        .value_parser(ValueParser::unsigned(0, MOST_PLACES))
+        .hide(true)
 }
 
 /// The flag that asks for evidence.

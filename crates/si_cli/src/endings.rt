@@ -6,7 +6,8 @@ ghost use Rattle.std.specs.Mem.{FitsInMemory};
 ghost use Rattle.std.specs.Process.{exit_status};
 ghost use Rattle.si_text.specs.Devices.{lent};
 ghost use Rattle.si_run.specs.Telling.{memory_line};
-ghost use Rattle.si_cli.specs.Programs.{EndsProgram, EndsWithoutKey, Fails, files_of, words_line};
+ghost use Rattle.si_cli.specs.Endings.{EndsProgram, EndsWithoutKey};
+ghost use Rattle.si_cli.specs.Programs.{Fails, files_of, words_line};
 
 use crate::files::NamedFiles;
 use crate::programs::{fail, main_with, main_without_key};

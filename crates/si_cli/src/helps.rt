@@ -16,8 +16,9 @@ Checks a history of transactions against snapshot isolation.
 Usage: sicheck <COMMAND>
 
 Commands:
-  check  Checks the history in FILEs, or on standard input where none is named
-  help   Print this message or the help of the given subcommand(s)
+  check     Checks the history in FILEs, or on standard input if none is named
+  evidence  Checks the evidence in an answer on standard input by the log LOG
+  help      Print this message or the help of the given subcommand(s)
 
 Options:
   -h, --help     Print help
@@ -27,10 +28,10 @@ Options:
 
 /// What the help of `check` begins with.
 pub const CHECK_HEAD: &str = "\
-Checks the history in FILEs, or on standard input where none is named
+Checks the history in FILEs, or on standard input if none is named
 
 Usage: sicheck check [--shards K] [--every N [--new]] [--explain] [--expect N]
-                     [--progress] [FILE]...
+                     [--chances] [--expect-KIND N]... [--progress] [FILE]...
 
 Options:
       --shards <K>  Uses K shards, 1 to 16 (else 4), with the same output
@@ -38,9 +39,25 @@ Options:
       --new         Reports on the way only violations that came or are gone
       --explain     Follows each violation but own with its evidence
       --expect <N>  Expects N committed transactions, and none in doubt
+      --chances     Tells at how many places a fault would have shown
       --progress    Shows on standard error how far it is, in one line
   -h, --help        Print help
 
+";
+
+/// The help of `evidence`.
+pub const EVIDENCE_HELP: &str = "\
+Checks the evidence in an answer on standard input by the log LOG
+
+Usage: sicheck evidence LOG < ANSWER
+
+Each line of the answer that begins with two spaces is evidence, as
+`check --explain` and `python3 -m sicheck seal` print it; others are skipped.
+The output has a line for each refused line of the log, and `fails line=N` for
+each evidence that doesn't hold of it. The status is 0 where there is evidence
+and all of it holds; 10 where some fails, none is there, or a line of the log
+was refused; and 2 where the check couldn't be made, as where a line that
+begins with two spaces is no evidence. It says nothing of findings.
 ";
 
 /// What both go on with: the input, the output and the status.
@@ -77,6 +94,9 @@ The output has a line for each refused line, then the findings and a summary:
   overlap       a version was replaced by a writer whose snapshot lacks it
 With --new a report on the way has `gone ` before each violation that the one
 before it had and that is there no more; the last report has all findings.
+With --chances it also tells, for each kind from own on, at how many places a
+likely fault of the database would have been found. With --expect-KIND N, as
+--expect-future 20, the status is 10 in place of 0 where these are fewer.
 The status is the gate: 20 where snapshot isolation is violated; else 10 where
 the verdict is open or a line was refused, so also where it is clean beside
 refused lines; else 0; and 2 where the check couldn't be made. Status 0 says
@@ -108,7 +128,7 @@ fn is_about_check<S: AsStr>(words: &[S]) -> bool
 }
 
 /// Whether the word of that place is this one.
-fn is_word<S: AsStr>(words: &[S], place: usize, text: &str) -> bool
+pub fn is_word<S: AsStr>(words: &[S], place: usize, text: &str) -> bool
     ensures { result ≡ is_word (map S.text words.now) place text.now }
 {
     match words.get(place) {

@@ -1,13 +1,15 @@
 //! The command line, and the whole program over its devices.
 //!
 //! It carries the promise that the program does what the words of its command line say by `clap`'s definition of the command, and ends
-//! with the status and the line that are said for each case. It stands on `si_run` for what a run writes.
+//! with the status and the line that are said for each case. It stands on `si_run` for what a run writes, and on
+//! `si_evidence` for the check of evidence.
 #![tactic(auto)]
 
 mod command_lines;
 pub mod endings;
 pub mod files;
 mod helps;
+mod judgements;
 pub mod programs;
 pub mod settings;
 

@@ -6,12 +6,14 @@ ghost use Rattle.std.specs.Mem.{FitsInMemory};
 ghost use Rattle.si_text.specs.Devices.{each_failed, each_foretold, each_left, lent};
 ghost use Rattle.si_cli.specs.declared.settings.TheConstants.{MOST_FILES};
 ghost use Rattle.si_cli.specs.Openings.{AreOpened, IsNotOpened};
-ghost use Rattle.si_cli.specs.Programs.{EndsAsked, EndsCheck, EndsFiles, EndsLine, EndsNamed, EndsProgram, EndsUnsettled, EndsWithoutKey, Fails, TellsCause, TellsCauses, cause_line, code_of, files_of, name_of, open_line};
+ghost use Rattle.si_cli.specs.Endings.{EndsProgram, EndsWithoutKey};
+ghost use Rattle.si_cli.specs.Programs.{EndsAsked, EndsCheck, EndsChecker, EndsCheckerWithoutKey, EndsFiles, EndsLine, EndsNamed, EndsUnsettled, Fails, TellsCause, TellsCauses, cause_line, code_of, files_of, name_of, open_line};
 ghost use Rattle.si_run.specs.Runs.{AppendsBeginning, IsRunnable, terms_by};
 ghost use Rattle.si_run.specs.Telling.{ShowsNotes, Tells, memory_line, output_line};
 
 use crate::files::{CannotOpen, NamedFiles};
 use crate::helps::{MANUAL, VERSION_LINE, head_of};
+use crate::judgements::{is_about_evidence, judge_by_words, judge_without_key};
 use crate::settings::{SettingsFault, settings_of};
 use crate::{ExitStatus, Options, RunFault, run_telling};
 use clap::error::ErrorKind;
@@ -62,6 +64,41 @@ pub fn main_with<
         (lent (O.seen out.old) (O.seen out.new))
         (lent (E.seen err.old) (E.seen err.new)) result }
 {
+    if is_about_evidence(words) {
+        return judge_by_words(files, sources, alloc, hash, words, input, out, err);
+    }
+    check_by_words(rt, files, sources, alloc, hash, words, input, out, err)
+}
+
+/// The same where the words don't ask about the check of evidence.
+fn check_by_words<
+    R: Threads + Wait + Clock + Sync,
+    F: NamedFiles,
+    S: AsStr,
+    I: ByteSource + Send,
+    O: ByteSink,
+    E: ByteSink,
+>(
+    rt: &R,
+    files: &F,
+    sources: &mut Vec<F::Source>,
+    alloc: Global,
+    hash: RandomState,
+    words: &[S],
+    input: &mut I,
+    out: &mut O,
+    err: &mut E,
+) -> u8
+    requires size { FitsInMemory I.row }
+    requires sources { sources.old.items ≡ [] }
+    requires input { (I.seen input.old).failed ≡ false }
+    requires out { (O.seen out.old).failed ≡ false }
+    ensures { EndsChecker (map S.text words.now)
+        (lent (I.seen input.old) (I.seen input.new))
+        (files_of (F.seen files.now) (map F.Source.seen sources.new.items))
+        (lent (O.seen out.old) (O.seen out.new))
+        (lent (E.seen err.old) (E.seen err.new)) result }
+{
     match settings_of(alloc, words) {
         Ok(settings) => check_by(
             rt,
@@ -90,6 +127,24 @@ pub fn main_without_key<S: AsStr, O: ByteSink, E: ByteSink>(
 ) -> u8
     requires out { (O.seen out.old).failed ≡ false }
     ensures { EndsWithoutKey (map S.text words.now)
+        (lent (O.seen out.old) (O.seen out.new))
+        (lent (E.seen err.old) (E.seen err.new)) result }
+{
+    if is_about_evidence(words) {
+        return judge_without_key(words, out, err);
+    }
+    tell_without_key(alloc, words, out, err)
+}
+
+/// The same where the words don't ask about the check of evidence.
+fn tell_without_key<S: AsStr, O: ByteSink, E: ByteSink>(
+    alloc: Global,
+    words: &[S],
+    out: &mut O,
+    err: &mut E,
+) -> u8
+    requires out { (O.seen out.old).failed ≡ false }
+    ensures { EndsCheckerWithoutKey (map S.text words.now)
         (lent (O.seen out.old) (O.seen out.new))
         (lent (E.seen err.old) (E.seen err.new)) result }
 {
@@ -364,7 +419,12 @@ fn tell_line<S: AsStr, O: ByteSink, E: ByteSink>(
 }
 
 /// Writes the text that was asked for, which has two parts.
-fn tell_asked<O: ByteSink, E: ByteSink>(out: &mut O, err: &mut E, head: &str, rest: &str) -> u8
+pub(crate) fn tell_asked<O: ByteSink, E: ByteSink>(
+    out: &mut O,
+    err: &mut E,
+    head: &str,
+    rest: &str,
+) -> u8
     ensures { EndsAsked (head.now ++ rest.now) (lent (O.seen out.old) (O.seen out.new))
         (lent (E.seen err.old) (E.seen err.new)) result }
 {
@@ -398,7 +458,7 @@ fn tell_mistake<E: ByteSink>(alloc: Global, err: &mut E, error: &clap::Error) ->
 }
 
 /// Tells that memory was refused.
-fn tell_out_of_memory<E: ByteSink>(err: &mut E) -> u8
+pub(crate) fn tell_out_of_memory<E: ByteSink>(err: &mut E) -> u8
     ensures { Fails (lent (E.seen err.old) (E.seen err.new)) memory_line result }
 {
     fail(err, b"sicheck: out of memory\n")
@@ -412,7 +472,7 @@ fn tell_unwritten<E: ByteSink>(err: &mut E) -> u8
 }
 
 /// Tells that the file of that place couldn't be opened.
-fn tell_unopened<E: ByteSink>(err: &mut E, place: usize)
+pub(crate) fn tell_unopened<E: ByteSink>(err: &mut E, place: usize)
     ensures { Tells (lent (E.seen err.old) (E.seen err.new)) (open_line place) }
 {
     tell_of_source(err, b"sicheck: cannot open source ", place);

@@ -2,15 +2,19 @@
 
 ghost use Rattle.std.specs.Prelude.{◌≡◌, ◌≤◌, ◌&&◌, ℕ, map, false, is_none, IfOk};
 ghost use Rattle.clap.specs.Words.{found_of, rows_of};
-ghost use Rattle.si_cli.specs.CommandLines.{IsToldBy, IsReadOf, NumberFits, NumbersFit, files_given, every_given, expected_given, flag_given, number_given, shards_given, terms_of};
+ghost use Rattle.si_cli.specs.CommandLines.{IsToldBy, IsReadOf, NumberFits, NumbersFit, chances_given, files_given, every_given, expected_given, flag_given, number_given, places_given, shards_given, terms_of};
 ghost use Rattle.si_run.specs.Runs.{every_by, terms_by};
 
 use crate::Options;
-use crate::command_lines::{EVERY, EXPECT, EXPLAIN, FILE, NEW, PROGRESS, SHARDS, parse};
+use crate::command_lines::{
+    CHANCES, EVERY, EXPECT, EXPECT_ABORTED, EXPECT_FUTURE, EXPECT_INTERMEDIATE, EXPECT_OVERLAP,
+    EXPECT_OWN, EXPECT_STALE, EXPLAIN, FILE, NEW, PROGRESS, SHARDS, parse,
+};
 use clap::ArgMatches;
 use si_model::MOST_EDITS;
 use si_run::options::USUAL_SHARDS;
 use si_shard::MOST_SHARDS;
+use si_text::{Asked, ExpectedPlaces};
 use std::alloc::{AllocError, Global};
 use std::convert::AsStr;
 use std::fmt;
@@ -26,8 +30,21 @@ const USUAL: Options = Options {
     only_new: false,
     explain: false,
     expected: None,
+    asked: NOTHING_ASKED,
     shows_progress: false,
     limit: MOST_EDITS,
+};
+
+const NOTHING_ASKED: Asked = Asked {
+    tells: false,
+    expected: ExpectedPlaces {
+        own: None,
+        aborted: None,
+        intermediate: None,
+        future: None,
+        stale: None,
+        overlap: None,
+    },
 };
 
 /// What a command line asks for.
@@ -63,8 +80,9 @@ impl std::error::Error for SettingsFault {}
 
 /// What the words of a command line ask for, of which the first is the program's name.
 ///
-/// They are `sicheck check [--shards K] [--every N [--new]] [--explain] [--expect N] [--progress] [FILE]...`, with K from 1 to `MOST_SHARDS`,
-/// `USUAL_SHARDS` where it isn't given, N of `--every` from 1 to `MOST_EVERY` and N of `--expect` from 0 to `MOST_EDITS`. A fault is one that
+/// They are `sicheck check [--shards K] [--every N [--new]] [--explain] [--expect N] [--chances] [--expect-KIND N]... [--progress] [FILE]...`,
+/// with K from 1 to `MOST_SHARDS`, `USUAL_SHARDS` where it isn't given, N of `--every` from 1 to `MOST_EVERY`, N of `--expect` and of each
+/// `--expect-KIND` from 0 to `MOST_EDITS`, and KIND `own`, `aborted`, `intermediate`, `future`, `stale` or `overlap`. A fault is one that
 /// `clap`'s definition of the command tells of the words, or that memory was refused, or that `--new` comes without `--every`, or that they name
 /// too many files.
 pub fn settings_of<'a, S: AsStr>(
@@ -160,6 +178,24 @@ fn expected_of(check: &ArgMatches<'_>) -> Option<u64>
     number_of(check, EXPECT)
 }
 
+/// What is asked of what could have been found.
+fn asked_of(check: &ArgMatches<'_>) -> Asked
+    requires { NumbersFit (rows_of (found_of check.now)) }
+    ensures { result ≡ record { tells = chances_given (rows_of (found_of check.now)); expected = places_given (rows_of (found_of check.now)) } }
+{
+    Asked {
+        tells: has_flag(check, CHANCES),
+        expected: ExpectedPlaces {
+            own: number_of(check, EXPECT_OWN),
+            aborted: number_of(check, EXPECT_ABORTED),
+            intermediate: number_of(check, EXPECT_INTERMEDIATE),
+            future: number_of(check, EXPECT_FUTURE),
+            stale: number_of(check, EXPECT_STALE),
+            overlap: number_of(check, EXPECT_OVERLAP),
+        },
+    }
+}
+
 /// Whether the flag of that name is there.
 fn has_flag(check: &ArgMatches<'_>, name: &str) -> bool
     ensures { result ≡ flag_given name.now (rows_of (found_of check.now)) }
@@ -183,6 +219,7 @@ fn options_of(check: &ArgMatches<'_>) -> Options
         only_new: has_flag(check, NEW),
         explain: has_flag(check, EXPLAIN),
         expected: expected_of(check),
+        asked: asked_of(check),
         shows_progress: has_flag(check, PROGRESS),
         limit: MOST_EDITS,
     }

@@ -1,15 +1,14 @@
 -- One shard's application of all that is left, seen as steps of the machine.
 use Rattle.std.proofs.Common.{◌≡◌, ◌∙◌, inl, inr, ℕ, zero, suc, ◌+◌, ◌-◌, ◌<◌, ◌≤◌, Bool, true, false, List, [], ◌∷◌, Some, length, slice_get, slice_set, refl, sym, ap, subst, arith}
-use Rattle.std.proofs.Math.Seq.{take-length}
-use Rattle.si_model.specs.declared.edits.Edit.{Edit}
 use Rattle.si_accept.specs.Books.{BookState}
 use Rattle.si_core.proofs.Replaced.{set_same}
-use Rattle.si_shard.specs.Shards.{ShardState}
+use Rattle.si_shard.specs.JournalShards.{state_of}
+use Rattle.si_shard.specs.declared.journal_shards.JournalShard.{JournalShard}
 use Rattle.si_core.specs.declared.steps.Reply.{Reply}
 use Rattle.si_core.specs.declared.steps.Reply.TheVariants as reply
 use Rattle.si_core.specs.Machine.{AppliesUntil, AreApplied, IsOther, Machine, Progress, applied, nothing_left, spoiled_before, spoiled_now, with_progress}
-use Rattle.si_core.specs.Worlds.{AppliesAll, AppliesAllLeft, IsShardOf, IsWorld, machine_of, progress_of}
-use Rattle.si_core.proofs.Progressing.{at_progress, progressed, set_again, so_told, world_put}
+use Rattle.si_core.specs.Worlds.{AppliesAll, AppliesTo, machine_of, progress_in, progress_of}
+use Rattle.si_core.proofs.Progressing.{at_progress, progressed, set_again, so_told, unchanged}
 
 -- what stands at k is what was put there last
 pub set_twice : {X : Type 0} (xs : List X) (k : ℕ) (x y : X) → slice_set (slice_set xs k x) k y ≡ slice_set xs k y
@@ -51,67 +50,48 @@ spoiled_is_other r k e p f = (let no : reply.Spoiled k ≡ reply.Applied p = sym
 
 -- ---- one shard
 
--- it stores a beginning of the journal still
-pub stores_all : (J : List Edit) (k : ℕ) (s t : ShardState) (n : ℕ) (r : Reply) → IsShardOf J n k s → AppliesAll J k s r t → IsShardOf J n k t
-stores_all J k s t n r is (inl idle) = subst (IsShardOf J n k) (sym idle.2) is
-stores_all J k s t n r is (inr left) = by s.spoiled left.1
-  where
-    by : (b : Bool) → AppliesAllLeft J k s b r t → IsShardOf J n k t
-    by true e = subst (IsShardOf J n k) (sym e.1) is
-    by false (inl e) =
-        let within : length J ≤ length J = omega arith in
-        subst (IsShardOf J n k) (sym e.1) (record { number = is.number; count = is.count; begins = sym (take-length J); within = within })
-    by false (inr e) = subst (IsShardOf J n k) (sym e.1) (record { number = is.number; count = is.count; begins = is.begins; within = is.within })
-
-module _ (book : BookState) (shards : List ShardState) (k : ℕ) (s t : ShardState) (at : slice_get shards k ≡ Some s) (r : Reply) (step : AppliesAll book.journal k s r t) where
-  pub world_settled : IsWorld book shards → IsWorld book (slice_set shards k t)
-  world_settled w = world_put book shards k s t at (stores_all book.journal k s t (length shards) r (w.each k s at) step) w
-
+module _ (book : BookState) (shards : List JournalShard) (k : ℕ) (s t : JournalShard) (at : slice_get shards k ≡ Some s) (r : Reply) (step : AppliesAll book.journal k s r t) where
   abbrev M : Machine
   M = machine_of book shards
 
   abbrev N : Machine
   N = machine_of book (slice_set shards k t)
 
-  -- nothing changes where the shard doesn't
-  unchanged : t ≡ s → N ≡ M
-  unchanged e = ap (machine_of book) (ap (slice_set shards k) e ∙ set_again shards k s at)
-
   pub applies_all : AppliesUntil (machine_of book shards) k r (machine_of book (slice_set shards k t))
-  applies_all = elim step [
-    | inl idle ↦ (0, M, refl, so_told M N M k r reply.Idle idle.1 (unchanged idle.2) (nothing_left (progress_of s) (at_progress book shards k s t at) idle.0), idle_is_other r idle.1)
+  applies_all = elim step.1 [
+    | inl idle ↦ (0, M, refl, so_told M N M k r reply.Idle idle.1 (unchanged book shards k s t at idle.2) (nothing_left (progress_of s) (at_progress book shards k s t at) idle.0), idle_is_other r idle.1)
     | inr left ↦ by s.spoiled refl left.0 left.1
   ]
     where
-      by : (b : Bool) → s.spoiled ≡ b → length s.stored < length book.journal → AppliesAllLeft book.journal k s b r t → AppliesUntil M k r N
+      by : (b : Bool) → s.spoiled ≡ b → s.position < length book.journal → AppliesTo (length book.journal) k (state_of s) b reply.Idle r (state_of t) → AppliesUntil M k r N
       by true is lt e = (
         0,
         M,
         refl,
-        so_told M N M k r (reply.Spoiled k) e.0 (unchanged e.1) (spoiled_before (progress_of s) (record { at = at_progress book shards k s t at; left = lt }) is),
+        so_told M N M k r (reply.Spoiled k) e.0 (unchanged book shards k s t at e.1) (spoiled_before (progress_of s) (record { at = at_progress book shards k s t at; left = lt }) is),
         spoiled_is_other r k e.0,
       )
       by false is lt (inl e) =
           let J = book.journal in
-          let n = length J - length s.stored in
-          let all : length s.stored + n ≡ length J = omega arith in
-          let within : length s.stored + n ≤ length J = omega arith in
-          let end : N ≡ with_progress M k (at_position (length s.stored + n)) =
-          progressed book shards k s t at (at_position (length s.stored + n)) (ap progress_of e.1 ∙ ap (λ m. record { position = m; spoiled = s.spoiled }) (sym all)
-          ∙ ap (λ b. record { position = length s.stored + n; spoiled = b }) is) in
-          let idle : length J ≤ length s.stored + n = omega arith in (
+          let n = length J - s.position in
+          let all : s.position + n ≡ length J = omega arith in
+          let within : s.position + n ≤ length J = omega arith in
+          let end : N ≡ with_progress M k (at_position (s.position + n)) =
+          progressed book shards k s t at (at_position (s.position + n)) (ap progress_in e.1 ∙ ap (λ m. record { position = m; spoiled = s.spoiled }) (sym all)
+          ∙ ap (λ b. record { position = s.position + n; spoiled = b }) is) in
+          let idle : length J ≤ s.position + n = omega arith in (
             n,
             N,
             subst (AreApplied n M k) (sym end) (many n M k (progress_of s) (at_progress book shards k s t at) is within),
-            so_told N N N k r reply.Idle e.0 refl (nothing_left (at_position (length s.stored + n)) (ap (λ P. slice_get P.shards k) end ∙ set_same M.shards k (at_position (length s.stored + n)) (progress_of s) (at_progress book shards k s t at)) (subst (λ W. length W.journal ≤ length s.stored + n) (sym end) idle)),
+            so_told N N N k r reply.Idle e.0 refl (nothing_left (at_position (s.position + n)) (ap (λ P. slice_get P.shards k) end ∙ set_same M.shards k (at_position (s.position + n)) (progress_of s) (at_progress book shards k s t at)) (subst (λ W. length W.journal ≤ s.position + n) (sym end) idle)),
             idle_is_other r e.0,
           )
       by false is lt (inr e) = (
         0,
         M,
         refl,
-        so_told M N (with_progress M k (record { position = length s.stored; spoiled = true })) k r (reply.Spoiled k) e.0
-            (progressed book shards k s t at (record { position = length s.stored; spoiled = true }) (ap progress_of e.1))
+        so_told M N (with_progress M k (record { position = s.position; spoiled = true })) k r (reply.Spoiled k) e.0
+            (progressed book shards k s t at (record { position = s.position; spoiled = true }) (ap progress_in e.1))
             (spoiled_now (progress_of s) (record { at = at_progress book shards k s t at; left = lt }) is),
         spoiled_is_other r k e.0,
       )

@@ -1,5 +1,4 @@
 pub mod Replaced
-pub mod Storing
 pub mod Progressing
 pub mod AllLeft
 pub mod Opening

@@ -6,7 +6,9 @@ use Rattle.si_model.specs.declared.findings.Finding.{Finding}
 use Rattle.si_model.specs.Parts.{Present}
 use Rattle.si_model.specs.Journals.{present}
 use Rattle.si_accept.specs.Books.{BookState}
-use Rattle.si_shard.specs.Shards.{ShardState, findings_in}
+use Rattle.si_shard.specs.JournalShards.{Follows, JournalState, state_of}
+use Rattle.si_shard.specs.Shards.{findings_in}
+use Rattle.si_shard.specs.declared.journal_shards.JournalShard.{JournalShard}
 use Rattle.si_shard.specs.Laws.{shard_id}
 use Rattle.si_shard.specs.declared.shards.TheConstants.{MOST_SHARDS}
 use Rattle.si_core.specs.declared.steps.Reply.{Reply}
@@ -16,65 +18,66 @@ use Rattle.si_core.specs.declared.steps.WorldFault.TheVariants as fault
 use Rattle.si_core.specs.Machine.{IsLeastPosition, IsLeastSpoiled, IsSettled, Machine, Progress}
 
 -- how far a shard is
-abbrev pub progress_of : ShardState → Progress
-progress_of s = record { position = length s.stored; spoiled = s.spoiled }
+abbrev pub progress_in : JournalState → Progress
+progress_in s = record { position = s.position; spoiled = s.spoiled }
+
+abbrev pub progress_of : JournalShard → Progress
+progress_of s = progress_in (state_of s)
 
 -- the state of the machine that a book and its shards are
-abbrev pub machine_of : BookState → List ShardState → Machine
+abbrev pub machine_of : BookState → List JournalShard → Machine
 machine_of book shards = record { limit = book.limit; journal = book.journal; shards = map progress_of shards }
 
--- a shard has stored a beginning of the journal
-pub record IsShardOf (journal : List Edit) (shards k : ℕ) (s : ShardState) : Type 0 where
+-- a shard has applied a beginning of the journal
+pub record IsShardOf (journal : List Edit) (shards k : ℕ) (s : JournalShard) : Type 0 where
   pub number : s.id.shard ≡ k
   pub count : s.id.shards ≡ shards
-  pub begins : s.stored ≡ take (length s.stored) journal
-  pub within : length s.stored ≤ length journal
+  pub follows : Follows journal s
 
--- each shard has its own number among them, and has stored a beginning of the journal
-pub record IsWorld (book : BookState) (shards : List ShardState) : Type 0 where
+-- each shard has its own number among them, and has applied a beginning of the journal
+pub record IsWorld (book : BookState) (shards : List JournalShard) : Type 0 where
   pub some : 1 ≤ length shards
   pub most : length shards ≤ MOST_SHARDS
-  pub each : (k : ℕ) (s : ShardState) → slice_get shards k ≡ Some s → IsShardOf book.journal (length shards) k s
+  pub each : (k : ℕ) (s : JournalShard) → slice_get shards k ≡ Some s → IsShardOf book.journal (length shards) k s
 
--- the same where an edit is left
-abbrev pub AppliesLeft : List Edit → ℕ → ShardState → Bool → Reply → ShardState → Type 0
-AppliesLeft J k old true r new = (r ≡ reply.Spoiled k) × (new ≡ old)
-AppliesLeft J k old false r new =
-    ((r ≡ reply.Applied (length old.stored + 1)) × (new ≡ record old { stored = take (length old.stored + 1) J }))
-    ⊎ (((r ≡ reply.NoMemory) × (new ≡ old)) ⊎ ((r ≡ reply.Spoiled k) × (new ≡ record old { spoiled = true })))
+-- a shard that is to come to a place, where that is farther, may answer so
+abbrev pub AppliesTo : ℕ → ℕ → JournalState → Bool → Reply → Reply → JournalState → Type 0
+AppliesTo end k old true done r new = (r ≡ reply.Spoiled k) × (new ≡ old)
+AppliesTo end k old false done r new = ((r ≡ done) × (new ≡ record old { position = end })) ⊎ ((r ≡ reply.Spoiled k) × (new ≡ record old { spoiled = true }))
 
--- the shard of this number has applied the next edit of the journal, or the reply says why not
-abbrev pub AppliesNext : List Edit → ℕ → ShardState → Reply → ShardState → Type 0
-AppliesNext J k old r new = ((length J ≤ length old.stored) × (r ≡ reply.Idle) × (new ≡ old))
-    ⊎ ((length old.stored < length J) × AppliesLeft J k old old.spoiled r new)
+-- the shard of this number stays that one, and has applied the next edit of the journal, or the reply says why not
+abbrev pub AppliesNext : List Edit → ℕ → JournalShard → Reply → JournalShard → Type 0
+AppliesNext J k old r new = IsShardOf J old.id.shards k new
+    × (((length J ≤ old.position) × (r ≡ reply.Idle) × (state_of new ≡ state_of old))
+    ⊎ ((old.position < length J) × AppliesTo (old.position + 1) k (state_of old) old.spoiled (reply.Applied (old.position + 1)) r (state_of new)))
 
--- the shard applies all that is left for it, where something is
-abbrev pub AppliesAllLeft : List Edit → ℕ → ShardState → Bool → Reply → ShardState → Type 0
-AppliesAllLeft J k old true r new = (r ≡ reply.Spoiled k) × (new ≡ old)
-AppliesAllLeft J k old false r new = ((r ≡ reply.Idle) × (new ≡ record old { stored = J })) ⊎ ((r ≡ reply.Spoiled k) × (new ≡ record old { spoiled = true }))
-
--- the shard of this number has applied the whole journal, or the reply says why not
-abbrev pub AppliesAll : List Edit → ℕ → ShardState → Reply → ShardState → Type 0
-AppliesAll J k old r new = ((length J ≤ length old.stored) × (r ≡ reply.Idle) × (new ≡ old))
-    ⊎ ((length old.stored < length J) × AppliesAllLeft J k old old.spoiled r new)
+-- the shard of this number stays that one, and has applied the whole journal, or the reply says why not
+abbrev pub AppliesAll : List Edit → ℕ → JournalShard → Reply → JournalShard → Type 0
+AppliesAll J k old r new = IsShardOf J old.id.shards k new
+    × (((length J ≤ old.position) × (r ≡ reply.Idle) × (state_of new ≡ state_of old))
+    ⊎ ((old.position < length J) × AppliesTo (length J) k (state_of old) old.spoiled reply.Idle r (state_of new)))
 
 -- the least shard that is spoiled, if one is
-abbrev pub IsFirstSpoiled : List ShardState → Option ℕ → Type 0
-IsFirstSpoiled shards None = (s : ShardState) → Contains shards s → s.spoiled ≡ false
-IsFirstSpoiled shards (Some k) = (s : ShardState) × (slice_get shards k ≡ Some s) × (s.spoiled ≡ true)
-    × ((j : ℕ) (t : ShardState) → j < k → slice_get shards j ≡ Some t → t.spoiled ≡ false)
+abbrev pub IsFirstSpoiled : List JournalShard → Option ℕ → Type 0
+IsFirstSpoiled shards None = (s : JournalShard) → Contains shards s → s.spoiled ≡ false
+IsFirstSpoiled shards (Some k) = (s : JournalShard) × (slice_get shards k ≡ Some s) × (s.spoiled ≡ true)
+    × ((j : ℕ) (t : JournalShard) → j < k → slice_get shards j ≡ Some t → t.spoiled ≡ false)
 
 -- the least position of a shard
-abbrev pub IsLeastOf : List ShardState → ℕ → Type 0
-IsLeastOf shards n = ((s : ShardState) × Contains shards s × (length s.stored ≡ n)) × ((s : ShardState) → Contains shards s → n ≤ length s.stored)
+abbrev pub IsLeastOf : List JournalShard → ℕ → Type 0
+IsLeastOf shards n = ((s : JournalShard) × Contains shards s × (s.position ≡ n)) × ((s : JournalShard) → Contains shards s → n ≤ s.position)
 
--- the findings of a shard
-abbrev pub shard_findings : ShardState → List Finding
-shard_findings s = findings_in s.id (present s.stored)
+-- all shards follow the journal
+abbrev pub AllFollow : List Edit → List JournalShard → Type 0
+AllFollow J shards = (s : JournalShard) → Contains shards s → Follows J s
+
+-- the findings of a shard that follows the journal
+abbrev pub shard_findings : List Edit → JournalShard → List Finding
+shard_findings J s = findings_in s.id (present (take s.position J))
 
 -- the findings of each shard are those of what is present that are on its keys, by its place among them
-abbrev pub AreFoundOf : Present → List ShardState → Type 0
-AreFoundOf P shards = (k : ℕ) (s : ShardState) → slice_get shards k ≡ Some s → shard_findings s ≡ findings_in (shard_id k (length shards)) P
+abbrev pub AreFoundOf : List Edit → Present → List JournalShard → Type 0
+AreFoundOf J P shards = (k : ℕ) (s : JournalShard) → slice_get shards k ≡ Some s → shard_findings J s ≡ findings_in (shard_id k (length shards)) P
 
 -- the machine answers with that fault in place of its findings: the least shard that is spoiled; where none is, the least position, which isn't the
 -- end of the journal; or that memory was refused, where all is settled

@@ -1,6 +1,6 @@
 //! The machine on one thread: the book and its shards, its steps, and its findings once it is settled.
 
-ghost use Rattle.std.specs.Prelude.{◌≡◌, ◌⊎◌, ◌↔◌, ℕ, ◌+◌, ◌<◌, ◌≤◌, true, false, [], Some, None, Option, Err, length, slice_get, IfOk, OnOk, IfErr, OnErr, ◌++◌};
+ghost use Rattle.std.specs.Prelude.{◌≡◌, ◌⊎◌, ◌↔◌, ℕ, List, ◌+◌, ◌<◌, ◌≤◌, true, false, [], Some, None, Option, Err, length, slice_get, IfOk, OnOk, IfErr, OnErr, ◌++◌};
 ghost use Rattle.std.specs.Option.{option_map};
 ghost use Rattle.si_model.specs.Findings.{findings};
 ghost use Rattle.si_model.specs.Form.{IsWellFormed};
@@ -9,9 +9,10 @@ ghost use Rattle.si_model.specs.Journals.{IsAccepted, present};
 ghost use Rattle.si_model.specs.Parts.{Present};
 ghost use Rattle.si_graph.specs.Phenomena.{IsPlSi};
 ghost use Rattle.si_graph.specs.Snapshots.{IsSnapshot};
-ghost use Rattle.si_core.specs.Worlds.{AppliesAll, AppliesNext, AreFoundOf, IsFirstSpoiled, IsLeastOf, IsShardOf, WithholdsFindings};
+ghost use Rattle.si_core.specs.Worlds.{AllFollow, AppliesAll, AppliesNext, AreFoundOf, IsFirstSpoiled, IsLeastOf, IsShardOf, WithholdsFindings};
 ghost use Rattle.std.specs.List.{Contains};
-ghost use Rattle.si_shard.specs.Shards.{ShardState};
+ghost use Rattle.si_shard.specs.declared.journal_shards.JournalShard.{JournalShard as AShard};
+ghost use Rattle.si_model.specs.declared.edits.Edit.{Edit as AnEdit};
 ghost use Rattle.si_core.specs.declared.steps.Reply.TheVariants as reply;
 ghost use Rattle.si_core.specs.declared.steps.WorldFault.TheVariants as fault;
 ghost use Rattle.si_core.specs.Machine.{AppliesMany, AppliesUntil, IsAccept, IsApply, IsRebuilt, IsRun, IsSettled, IsStep, SettlesFrom, opened};
@@ -19,8 +20,8 @@ ghost use Rattle.si_core.specs.Machine.{AppliesMany, AppliesUntil, IsAccept, IsA
 use crate::{Reply, Step, WorldFault};
 use si_accept::{AcceptFault, Book};
 use si_graph::laws::{emptiness_is_exact, snapshots_are_clean};
-use si_model::{Edit, Finding, Key, MOST_EDITS, Number, OutOfMemory, Txn, Value};
-use si_shard::{MOST_SHARDS, Shard, put_all_in_order};
+use si_model::{Edit, Finding, Key, MOST_EDITS, OutOfMemory, Txn, Value};
+use si_shard::{JournalShard, MOST_SHARDS, put_all_in_order};
 use std::alloc::{AllocError, Global};
 use std::hash::RandomState;
 use std::marker::Model;
@@ -32,7 +33,7 @@ use std::marker::Model;
 pub struct World {
     alloc: Global,
     book: Book,
-    shards: Vec<Shard>,
+    shards: Vec<JournalShard>,
 }
 
 impl Model for World {
@@ -64,7 +65,7 @@ impl World {
     {
         let mut all = Vec::new(alloc);
         for shard in 0..shards {
-            all.push(Shard::new(alloc, hash, shard, shards))?;
+            all.push(JournalShard::new(alloc, hash, shard, shards))?;
         }
         Ok(World {
             alloc,
@@ -136,7 +137,7 @@ impl World {
         ensures ok { OnOk result (IsRebuilt self.old shard self.new) }
         ensures err { OnErr result (self.new ≡ self.old) }
     {
-        self.shards[shard].rebuild()
+        self.shards[shard].rebuild(self.book.journal())
     }
 
     /// The findings of what is present, in order.
@@ -207,6 +208,8 @@ impl World {
     fn accept(&mut self, edit: Edit) -> Reply
         ensures { IsAccept self.old edit result self.new }
     {
+        // No shard asks what edits were about that all have applied.
+        self.book.forget(least_position(&self.shards) as usize);
         match self.book.accept(edit) {
             Ok(number) => Reply::Accepted(number),
             Err(AcceptFault::Refused(refusal)) => Reply::Refused(refusal),
@@ -220,7 +223,7 @@ impl World {
         if shard >= self.shards.len() {
             return Reply::Idle;
         }
-        apply_next(self.book.journal(), &mut self.shards[shard], shard)
+        apply_next(&self.book, &mut self.shards[shard], shard)
     }
 
     fn settle(&mut self) -> Reply
@@ -242,40 +245,32 @@ impl World {
         if shard >= self.shards.len() {
             return Reply::Idle;
         }
-        apply_left(self.book.journal(), &mut self.shards[shard], shard)
+        apply_left(&self.book, &mut self.shards[shard], shard)
     }
 }
 
 /// Lets the shard, which has this number, apply all that is left of the journal.
-fn apply_left(journal: &[Edit], shard: &mut Shard, number: usize) -> Reply
-    requires accepted { IsAccepted journal.now }
-    requires shard { IsShardOf journal.now shard.old.id.shards number shard.old }
-    ensures { AppliesAll journal.now number shard.old result shard.new }
+fn apply_left(book: &Book, shard: &mut JournalShard, number: usize) -> Reply
+    requires { IsShardOf book.now.journal shard.old.id.shards number shard.old }
+    ensures { AppliesAll book.now.journal number shard.old result shard.new }
 {
-    match shard.catch_up(journal) {
+    match shard.catch_up(book) {
         Ok(()) => Reply::Idle,
         Err(_) => Reply::Spoiled(number),
     }
 }
 
 /// Lets the shard, which has this number, apply the next edit of the journal.
-fn apply_next(journal: &[Edit], shard: &mut Shard, number: usize) -> Reply
-    requires accepted { IsAccepted journal.now }
-    requires shard { IsShardOf journal.now shard.old.id.shards number shard.old }
-    ensures { AppliesNext journal.now number shard.old result shard.new }
+fn apply_next(book: &Book, shard: &mut JournalShard, number: usize) -> Reply
+    requires { IsShardOf book.now.journal shard.old.id.shards number shard.old }
+    ensures { AppliesNext book.now.journal number shard.old result shard.new }
 {
-    let position = shard.position();
-    let Some(edit) = journal.get(position as usize) else {
+    let position = shard.position() as usize;
+    if position >= book.journal().len() {
         return Reply::Idle;
-    };
-    if shard.is_spoiled() {
-        return Reply::Spoiled(number);
     }
-    let Ok(edit) = edit.try_clone() else {
-        return Reply::NoMemory;
-    };
-    match shard.apply(Number(position + 1), edit) {
-        Ok(()) => Reply::Applied(position + 1),
+    match shard.apply_to(book, position + 1) {
+        Ok(()) => Reply::Applied(shard.position()),
         Err(_) => Reply::Spoiled(number),
     }
 }
@@ -303,7 +298,7 @@ fn is_idle(told: Reply) -> bool
 }
 
 /// The least shard that is spoiled.
-fn first_spoiled(shards: &[Shard]) -> Option<usize>
+fn first_spoiled(shards: &[JournalShard]) -> Option<usize>
     ensures { IsFirstSpoiled shards.now result }
 {
     for number in 0..shards.len() {
@@ -315,7 +310,7 @@ fn first_spoiled(shards: &[Shard]) -> Option<usize>
 }
 
 /// The least position of a shard.
-fn least_position(shards: &[Shard]) -> u64
+fn least_position(shards: &[JournalShard]) -> u64
     requires { 1 ≤ length shards.now }
     ensures { IsLeastOf shards.now result }
 {
@@ -330,10 +325,11 @@ fn least_position(shards: &[Shard]) -> u64
 }
 
 /// The findings of all shards, of which none is spoiled, in order.
-fn findings_of(alloc: Global, shards: &[Shard]) -> Result<Vec<Finding>, OutOfMemory>
+fn findings_of(alloc: Global, shards: &[JournalShard]) -> Result<Vec<Finding>, OutOfMemory>
     requires some { 1 ≤ length shards.now }
-    requires whole { (s : ShardState) → Contains shards.now s → s.spoiled ≡ false }
-    ensures { IfOk result (λ found. (P : Present) → IsHistory P → AreFoundOf P shards.now → found.items ≡ findings P) }
+    requires whole { (s : AShard) → Contains shards.now s → s.spoiled ≡ false }
+    requires follow { (J : List AnEdit) × IsAccepted J × AllFollow J shards.now }
+    ensures { IfOk result (λ found. (J : List AnEdit) (P : Present) → IsAccepted J → AllFollow J shards.now → IsHistory P → AreFoundOf J P shards.now → found.items ≡ findings P) }
 {
     let mut found = Vec::new(alloc);
     for place in 0..shards.len() {

@@ -1,7 +1,7 @@
 -- The tests decide which edges are of the graph.
 use Rattle.std.proofs.Common.{◌≡◌, ◌∙◌, ◌⊎◌, inl, inr, ℕ, ◌<◌, Bool, true, List, Option, Some, None, is_some, refl, sym, ap, subst, slice_get}
 use Rattle.std.specs.Bool.{Decides}
-use Rattle.std.specs.List.{Contains}
+use Rattle.std.specs.List.{Contains, find}
 use Rattle.std.proofs.lemmas.Bool.Decides.{Decides-ltb, Decides-not, Decides-and, Decides-or, Decides-like}
 use Rattle.si_model.specs.declared.numbers.TxnId.{TxnId}
 use Rattle.si_model.specs.declared.numbers.Stamp.{Stamp}
@@ -27,11 +27,13 @@ use Rattle.si_model.specs.Reads.{IsSource, ReturnsVersion, version_of}
 use Rattle.si_model.specs.History.{IsHistory}
 use Rattle.si_model.specs.Edits.{with_id}
 use Rattle.si_graph.specs.Edges.{IsWriteDependency, IsReadDependency, IsAntiDependency, AreTimed, IsStartDependency, Connects, IsEdge}
-use Rattle.si_graph.specs.EvidenceTests.{part_on, install_on, is_committed, write_depends_at, reads_last_of, precedes, one_precedes, reads_before, is_before, connects, both_pass, is_edge}
+use Rattle.si_graph.specs.EvidenceTests.{part_on, install_on, is_committed, write_depends_at, reads_last_of, installs_value, precedes, one_precedes, reads_before, is_before, connects, both_pass, is_edge}
 use Rattle.si_graph.specs.Laws.{ModelLaws}
 use Rattle.si_lists.proofs.Members.{same_some, get_contains, contains_get}
+use Rattle.si_lists.proofs.Names.{same_named}
+use Rattle.si_lists.proofs.Tests.{find-Some, find-None}
 use Rattle.si_graph.proofs.ListTests.{any_decides}
-use Rattle.si_graph.proofs.OnKeys.{part_from, read_by, read_at, part_of_write, values_decide, last_decides, install_exact, installs_by, installer_in, installer_from, final_exact, op_at}
+use Rattle.si_graph.proofs.OnKeys.{part_from, read_by, read_at, part_of_write, values_decide, last_decides, install_exact, installs_by, installer_in, installer_from, final_exact, op_at, last_is}
 use Rattle.si_graph.proofs.Neighbours.{Follows, follows_decides, AreNeighbours, neighbours_decide}
 
 -- two transactions of these ids that are so related
@@ -211,8 +213,42 @@ module _ (laws : ModelLaws) (P : Present) (h : IsHistory P) where
 
   one_precedes_decides : (x : List ℕ) (v : Option Value) (B : Txn) → Contains P.txns B → Decides (one_precedes P.txns x v (install_on x B)) (OnePrecedes x v B)
   one_precedes_decides x None B b = (λ e. cc, λ r. absurd r)
-  one_precedes_decides x (Some v) B b = any_decides (precedes P.txns x v (install_on x B)) (λ T. (last_write (accesses x T.ops) ≡ Some v) × AreNeighbours laws P x T B)
-      (λ T. Decides-and _ _ (last_decides laws x v T) (neighbours_decide laws P x T B b)) P.txns
+  one_precedes_decides x (Some v) B b = by (find (installs_value x v) P.txns) refl
+    where
+      written : (T : Txn) → Contains P.txns T → HasCommitted T → last_write (accesses x T.ops) ≡ Some v → (i : ℕ) × (slice_get T.ops i ≡ Some (op.Write x v))
+      written T t c e = let l = last_is laws x P h T v t c.0 c.1 e in (l.place, l.is)
+
+      -- two that install the value are one
+      one : (A B : Txn) → Contains P.txns A → Contains P.txns B → HasCommitted A → HasCommitted B → last_write (accesses x A.ops) ≡ Some v → last_write (accesses x B.ops) ≡ Some v → A ≡ B
+      one A B a b c d e f =
+          let i = written A a c e in
+          let j = written B b d f in
+          same_named (λ (T : Txn). T.id) P.txns h.names A B a b (h.writes A B i.0 j.0 x v a b i.1 j.1).0
+
+      installs_decides : (T : Txn) → Decides (installs_value x v T) (HasCommitted T × (last_write (accesses x T.ops) ≡ Some v))
+      installs_decides T = Decides-and _ _ (committed_decides T) (last_decides laws x v T)
+
+      -- who has a neighbour committed
+      has_committed : (T : Txn) → AreNeighbours laws P x T B → HasCommitted T
+      has_committed T n = (n.0.commit, ((install_exact laws x T n.0).0 n.1).committed)
+
+      by : (o : Option Txn) → find (installs_value x v) P.txns ≡ o → Decides (precedes P.txns x o (install_on x B)) (OnePrecedes x (Some v) B)
+      by None s = (
+        λ e. cc,
+        λ r. (
+            let never = find-None (installs_value x v) P.txns s r.1 (get_contains P.txns r.0 r.1 r.2) in
+            let yes = (installs_decides r.1).1 (has_committed r.1 r.3.1, r.3.0) in
+            cc
+            ),
+      )
+      by (Some T) s =
+          let f = find-Some (installs_value x v) P.txns T s in
+          let is = (installs_decides T).0 f.1 in
+          let at = contains_get P.txns T f.0 in
+          Decides-like _
+          (λ n. (at.0, T, at.1, (is.1, n)))
+          (λ r. subst (λ U. AreNeighbours laws P x U B) (one r.1 T (get_contains P.txns r.0 r.1 r.2) f.0 (has_committed r.1 r.3.1) is.0 r.3.0 is.1) r.3.1)
+          (neighbours_decide laws P x T B b)
 
   -- the operation is a read that returned the version before B's
   abbrev ReadsBefore : Txn → Op → Type 0

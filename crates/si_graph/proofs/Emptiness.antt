@@ -19,7 +19,7 @@ use Rattle.si_graph.specs.Emptiness.{FindsAbortedRead, FindsIntermediateRead, Fi
 use Rattle.si_graph.specs.Laws.{HasPhenomenonOf, ModelLaws}
 use Rattle.si_lists.proofs.Members.{Contains-nil, here}
 use Rattle.si_graph.proofs.Explained.{explained}
-use Rattle.si_graph.proofs.Phenomena.{shown_is_there}
+use Rattle.si_graph.proofs.Phenomena.{explained_is_of, phenomenon_is_there}
 use Rattle.si_graph.proofs.Found.{aborted_found, intermediate_found, interference_found, no_circular_flow, missed_found}
 
 -- the phenomenon of the evidence for that kind is there
@@ -28,7 +28,7 @@ IsPresent P k = (e : Evidence) → evidence_of k ≡ Some e → HasPhenomenonOf 
 
 module _ (laws : ModelLaws) (P : Present) (h : IsHistory P) where
   told : (f : Finding) → Contains (findings P) f → IsPresent P f.kind
-  told f c e is = shown_is_there P e h (explained laws P h f ((laws.findings P h).sound f c) e is)
+  told f c e is = phenomenon_is_there P e h (explained_is_of f.kind e is) (explained laws P h f ((laws.findings P h).sound f c) e is)
 
   module _ (form : IsWellFormed P) where
     pub aborted_both : HasAbortedRead P ↔ FindsAbortedRead P

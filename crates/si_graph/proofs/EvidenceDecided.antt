@@ -31,6 +31,7 @@ use Rattle.si_lists.proofs.Members.{same_some}
 use Rattle.si_graph.proofs.ListTests.{all_decides}
 use Rattle.si_graph.proofs.OnKeys.{part_from, read_by, read_at, writes_decides, part_of_write, last_decides, final_exact}
 use Rattle.si_graph.proofs.EdgesDecided.{ArePair, HasCommitted, AreSoTimed, timed_is, timed_from, committed_decides, both_decide, edge_decides}
+use Rattle.si_graph.proofs.UnstampedDecided.{fork_decides, knot_decides}
 
 -- ---- tests of labels and statuses
 
@@ -204,3 +205,5 @@ module _ (laws : ModelLaws) (P : Present) (h : IsHistory P) where
       (λ T W t w. Decides-and _ _ (committed_decides T) (Decides-and _ _ (Decides-not _ (laws.tests.ids W.id T.id)) (there_decides (reads_intermediate_of W) (ReadsIntermediateOf W) (reads_intermediate_decides W) (slice_get T.ops i)))) t w)
   shown_decides (evidence.Interference e) = interference_decides e
   shown_decides (evidence.Missed es) = missed_decides es
+  shown_decides (evidence.Fork x a b) = fork_decides laws P h x a b
+  shown_decides (evidence.Knot es) = knot_decides laws P h closed_decides es

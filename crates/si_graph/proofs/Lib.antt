@@ -17,5 +17,11 @@ pub mod SortedRuns
 pub mod SerialFindings
 pub mod SnapshotFindings
 pub mod UnstampedFindings
+pub mod ShownThere
+pub mod UnstampedDecided
 pub mod VersionOrders
 pub mod CommitChains
+pub mod Installers
+pub mod WritersEnough
+pub mod CommitOrders
+pub mod HorizonOrder

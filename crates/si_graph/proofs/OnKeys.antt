@@ -20,6 +20,7 @@ use Rattle.si_model.specs.Parts.{Present, writes_pair_of, accesses, parts, on_ke
 use Rattle.si_model.specs.Versions.{Writes, IsFinalWrite, Installs, IsInstaller, commit_of, last_write, install_with}
 use Rattle.si_model.specs.Reads.{IsRead}
 use Rattle.si_model.specs.History.{IsHistory}
+use Rattle.si_graph.specs.Serial.{IsLastWrite}
 use Rattle.si_graph.specs.EvidenceTests.{part_on, last_on, install_on, is_last_on}
 use Rattle.si_graph.specs.Laws.{ModelLaws}
 use Rattle.si_lists.proofs.Members.{same_some}
@@ -120,3 +121,25 @@ module _ (laws : ModelLaws) where
   -- of a history, the last write is the final one
   pub final_exact : (x : List ℕ) (P : Present) → IsHistory P → (T : Txn) (v : Value) → Contains (parts x P.txns) (part_on x T) → (last_write (accesses x T.ops) ≡ Some v) ↔ IsFinalWrite (part_on x T) v
   final_exact x P h T v c = laws.last (on_key x P) (part_on x T) v (laws.keys P x h) c
+
+  -- of a history, a committed transaction with that last write of the key wrote it last, and the other way round
+  pub last_is : (x : List ℕ) (P : Present) → IsHistory P → (A : Txn) (v : Value) → Contains P.txns A → (c : Stamp) → A.status ≡ status.Committed c → last_write (accesses x A.ops) ≡ Some v → IsLastWrite A x v
+  last_is x P h A v a c s e =
+      let installs = (install_exact x A (record { txn = A.id; start = A.start; commit = c })).0 (installs_by x A c v s e) in
+      let part = part_of_write x P.txns A installs.writes.0 a installs.writes.1 in
+      let final = (final_exact x P h A v part).0 e in
+      record {
+        place = final.place;
+        is = op_at x A.ops (record { place = final.place; access = access.Write v }) final.is;
+        last = λ j w at. final.last j w (access_at x A.ops j (access.Write w) at);
+      }
+
+  pub last_from : (x : List ℕ) (P : Present) → IsHistory P → (A : Txn) (v : Value) → Contains P.txns A → IsLastWrite A x v → last_write (accesses x A.ops) ≡ Some v
+  last_from x P h A v a l =
+      let at = access_at x A.ops l.place (access.Write v) l.is in
+      let part = part_in x P.txns A (record { place = l.place; access = access.Write v }) a at in
+      (final_exact x P h A v part).1 (record {
+        place = l.place;
+        is = at;
+        last = λ j w is. l.last j w (op_at x A.ops (record { place = j; access = access.Write w }) is);
+      })

@@ -196,7 +196,7 @@ module _ (laws : ModelLaws) (P : Present) (h : IsHistory P) (ordered : IsInCommi
   -- ---- overlaps
 
   -- neighbouring versions don't overlap
-  pair_is_none : (x : List ℕ) (k : Kind) → IsOfPair cases (on_key x P) k → ⊥
+  pub pair_is_none : (x : List ℕ) (k : Kind) → IsOfPair cases (on_key x P) k → ⊥
   pair_is_none x k p =
       let A = writer_of laws P h x p.first p.installs in
       let B = writer_of laws P h x p.second p.next.installs in

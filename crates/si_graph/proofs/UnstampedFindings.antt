@@ -14,6 +14,7 @@ use Rattle.si_model.specs.declared.transactions.Txn.{Txn}
 use Rattle.si_model.specs.declared.evidence.Label.{Label}
 use Rattle.si_model.specs.declared.evidence.Label.TheVariants as label
 use Rattle.si_model.specs.declared.evidence.Edge.{Edge}
+use Rattle.si_model.specs.declared.evidence.KeyedEdge.{KeyedEdge}
 use Rattle.si_model.specs.Parts.{Present, set_up_value}
 use Rattle.si_model.specs.Versions.{commit_of}
 use Rattle.si_model.specs.Findings.{findings}
@@ -24,7 +25,7 @@ use Rattle.si_graph.specs.Laws.{ModelLaws}
 use Rattle.si_graph.specs.Serial.{Commits, CommitsWrite, IsLastWrite, IsLeft, Holds, Gives}
 use Rattle.si_graph.specs.Snapshots.{IsSnapshot}
 use Rattle.si_graph.specs.Walks.{IsWalk, IsClosed, is_rw, is_rw_edge}
-use Rattle.si_graph.specs.Unstamped.{IsSameOutcome, IsRestamped, HasOtherStamps, IsCommitted, ReadsFirst, ReadsAndWrites, IsFork, HandsOver, IsOverwrittenBy, IsByValue, IsValueEdge, IsNoRwPair, AreSpaced, HasNoRwPair, IsKnot}
+use Rattle.si_graph.specs.Unstamped.{IsSameOutcome, IsRestamped, HasOtherStamps, IsCommitted, ReadsFirst, ReadsAndWrites, IsFork, HandsOver, IsOverwrittenBy, IsByValue, IsValueEdge, IsNoRwPair, AreSpaced, HasNoRwPair, edges_of, IsKnot}
 use Rattle.si_lists.proofs.Members.{here, there, same_some}
 use Rattle.si_graph.proofs.OnKeys.{access_at, part_in}
 use Rattle.si_graph.proofs.StartEdges.{same_node}
@@ -120,8 +121,8 @@ module _ (laws : ModelLaws) (P : Present) (h : IsHistory P) (snap : IsSnapshot P
   forward_of u T c n = h.forward T c n.txn (ap commit_of n.committed)
 
   -- by one edge more
-  further : (n : ℕ) (e f : Edge) → Comes n e → IsNoRwPair e f → IsValueEdge P f → f.from ≡ e.to → Comes n f
-  further n e f k spaced is meets = record { txn = is.second; commit = is.to.committed.0; node = node_of f.to is.second is.to; behind = go f.label refl }
+  further : (n : ℕ) (e : Edge) (f : KeyedEdge) → Comes n e → IsNoRwPair e f.edge → IsValueEdge P f → f.edge.from ≡ e.to → Comes n f.edge
+  further n e f k spaced is meets = record { txn = is.second; commit = is.to.committed.0; node = node_of f.edge.to is.second is.to; behind = go f.edge.label refl }
     where
       A : Txn
       A = is.first
@@ -130,7 +131,7 @@ module _ (laws : ModelLaws) (P : Present) (h : IsHistory P) (snap : IsSnapshot P
       c = is.from.committed.0
 
       one : (k.txn ≡ A) × (k.commit ≡ c)
-      one = same_node P h e.to k.txn A k.commit c k.node (subst (λ u. IsNode P u A c) meets (node_of f.from A is.from))
+      one = same_node P h e.to k.txn A k.commit c k.node (subst (λ u. IsNode P u A c) meets (node_of f.edge.from A is.from))
 
       start : k.txn.start.0 ≡ A.start.0
       start = ap (λ (T : Txn). T.start.0) one.0
@@ -139,7 +140,7 @@ module _ (laws : ModelLaws) (P : Present) (h : IsHistory P) (snap : IsSnapshot P
       commit = ap (λ (s : Stamp). s.0) one.1
 
       forward : A.start.0 ≤ c.0
-      forward = forward_of f.from A c (node_of f.from A is.from)
+      forward = forward_of f.edge.from A c (node_of f.edge.from A is.from)
 
       before_commit : n < c.0
       before_commit = elim k.behind [ inl s ↦ omega (arith, s, start, forward) | inr s ↦ omega (arith, s.1, commit) ]
@@ -150,25 +151,25 @@ module _ (laws : ModelLaws) (P : Present) (h : IsHistory P) (snap : IsSnapshot P
       t : Commits P is.second is.to.committed.0
       t = record { txn = is.to.txn; committed = is.to.committed.1 }
 
-      go : (l : Label) → f.label ≡ l → (n < is.second.start.0) ⊎ ((is_rw_edge f ≡ true) × (n < is.to.committed.0.0))
-      go label.Wr e_l = (let next = handed A is.second c is.to.committed.0 is.key s t (subst (λ l. IsByValue l A is.second is.key) e_l is.by) in inl (omega (arith, next, before_commit)))
+      go : (l : Label) → f.edge.label ≡ l → (n < is.second.start.0) ⊎ ((is_rw_edge f.edge ≡ true) × (n < is.to.committed.0.0))
+      go label.Wr e_l = (let next = handed A is.second c is.to.committed.0 f.key s t (subst (λ l. IsByValue l A is.second f.key) e_l is.by) in inl (omega (arith, next, before_commit)))
       go label.Rw e_l = (
-          let rw : is_rw_edge f ≡ true = ap is_rw e_l in
-          let late = not_behind A is.second c is.to.committed.0 is.key s t (subst (λ l. IsByValue l A is.second is.key) e_l is.by) in
+          let rw : is_rw_edge f.edge ≡ true = ap is_rw e_l in
+          let late = not_behind A is.second c is.to.committed.0 f.key s t (subst (λ l. IsByValue l A is.second f.key) e_l is.by) in
           elim k.behind [
             | inl b ↦ (let reached = not_less A.start.0 is.to.committed.0.0 late in inr (rw, omega (arith, b, start, reached)))
             | inr b ↦ absurd (spaced b.0 rw)
           ]
           )
-      go label.Ww e_l = absurd (subst (λ l. IsByValue l A is.second is.key) e_l is.by)
-      go label.St e_l = absurd (subst (λ l. IsByValue l A is.second is.key) e_l is.by)
+      go label.Ww e_l = absurd (subst (λ l. IsByValue l A is.second f.key) e_l is.by)
+      go label.St e_l = absurd (subst (λ l. IsByValue l A is.second f.key) e_l is.by)
 
   -- by the edges of a walk, up to its end
-  along : (n : ℕ) (first e : Edge) (es : List Edge) (goal : TxnId) → Comes n e → ((f : Edge) → Contains es f → IsValueEdge P f) → IsWalk e.to es goal → AreSpaced first e es
+  along : (n : ℕ) (first e : Edge) (es : List KeyedEdge) (goal : TxnId) → Comes n e → ((f : KeyedEdge) → Contains es f → IsValueEdge P f) → IsWalk e.to (edges_of es) goal → AreSpaced first e (edges_of es)
       → (l : Edge) × Comes n l × (l.to ≡ goal) × IsNoRwPair l first
   along n first e [] goal k edges walk spaced = (e, k, walk, spaced)
   along n first e (f ∷ fs) goal k edges walk spaced =
-      along n first f fs goal (further n e f k spaced.0 (edges f (here f fs)) walk.0) (λ g is. edges g (there f fs g is)) walk.1 spaced.1
+      along n first f.edge fs goal (further n e f k spaced.0 (edges f (here f fs)) walk.0) (λ g is. edges g (there f fs g is)) walk.1 spaced.1
 
   -- where it comes back to the transaction at which it began
   closes : (n : ℕ) (e l : Edge) (T : Txn) (c : Stamp) → IsNode P e.from T c → Comes n l → l.to ≡ e.from → ((n < T.start.0) ⊎ ((is_rw_edge l ≡ true) × (n < c.0)))
@@ -179,8 +180,8 @@ module _ (laws : ModelLaws) (P : Present) (h : IsHistory P) (snap : IsSnapshot P
       elim k.behind [ inl b ↦ inl (omega (arith, b, start)) | inr b ↦ inr (b.0, omega (arith, b.1, commit)) ]
 
   -- an edge and the next one, which isn't an rw edge if the first one is
-  second_comes : (e f : Edge) (is : IsValueEdge P e) → IsValueEdge P f → f.from ≡ e.to → e.label ≡ label.Rw → IsNoRwPair e f → Comes is.first.start.0 f
-  second_comes e f is next meets e_l spaced = record { txn = next.second; commit = next.to.committed.0; node = node_of f.to next.second next.to; behind = go f.label refl }
+  second_comes : (e f : KeyedEdge) (is : IsValueEdge P e) → IsValueEdge P f → f.edge.from ≡ e.edge.to → e.edge.label ≡ label.Rw → IsNoRwPair e.edge f.edge → Comes is.first.start.0 f.edge
+  second_comes e f is next meets e_l spaced = record { txn = next.second; commit = next.to.committed.0; node = node_of f.edge.to next.second next.to; behind = go f.edge.label refl }
     where
       T : Txn
       T = is.first
@@ -207,53 +208,53 @@ module _ (laws : ModelLaws) (P : Present) (h : IsHistory P) (snap : IsSnapshot P
       one = same_commit laws P h B next.first d next.from.committed.0 t u (is.to.id ∙ sym meets ∙ sym next.from.id)
 
       reaches : T.start.0 ≤ d.0
-      reaches = not_less T.start.0 d.0 (not_behind T B is.from.committed.0 d is.key s t (subst (λ l. IsByValue l T B is.key) e_l is.by))
+      reaches = not_less T.start.0 d.0 (not_behind T B is.from.committed.0 d e.key s t (subst (λ l. IsByValue l T B e.key) e_l is.by))
 
-      go : (l : Label) → f.label ≡ l → (T.start.0 < next.second.start.0) ⊎ ((is_rw_edge f ≡ true) × (T.start.0 < next.to.committed.0.0))
+      go : (l : Label) → f.edge.label ≡ l → (T.start.0 < next.second.start.0) ⊎ ((is_rw_edge f.edge ≡ true) × (T.start.0 < next.to.committed.0.0))
       go label.Wr f_l = (
-          let later = handed next.first next.second next.from.committed.0 next.to.committed.0 next.key u v (subst (λ l. IsByValue l next.first next.second next.key) f_l next.by) in
+          let later = handed next.first next.second next.from.committed.0 next.to.committed.0 f.key u v (subst (λ l. IsByValue l next.first next.second f.key) f_l next.by) in
           inl (omega (arith, reaches, one, later))
           )
       go label.Rw f_l = absurd (spaced (ap is_rw e_l) (ap is_rw f_l))
-      go label.Ww f_l = absurd (subst (λ l. IsByValue l next.first next.second next.key) f_l next.by)
-      go label.St f_l = absurd (subst (λ l. IsByValue l next.first next.second next.key) f_l next.by)
+      go label.Ww f_l = absurd (subst (λ l. IsByValue l next.first next.second f.key) f_l next.by)
+      go label.St f_l = absurd (subst (λ l. IsByValue l next.first next.second f.key) f_l next.by)
 
   -- a closed walk that begins with a wr edge
-  begins_wr : (e : Edge) (es : List Edge) → IsKnot P (e ∷ es) → e.label ≡ label.Wr → ⊥
+  begins_wr : (e : KeyedEdge) (es : List KeyedEdge) → IsKnot P (e ∷ es) → e.edge.label ≡ label.Wr → ⊥
   begins_wr e es k e_l =
       let is = k.edges e (here e es) in
       let c = is.from.committed.0 in
-      let node = node_of e.from is.first is.from in
+      let node = node_of e.edge.from is.first is.from in
       let s : Commits P is.first c = record { txn = is.from.txn; committed = is.from.committed.1 } in
       let t : Commits P is.second is.to.committed.0 = record { txn = is.to.txn; committed = is.to.committed.1 } in
-      let next = handed is.first is.second c is.to.committed.0 is.key s t (subst (λ l. IsByValue l is.first is.second is.key) e_l is.by) in
-      let begun : Comes c.0 e = record { txn = is.second; commit = is.to.committed.0; node = node_of e.to is.second is.to; behind = inl next } in
-      let end = along c.0 e e es e.from begun (λ f at. k.edges f (there e es f at)) k.closed k.spaced in
-      let forward : is.first.start.0 ≤ c.0 = forward_of e.from is.first c node in
-      elim (closes c.0 e end.0 is.first c node end.1 end.2) [ inl b ↦ omega (arith, b, forward) | inr b ↦ omega (arith, b.1) ]
+      let next = handed is.first is.second c is.to.committed.0 e.key s t (subst (λ l. IsByValue l is.first is.second e.key) e_l is.by) in
+      let begun : Comes c.0 e.edge = record { txn = is.second; commit = is.to.committed.0; node = node_of e.edge.to is.second is.to; behind = inl next } in
+      let end = along c.0 e.edge e.edge es e.edge.from begun (λ f at. k.edges f (there e es f at)) k.closed k.spaced in
+      let forward : is.first.start.0 ≤ c.0 = forward_of e.edge.from is.first c node in
+      elim (closes c.0 e.edge end.0 is.first c node end.1 end.2) [ inl b ↦ omega (arith, b, forward) | inr b ↦ omega (arith, b.1) ]
 
   -- and one that begins with an rw edge
-  begins_rw : (e : Edge) (es : List Edge) → IsKnot P (e ∷ es) → e.label ≡ label.Rw → ⊥
+  begins_rw : (e : KeyedEdge) (es : List KeyedEdge) → IsKnot P (e ∷ es) → e.edge.label ≡ label.Rw → ⊥
   begins_rw e [] k e_l = (k.edges e (here e [])).differ (sym k.closed)
   begins_rw e (f ∷ fs) k e_l =
       let is = k.edges e (here e (f ∷ fs)) in
       let next = k.edges f (there e (f ∷ fs) f (here f fs)) in
-      let begun : Comes is.first.start.0 f = second_comes e f is next k.closed.0 e_l k.spaced.0 in
-      let end = along is.first.start.0 e f fs e.from begun (λ g at. k.edges g (there e (f ∷ fs) g (there f fs g at))) k.closed.1 k.spaced.1 in
-      elim (closes is.first.start.0 e end.0 is.first is.from.committed.0 (node_of e.from is.first is.from) end.1 end.2) [
+      let begun : Comes is.first.start.0 f.edge = second_comes e f is next k.closed.0 e_l k.spaced.0 in
+      let end = along is.first.start.0 e.edge f.edge fs e.edge.from begun (λ g at. k.edges g (there e (f ∷ fs) g (there f fs g at))) k.closed.1 k.spaced.1 in
+      elim (closes is.first.start.0 e.edge end.0 is.first is.from.committed.0 (node_of e.edge.from is.first is.from) end.1 end.2) [
         | inl b ↦ omega (arith, b)
         | inr b ↦ end.3 b.0 (ap is_rw e_l)
       ]
 
-  pub no_knot : (es : List Edge) → IsKnot P es → ⊥
+  pub no_knot : (es : List KeyedEdge) → IsKnot P es → ⊥
   no_knot [] k = k.closed
-  no_knot (e ∷ es) k = go e.label refl
+  no_knot (e ∷ es) k = go e.edge.label refl
     where
-      go : (l : Label) → e.label ≡ l → ⊥
+      go : (l : Label) → e.edge.label ≡ l → ⊥
       go label.Wr e_l = begins_wr e es k e_l
       go label.Rw e_l = begins_rw e es k e_l
-      go label.Ww e_l = (let is = k.edges e (here e es) in subst (λ l. IsByValue l is.first is.second is.key) e_l is.by)
-      go label.St e_l = (let is = k.edges e (here e es) in subst (λ l. IsByValue l is.first is.second is.key) e_l is.by)
+      go label.Ww e_l = (let is = k.edges e (here e es) in subst (λ l. IsByValue l is.first is.second e.key) e_l is.by)
+      go label.St e_l = (let is = k.edges e (here e es) in subst (λ l. IsByValue l is.first is.second e.key) e_l is.by)
 
 -- ---- with other stamps
 
@@ -314,17 +315,17 @@ module _ (P Q : Present) (other : HasOtherStamps P Q) where
   same_by label.Ww A B C D x e f s = s
   same_by label.St A B C D x e f s = s
 
-  same_edge : (e : Edge) → IsValueEdge P e → IsValueEdge Q e
+  same_edge : (e : KeyedEdge) → IsValueEdge P e → IsValueEdge Q e
   same_edge e k =
-      let A = committed e.from k.first k.from in
-      let B = committed e.to k.second k.to in
-      record { key = k.key; first = A.0; second = B.0; from = A.1; to = B.1; differ = k.differ; by = same_by e.label k.first k.second A.0 B.0 k.key A.2 B.2 k.by }
+      let A = committed e.edge.from k.first k.from in
+      let B = committed e.edge.to k.second k.to in
+      record { first = A.0; second = B.0; from = A.1; to = B.1; differ = k.differ; by = same_by e.edge.label k.first k.second A.0 B.0 e.key A.2 B.2 k.by }
 
-  pub same_knot : (es : List Edge) → IsKnot P es → IsKnot Q es
+  pub same_knot : (es : List KeyedEdge) → IsKnot P es → IsKnot Q es
   same_knot es k = record { edges = λ e is. same_edge e (k.edges e is); closed = k.closed; spaced = k.spaced }
 
 pub no_stamps_mend_fork : ModelLaws → (P Q : Present) (x : List ℕ) (a b : TxnId) → IsFork P x a b → HasOtherStamps P Q → IsHistory Q → findings Q ≡ [] → ⊥
 no_stamps_mend_fork laws P Q x a b f other h none = no_fork laws Q h ((snapshots_clean laws Q h).0 none) x a b (same_fork P Q other x a b f)
 
-pub no_stamps_mend_knot : ModelLaws → (P Q : Present) (es : List Edge) → IsKnot P es → HasOtherStamps P Q → IsHistory Q → findings Q ≡ [] → ⊥
+pub no_stamps_mend_knot : ModelLaws → (P Q : Present) (es : List KeyedEdge) → IsKnot P es → HasOtherStamps P Q → IsHistory Q → findings Q ≡ [] → ⊥
 no_stamps_mend_knot laws P Q es k other h none = no_knot laws Q h ((snapshots_clean laws Q h).0 none) es (same_knot P Q other es k)

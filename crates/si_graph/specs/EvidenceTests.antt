@@ -1,6 +1,6 @@
 -- The tests that decide what an evidence shows: `Shown` in a form that can be computed, this project's choice.
 use Rattle.std.specs.Prelude.{ℕ, Bool, true, false, not, ◌&&◌, ◌||◌, if◌then◌else◌, nat_eq, nat_lt, List, [], ◌∷◌, Some, None, Option, is_some, slice_get}
-use Rattle.std.specs.List.{list_any, list_all, count_by}
+use Rattle.std.specs.List.{list_any, list_all, count_by, find}
 use Rattle.std.specs.Option.{option_eq, option_or}
 use Rattle.si_model.specs.declared.numbers.TxnId.{TxnId}
 use Rattle.si_model.specs.declared.numbers.Stamp.{Stamp}
@@ -17,6 +17,7 @@ use Rattle.si_model.specs.declared.sights.VersionId.TheVariants as version
 use Rattle.si_model.specs.declared.evidence.Label.{Label}
 use Rattle.si_model.specs.declared.evidence.Label.TheVariants as label
 use Rattle.si_model.specs.declared.evidence.Edge.{Edge}
+use Rattle.si_model.specs.declared.evidence.KeyedEdge.{KeyedEdge}
 use Rattle.si_model.specs.declared.evidence.Evidence.{Evidence}
 use Rattle.si_model.specs.declared.evidence.Evidence.TheVariants as evidence
 use Rattle.si_model.specs.Operations.{key_of, access_of, same_value, same_key}
@@ -24,6 +25,7 @@ use Rattle.si_model.specs.Parts.{Present, writes_pair_of, accesses, set_up_value
 use Rattle.si_model.specs.Versions.{written, commit_of, last_write, install_with, is_after}
 use Rattle.si_model.specs.Edits.{same_id, with_id}
 use Rattle.si_graph.specs.Walks.{is_rw_edge}
+use Rattle.si_graph.specs.Unstamped.{edges_of}
 
 -- ---- one key
 
@@ -92,14 +94,23 @@ reads_last_of A (op.Read x None) = false
 reads_last_of A (op.Read x (Some v)) = is_last_on x v A
 reads_last_of A (op.Write x v) = false
 
--- whether T installs the value, and the next version is the other's
-abbrev pub precedes : List Txn → List ℕ → Value → Option Installer → Txn → Bool
-precedes txns x v n T = is_last_on x v T && are_neighbours txns x (install_on x T) n
+-- whether T installs the value: it committed, and its last write of the key is of it
+abbrev pub installs_value : List ℕ → Value → Txn → Bool
+installs_value x v T = is_committed T && is_last_on x v T
+
+-- the transaction that installs the value
+abbrev pub installer_of : List Txn → List ℕ → Value → Option Txn
+installer_of txns x v = find (installs_value x v) txns
+
+-- whether there is a transaction, and the version next after the one that it installs is the other's
+abbrev pub precedes : List Txn → List ℕ → Option Txn → Option Installer → Bool
+precedes txns x None n = false
+precedes txns x (Some T) n = are_neighbours txns x (install_on x T) n
 
 -- whether a transaction installs what was read, and the next version is the other's
 abbrev pub one_precedes : List Txn → List ℕ → Option Value → Option Installer → Bool
 one_precedes txns x None n = false
-one_precedes txns x (Some v) n = list_any (precedes txns x v n) txns
+one_precedes txns x (Some v) n = precedes txns x (installer_of txns x v) n
 
 -- whether the initial version returns what was read, and the next version is the other's
 abbrev pub initial_precedes : Present → List ℕ → Option Value → Option Installer → Bool
@@ -193,6 +204,79 @@ is_aborted_read i T W = is_committed T && (is_aborted W.status && passes_there (
 abbrev pub is_intermediate_read : ℕ → Txn → Txn → Bool
 is_intermediate_read i T W = is_committed T && (not (same_id W.id T.id) && passes_there (reads_intermediate_of W) (slice_get T.ops i))
 
+-- ---- forks and knots
+
+-- whether the operation writes the key
+abbrev pub is_write_of : List ℕ → Op → Bool
+is_write_of x (op.Read y v) = false
+is_write_of x (op.Write y v) = same_key y x
+
+-- whether one of the operations does
+abbrev pub write_key : List ℕ → List Op → Bool
+write_key x ps = list_any (is_write_of x) ps
+
+-- whether the operations read the key before they write it, and that returned v
+abbrev pub read_first : List ℕ → Option Value → List Op → Bool
+read_first x v [] = false
+read_first x v (op.Read y w ∷ ps) = same_key y x && option_eq same_value w v || read_first x v ps
+read_first x v (op.Write y w ∷ ps) = not (same_key y x) && read_first x v ps
+
+-- whether the ones read of the key, before they write it, what the others so read too
+abbrev pub read_alike : List ℕ → List Op → List Op → Bool
+read_alike x [] qs = false
+read_alike x (op.Read y v ∷ ps) qs = same_key y x && read_first x v qs || read_alike x ps qs
+read_alike x (op.Write y v ∷ ps) qs = not (same_key y x) && read_alike x ps qs
+
+-- whether B overwrote what A read of the key
+abbrev pub is_overwritten : List ℕ → Txn → Txn → Bool
+is_overwritten x A B = write_key x B.ops && read_alike x A.ops B.ops
+
+-- whether both committed, and each overwrote what the other read of the key
+abbrev pub are_forked : List ℕ → Txn → Txn → Bool
+are_forked x A B = is_committed A && (is_committed B && (write_key x A.ops && is_overwritten x A B))
+
+-- whether B read that value of the key, if there is one, before it wrote the key
+abbrev pub reads_some_first : List ℕ → Option Value → Txn → Bool
+reads_some_first x None B = false
+reads_some_first x (Some v) B = read_first x (Some v) B.ops
+
+-- whether an edge of that label is there by what was read and written of the key
+abbrev pub is_by_value : Label → List ℕ → Txn → Txn → Bool
+is_by_value label.Ww x A B = false
+is_by_value label.Wr x A B = reads_some_first x (last_on x A) B
+is_by_value label.Rw x A B = is_overwritten x A B
+is_by_value label.St x A B = false
+
+-- whether both committed, and the edge is there so
+abbrev pub are_joined : KeyedEdge → Txn → Txn → Bool
+are_joined e A B = is_committed A && (is_committed B && is_by_value e.edge.label e.key A B)
+
+-- whether the edge joins two so
+abbrev pub is_value_edge : Present → KeyedEdge → Bool
+is_value_edge P e = not (same_id e.edge.from e.edge.to) && both_pass (are_joined e) (with_id P.txns e.edge.from) (with_id P.txns e.edge.to)
+
+-- whether not both are rw edges
+abbrev pub is_no_rw_pair : Edge → Edge → Bool
+is_no_rw_pair e f = not (is_rw_edge e && is_rw_edge f)
+
+-- whether no two neighbours are from that edge on, up to `first`
+abbrev pub are_spaced : Edge → Edge → List Edge → Bool
+are_spaced first e [] = is_no_rw_pair e first
+are_spaced first e (f ∷ fs) = is_no_rw_pair e f && are_spaced first f fs
+
+-- whether no two neighbours of the closed walk are
+abbrev pub has_no_rw_pair : List Edge → Bool
+has_no_rw_pair [] = true
+has_no_rw_pair (e ∷ es) = are_spaced e e es
+
+-- whether the two are a fork on the key
+abbrev pub is_fork : Present → List ℕ → TxnId → TxnId → Bool
+is_fork P x a b = not (same_id a b) && both_pass (are_forked x) (with_id P.txns a) (with_id P.txns b)
+
+-- whether the edges are a knot
+abbrev pub is_knot : Present → List KeyedEdge → Bool
+is_knot P es = is_closed (edges_of es) && (has_no_rw_pair (edges_of es) && list_all (is_value_edge P) es)
+
 -- ---- evidence
 
 -- whether the edge is of interference
@@ -209,3 +293,5 @@ holds P (evidence.AbortedRead t i w) = both_pass (is_aborted_read i) (with_id P.
 holds P (evidence.IntermediateRead t i w) = both_pass (is_intermediate_read i) (with_id P.txns t) (with_id P.txns w)
 holds P (evidence.Interference e) = is_interference P e
 holds P (evidence.Missed es) = are_missed P es
+holds P (evidence.Fork x a b) = is_fork P x a b
+holds P (evidence.Knot es) = is_knot P es

@@ -1,11 +1,12 @@
 -- The laws of the definitions, each the contract of a public function of `laws` with an empty body. They are this project's.
-use Rattle.std.specs.Prelude.{◌≡◌, ◌↔◌, List, Some}
+use Rattle.std.specs.Prelude.{◌≡◌, ◌↔◌, List, [], Some, ⊤}
 use Rattle.si_model.specs.declared.findings.Finding.{Finding}
 use Rattle.si_model.specs.declared.evidence.Edge.{Edge}
 use Rattle.si_model.specs.declared.evidence.Evidence.{Evidence}
 use Rattle.si_model.specs.declared.evidence.Evidence.TheVariants as evidence
 use Rattle.si_model.specs.Parts.{Present}
-use Rattle.si_model.specs.Findings.{IsFinding}
+use Rattle.si_model.specs.Findings.{IsFinding, findings}
+use Rattle.si_model.specs.Form.{IsWellFormed}
 use Rattle.si_model.specs.History.{IsHistory}
 use Rattle.si_model.specs.Evidence.{evidence_of}
 use Rattle.si_model.specs.Laws.{FindingsAreExact, FormIsFound, KeysAreOfHistory, PartsAreOfTransactions, AccessesAreOperations, PartsDiffer, TestsDecide}
@@ -13,6 +14,7 @@ use Rattle.si_model.specs.Laws.{LastWriteIsFinal, OwnValueIsLast, LaterIsLater, 
 use Rattle.si_graph.specs.Walks.{IsClosedWalk, AreDependencies, HasOneRw}
 use Rattle.si_graph.specs.Phenomena.{HasAbortedRead, HasIntermediateRead, HasCircularFlow, HasInterference, HasMissedEffects, IsPlSi}
 use Rattle.si_graph.specs.Shown.{Shows}
+use Rattle.si_graph.specs.Unstamped.{HasOtherStamps}
 
 -- a closed walk of ww and wr edges is there exactly where a cycle of them is
 abbrev pub CircularWalksHaveCycles : Type 0
@@ -22,20 +24,35 @@ CircularWalksHaveCycles = (P : Present) → ((es : List Edge) × IsClosedWalk P 
 abbrev pub MissedWalksHaveCycles : Type 0
 MissedWalksHaveCycles = (P : Present) → ((es : List Edge) × IsClosedWalk P es × HasOneRw es) ↔ HasMissedEffects P
 
--- the phenomenon that an evidence is of
+-- no stamps make the history clean
+abbrev pub HasNoStamps : Present → Type 0
+HasNoStamps P = (Q : Present) → HasOtherStamps P Q → IsHistory Q → findings Q ≡ [] → ⊥
+
+-- the phenomenon that an evidence is of; a fork and a knot are of none, but no stamps mend them
 abbrev pub HasPhenomenonOf : Present → Evidence → Type 0
 HasPhenomenonOf P (evidence.AbortedRead t i w) = HasAbortedRead P
 HasPhenomenonOf P (evidence.IntermediateRead t i w) = HasIntermediateRead P
 HasPhenomenonOf P (evidence.Interference e) = HasInterference P
 HasPhenomenonOf P (evidence.Missed es) = HasMissedEffects P
+HasPhenomenonOf P (evidence.Fork x a b) = HasNoStamps P
+HasPhenomenonOf P (evidence.Knot es) = HasNoStamps P
 
 -- an evidence that holds of a history is of a phenomenon that is there
 abbrev pub ShownIsThere : Type 0
 ShownIsThere = (P : Present) (e : Evidence) → IsHistory P → Shows P e → HasPhenomenonOf P e
 
+-- the history is well formed, where the evidence is a fork or a knot: these are also of values that nobody wrote
+abbrev pub IsFormedFor : Present → Evidence → Type 0
+IsFormedFor P (evidence.AbortedRead t i w) = ⊤
+IsFormedFor P (evidence.IntermediateRead t i w) = ⊤
+IsFormedFor P (evidence.Interference e) = ⊤
+IsFormedFor P (evidence.Missed es) = ⊤
+IsFormedFor P (evidence.Fork x a b) = IsWellFormed P
+IsFormedFor P (evidence.Knot es) = IsWellFormed P
+
 -- no evidence holds of a history of snapshot isolation
 abbrev pub NothingIsShown : Type 0
-NothingIsShown = (P : Present) (e : Evidence) → IsHistory P → IsPlSi P → Shows P e → ⊥
+NothingIsShown = (P : Present) (e : Evidence) → IsHistory P → IsPlSi P → IsFormedFor P e → Shows P e → ⊥
 
 -- the evidence for a finding of a history holds of it
 abbrev pub ExplainedIsShown : Type 0

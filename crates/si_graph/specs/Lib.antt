@@ -12,6 +12,10 @@ pub mod SerialLaws
 pub mod Snapshots
 pub mod SnapshotLaws
 pub mod Unstamped
+pub mod CommitOrders
 pub mod UnstampedLaws
 pub mod VersionOrders
 pub mod EvidenceTests
+pub mod Installers
+pub mod Writers
+pub mod HorizonOrder

@@ -16,6 +16,7 @@ use Rattle.si_graph.specs.Walks.{IsCycle}
 use Rattle.si_graph.specs.Emptiness.{HasFinding}
 use Rattle.si_graph.specs.Serial.{Commits, ReadsAt, IsInCommitOrder, Gives, IsSerial}
 use Rattle.si_graph.specs.SerialRuns.{AreInOrder, IsRun}
+use Rattle.si_graph.specs.CommitOrders.{IsInCommitOrderOf, HasReadAcross}
 use Rattle.si_graph.specs.Serializability.{AreConflicts, IsPl3}
 
 -- the kind is of the read that is the operation i of the transaction u
@@ -69,3 +70,14 @@ FutureIsLater = (P : Present) (x : List ℕ) (t : TxnId) (i : ℕ) (v : Option V
 abbrev pub CleanIsSerializable : Type 0
 CleanIsSerializable = (P : Present) → IsHistory P → IsInCommitOrder P → findings P ≡ []
     → ((es : List Edge) → IsCycle P es → AreConflicts es → ⊥) × IsPl3 P
+
+-- ---- a history and the same in commit order
+
+-- each history can be put in commit order
+abbrev pub CommitOrderIsThere : Type 0
+CommitOrderIsThere = (P : Present) → IsHistory P → (R : Present) × IsInCommitOrderOf P R
+
+-- a history without a finding has a free read across another's commit exactly where the same history in commit order has a finding: so
+-- without such a read a run on snapshots can't be told from a serial one
+abbrev pub UnmovedIsSerial : Type 0
+UnmovedIsSerial = (P R : Present) → IsHistory P → findings P ≡ [] → IsInCommitOrderOf P R → HasReadAcross P ↔ (findings R ≡ [] → ⊥)

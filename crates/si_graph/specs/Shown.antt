@@ -9,6 +9,7 @@ use Rattle.si_model.specs.declared.evidence.Evidence.TheVariants as evidence
 use Rattle.si_graph.specs.Edges.{AreTimed, IsEdge, IsDependency}
 use Rattle.si_graph.specs.Walks.{IsClosedWalk, HasOneRw}
 use Rattle.si_graph.specs.Phenomena.{IsAbortedRead, IsIntermediateRead}
+use Rattle.si_graph.specs.Unstamped.{IsFork, IsKnot}
 
 -- the read at the place i of the transaction of id t, and the writer of id w, are so related on some key
 pub record IsReadFrom (P : Present) (R : OnKey → Part → ℕ → Part → Type 0) (t : TxnId) (i : ℕ) (w : TxnId) : Type 0 where
@@ -29,3 +30,5 @@ Shows P (evidence.AbortedRead t i w) = IsReadFrom P IsAbortedRead t i w
 Shows P (evidence.IntermediateRead t i w) = IsReadFrom P IsIntermediateRead t i w
 Shows P (evidence.Interference e) = IsEdge P e × IsDependency e.label × IsNotBefore P e.from e.to
 Shows P (evidence.Missed es) = IsClosedWalk P es × HasOneRw es
+Shows P (evidence.Fork x a b) = IsFork P x a b
+Shows P (evidence.Knot es) = IsKnot P es

@@ -1,6 +1,6 @@
 -- What a history says without its stamps: forks and knots. Nothing here looks at a stamp, so it is so of all histories that differ in
 -- stamps alone. These words are this project's.
-use Rattle.std.specs.Prelude.{◌≡◌, ◌≢◌, ℕ, ◌<◌, true, List, [], ◌∷◌, Some, Option, ⊤}
+use Rattle.std.specs.Prelude.{◌≡◌, ◌≢◌, ℕ, ◌<◌, true, List, [], ◌∷◌, Some, Option, ⊤, map}
 use Rattle.std.specs.List.{Contains}
 use Rattle.si_model.specs.declared.numbers.TxnId.{TxnId}
 use Rattle.si_model.specs.declared.numbers.Stamp.{Stamp}
@@ -11,6 +11,7 @@ use Rattle.si_model.specs.declared.transactions.Txn.{Txn}
 use Rattle.si_model.specs.declared.evidence.Label.{Label}
 use Rattle.si_model.specs.declared.evidence.Label.TheVariants as label
 use Rattle.si_model.specs.declared.evidence.Edge.{Edge}
+use Rattle.si_model.specs.declared.evidence.KeyedEdge.{KeyedEdge}
 use Rattle.si_model.specs.Parts.{Present}
 use Rattle.si_model.specs.History.{WritesPairAt}
 use Rattle.si_graph.specs.Serial.{ReadsAt, IsLastWrite}
@@ -94,15 +95,18 @@ IsByValue label.Rw A B x = IsOverwrittenBy A B x
 IsByValue label.Ww A B x = ⊥
 IsByValue label.St A B x = ⊥
 
--- an edge between two different committed transactions that is there by what was read and written
-pub record IsValueEdge (P : Present) (e : Edge) : Type 0 where
-  pub key : List ℕ
+-- an edge between two different committed transactions that is there by what was read and written to the key
+pub record IsValueEdge (P : Present) (e : KeyedEdge) : Type 0 where
   pub first : Txn
   pub second : Txn
-  pub from : IsCommitted P e.from first
-  pub to : IsCommitted P e.to second
-  pub differ : e.from ≢ e.to
-  pub by : IsByValue e.label first second key
+  pub from : IsCommitted P e.edge.from first
+  pub to : IsCommitted P e.edge.to second
+  pub differ : e.edge.from ≢ e.edge.to
+  pub by : IsByValue e.edge.label first second e.key
+
+-- the edges without their keys
+abbrev pub edges_of : List KeyedEdge → List Edge
+edges_of es = map (λ e. e.edge) es
 
 -- not both are rw edges
 abbrev pub IsNoRwPair : Edge → Edge → Type 0
@@ -119,7 +123,7 @@ HasNoRwPair [] = ⊤
 HasNoRwPair (e ∷ es) = AreSpaced e e es
 
 -- a closed walk of such edges in which no two neighbours are rw edges
-pub record IsKnot (P : Present) (es : List Edge) : Type 0 where
-  pub edges : (e : Edge) → Contains es e → IsValueEdge P e
-  pub closed : IsClosed es
-  pub spaced : HasNoRwPair es
+pub record IsKnot (P : Present) (es : List KeyedEdge) : Type 0 where
+  pub edges : (e : KeyedEdge) → Contains es e → IsValueEdge P e
+  pub closed : IsClosed (edges_of es)
+  pub spaced : HasNoRwPair (edges_of es)

@@ -1,7 +1,7 @@
 -- What forks and knots say of stamps. These laws are this project's.
 use Rattle.std.specs.Prelude.{◌≡◌, List, [], ℕ}
 use Rattle.si_model.specs.declared.numbers.TxnId.{TxnId}
-use Rattle.si_model.specs.declared.evidence.Edge.{Edge}
+use Rattle.si_model.specs.declared.evidence.KeyedEdge.{KeyedEdge}
 use Rattle.si_model.specs.Parts.{Present}
 use Rattle.si_model.specs.Findings.{findings}
 use Rattle.si_model.specs.History.{IsHistory}
@@ -13,4 +13,4 @@ NoStampsMendForks = (P Q : Present) (x : List ℕ) (a b : TxnId) → IsFork P x 
 
 -- and so has one with a knot
 abbrev pub NoStampsMendKnots : Type 0
-NoStampsMendKnots = (P Q : Present) (es : List Edge) → IsKnot P es → HasOtherStamps P Q → IsHistory Q → findings Q ≡ [] → ⊥
+NoStampsMendKnots = (P Q : Present) (es : List KeyedEdge) → IsKnot P es → HasOtherStamps P Q → IsHistory Q → findings Q ≡ [] → ⊥

@@ -1,4 +1,4 @@
-//! Whether an evidence holds, found by walking transactions and operations, with no memory.
+//! Whether an evidence holds, with no memory: by walking transactions and operations, or by what else finds the transactions.
 
 ghost use Rattle.std.specs.Prelude.{◌≡◌, ◌↔◌, IsTrue};
 ghost use Rattle.std.specs.List.{list_all, count_by};
@@ -8,43 +8,55 @@ ghost use Rattle.si_graph.specs.Shown.{Shows};
 ghost use Rattle.si_graph.specs.EvidenceTests.{is_edge, is_aborted, reads_write_of, reads_intermediate_of, is_aborted_read, is_intermediate_read, is_interference, commits_late, is_not_before, is_dependency, is_walk, is_closed, are_missed, holds};
 ghost use Rattle.si_graph.specs.Walks.{is_rw_edge};
 
-use crate::dependencies::{is_committed, is_edge};
-use crate::keys::is_last_on;
+use crate::dependencies::is_edge;
+use crate::keys::{is_committed, is_last_on};
 use crate::laws::model_laws;
-use crate::{Edge, Evidence, Label};
+use crate::unstamped::{is_fork, is_knot};
+use crate::{Edge, Evidence, Label, Lookup};
 use si_model::holders::writes_pair;
-use si_model::plain::find_with_id;
+use si_model::plain::Walked;
 use si_model::{Key, Op, Stamp, Status, Txn, TxnId, Value};
 
 /// Whether the evidence holds of these transactions and set-up values. A yes means that the phenomenon is there.
 ///
-/// It takes no memory. For each edge it walks all transactions for each operation of its ends.
+/// It takes no memory. For each edge it walks all transactions, and for ww and rw edges it does so for each operation of its ends.
 pub fn check_evidence(txns: &[Txn], initial: &[(Key, Value)], evidence: &Evidence) -> bool
     requires { IsHistory (record { txns = txns.now; initial = initial.now }) }
     ensures { IsTrue result ↔ Shows (record { txns = txns.now; initial = initial.now }) evidence.now }
 {
     model_laws();
-    holds(txns, initial, evidence)
+    holds(&Walked { txns, initial }, evidence)
 }
 
-fn holds(txns: &[Txn], initial: &[(Key, Value)], evidence: &Evidence) -> bool
-    ensures { result ≡ holds (record { txns = txns.now; initial = initial.now }) evidence.now }
+/// Whether the evidence holds of what is present, found by that: the same answer as that of [`check_evidence`].
+pub fn check_evidence_by<L: Lookup>(lookup: &L, evidence: &Evidence) -> bool
+    requires { IsHistory (L.present lookup.now) }
+    ensures { IsTrue result ↔ Shows (L.present lookup.now) evidence.now }
+{
+    model_laws();
+    holds(lookup, evidence)
+}
+
+fn holds<L: Lookup>(lookup: &L, evidence: &Evidence) -> bool
+    ensures { result ≡ holds (L.present lookup.now) evidence.now }
 {
     match evidence {
         Evidence::AbortedRead { reader, op, writer } => {
-            match (find_with_id(txns, *reader), find_with_id(txns, *writer)) {
+            match (lookup.find(*reader), lookup.find(*writer)) {
                 (Some(reader), Some(writer)) => is_aborted_read(*op, reader, writer),
                 _ => false,
             }
         }
         Evidence::IntermediateRead { reader, op, writer } => {
-            match (find_with_id(txns, *reader), find_with_id(txns, *writer)) {
+            match (lookup.find(*reader), lookup.find(*writer)) {
                 (Some(reader), Some(writer)) => is_intermediate_read(*op, reader, writer),
                 _ => false,
             }
         }
-        Evidence::Interference(edge) => is_interference(txns, initial, *edge),
-        Evidence::Missed(walk) => are_missed(txns, initial, walk.as_slice()),
+        Evidence::Interference(edge) => is_interference(lookup, *edge),
+        Evidence::Missed(walk) => are_missed(lookup, walk.as_slice()),
+        Evidence::Fork { key, first, second } => is_fork(lookup, key, *first, *second),
+        Evidence::Knot(knot) => is_knot(lookup, knot.as_slice()),
     }
 }
 
@@ -101,12 +113,12 @@ fn reads_intermediate_of(writer: &Txn, op: &Op) -> bool
     }
 }
 
-fn is_interference(txns: &[Txn], initial: &[(Key, Value)], edge: Edge) -> bool
-    ensures { result ≡ is_interference (record { txns = txns.now; initial = initial.now }) edge }
+fn is_interference<L: Lookup>(lookup: &L, edge: Edge) -> bool
+    ensures { result ≡ is_interference (L.present lookup.now) edge }
 {
     is_dependency(edge.label)
-        && is_edge(txns, initial, edge)
-        && match (find_with_id(txns, edge.from), find_with_id(txns, edge.to)) {
+        && is_edge(lookup, edge)
+        && match (lookup.find(edge.from), lookup.find(edge.to)) {
             (Some(from), Some(to)) => commits_late(from, to),
             _ => false,
         }
@@ -136,10 +148,10 @@ fn is_not_before(commit: Option<Stamp>, start: Stamp) -> bool
     }
 }
 
-fn are_missed(txns: &[Txn], initial: &[(Key, Value)], edges: &[Edge]) -> bool
-    ensures { result ≡ are_missed (record { txns = txns.now; initial = initial.now }) edges.now }
+fn are_missed<L: Lookup>(lookup: &L, edges: &[Edge]) -> bool
+    ensures { result ≡ are_missed (L.present lookup.now) edges.now }
 {
-    is_closed(edges) && count_of_rw(edges) == 1 && are_edges(txns, initial, edges)
+    is_closed(edges) && count_of_rw(edges) == 1 && are_edges(lookup, edges)
 }
 
 fn count_of_rw(edges: &[Edge]) -> usize
@@ -148,13 +160,13 @@ fn count_of_rw(edges: &[Edge]) -> usize
     edges.iter().filter(|edge| is_rw_edge(edge)).count()
 }
 
-fn are_edges(txns: &[Txn], initial: &[(Key, Value)], edges: &[Edge]) -> bool
-    ensures { result ≡ list_all (is_edge (record { txns = txns.now; initial = initial.now })) edges.now }
+fn are_edges<L: Lookup>(lookup: &L, edges: &[Edge]) -> bool
+    ensures { result ≡ list_all (is_edge (L.present lookup.now)) edges.now }
 {
-    edges.iter().all(|edge| is_edge(txns, initial, *edge))
+    edges.iter().all(|edge| is_edge(lookup, *edge))
 }
 
-fn is_rw_edge(edge: &Edge) -> bool
+pub fn is_rw_edge(edge: &Edge) -> bool
     ensures { result ≡ is_rw_edge edge.now }
 {
     match edge.label {

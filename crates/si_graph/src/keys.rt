@@ -1,9 +1,16 @@
 //! What a transaction does on one key, found by walking its operations.
 
 ghost use Rattle.std.specs.Prelude.{◌≡◌, None, fold};
-ghost use Rattle.si_graph.specs.EvidenceTests.{last_on, last_after, install_on, is_last_on};
+ghost use Rattle.si_graph.specs.EvidenceTests.{is_committed, last_on, last_after, install_on, is_last_on};
 
 use si_model::{Installer, Key, Op, Txn, Value};
+
+/// Whether the transaction committed.
+pub fn is_committed(txn: &Txn) -> bool
+    ensures { result ≡ is_committed txn.now }
+{
+    txn.status.commit().is_some()
+}
 
 /// The value of the transaction's last write of the key.
 pub fn last_on(key: &Key, txn: &Txn) -> Option<Value>

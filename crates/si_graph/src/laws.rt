@@ -1,17 +1,21 @@
 //! The laws of the definitions. Each is the contract of a function that does nothing: to call one is to have its fact. Some
 //! call the laws of `si_model` that they rest on.
 
+ghost use Rattle.si_graph.specs.Installers.{InstallerIsWriter};
+ghost use Rattle.si_graph.specs.Writers.{WritersAreEnough};
 ghost use Rattle.si_graph.specs.Emptiness.{AbortedReadsAreFound, CircularFlowInterferes, EmptinessIsExact, InterferenceIsFound, IntermediateReadsAreFound, MissedEffectsAreFound};
 ghost use Rattle.si_graph.specs.Laws.{CircularWalksHaveCycles, MissedWalksHaveCycles, ShownIsThere, NothingIsShown, ExplainedIsShown, ModelLaws};
-ghost use Rattle.si_graph.specs.SerialLaws.{SerialReadsAreClean, SerialIsClean, RunsAreSerial, CleanIsARun, NoneOverlaps, FutureIsLater, CleanIsSerializable};
+ghost use Rattle.si_graph.specs.HorizonOrder.{CarryingKeepsOrder};
+ghost use Rattle.si_graph.specs.SerialLaws.{SerialReadsAreClean, SerialIsClean, RunsAreSerial, CleanIsARun, NoneOverlaps, FutureIsLater, CleanIsSerializable, CommitOrderIsThere, UnmovedIsSerial};
 ghost use Rattle.si_graph.specs.SnapshotLaws.{AlarmsAreTrue, SnapshotReadsAreClean, ApartIsClean, SnapshotsAreClean, SnapshotsAreExact};
 ghost use Rattle.si_graph.specs.UnstampedLaws.{NoStampsMendForks, NoStampsMendKnots};
 ghost use Rattle.si_graph.specs.VersionOrders.{AnyVersionOrder, CommitOrderIsOurs, PassingOrdersAreByCommits};
 
 use si_model::laws::{
-    accesses_are_operations, findings_are_exact, form_is_found, id_is_found, install_is_exact,
-    keys_are_of_history, last_write_is_final, later_is_later, next_is_exact, own_value_is_last,
-    parts_are_of_transactions, parts_differ, sight_is_exact, source_is_exact, tests_decide,
+    accesses_are_operations, carried_is_exact, findings_are_exact, form_is_found, id_is_found,
+    install_is_exact, keys_are_of_history, last_write_is_final, later_is_later, next_is_exact,
+    own_value_is_last, parts_are_of_transactions, parts_differ, sight_is_exact, source_is_exact,
+    tests_decide,
 };
 
 /// A history has no finding exactly where it is well formed and PL-SI.
@@ -66,17 +70,19 @@ pub fn missed_walks_have_cycles()
     ensures { MissedWalksHaveCycles }
 {}
 
-/// An evidence that holds of a history is of a phenomenon that is there.
-#[tactic(auto, using(crate::proofs::Phenomena::shown_is_there))]
+/// An evidence that holds of a history is of a phenomenon that is there, or of what no stamps mend.
 pub fn shown_is_there()
     ensures { ShownIsThere }
-{}
+{
+    model_laws();
+}
 
-/// No evidence holds of a history of snapshot isolation.
-#[tactic(auto, using(crate::proofs::Phenomena::nothing_is_shown))]
+/// No evidence holds of a history of snapshot isolation, if that is well formed where it is a fork or a knot.
 pub fn nothing_is_shown()
     ensures { NothingIsShown }
-{}
+{
+    model_laws();
+}
 
 /// The evidence for a finding of a history holds of it.
 pub fn explained_is_shown()
@@ -136,6 +142,18 @@ pub fn clean_is_serializable()
     model_laws();
 }
 
+/// Each history can be put in commit order.
+pub fn commit_order_is_there()
+    ensures { CommitOrderIsThere }
+{}
+
+/// A history without a finding has a free read across another's commit exactly where the same history in commit order has a finding.
+pub fn unmoved_is_serial()
+    ensures { UnmovedIsSerial }
+{
+    model_laws();
+}
+
 /// Of any history, a read of a committed transaction has no finding exactly where it returned what the snapshot at the
 /// transaction's start gives it.
 pub fn snapshot_reads_are_clean()
@@ -186,6 +204,20 @@ pub fn no_stamps_mend_knots()
     model_laws();
 }
 
+/// Of a history, who installs a value is its writer, if that one installs it: so an index of writers finds it.
+pub fn installer_is_writer()
+    ensures { InstallerIsWriter }
+{
+    model_laws();
+}
+
+/// Whether no transaction installs a version of a key between two can be asked of those alone that write the key.
+pub fn writers_are_enough()
+    ensures { WritersAreEnough }
+{
+    model_laws();
+}
+
 /// A version order by which a history is PL-SI is that of the commit stamps.
 pub fn passing_orders_are_by_commits()
     ensures { PassingOrdersAreByCommits }
@@ -205,6 +237,13 @@ pub fn any_version_order()
     ensures { AnyVersionOrder }
 {
     model_laws();
+}
+
+/// What is carried over a horizon of a history in commit order is in commit order.
+pub fn carrying_keeps_order()
+    ensures { CarryingKeepsOrder }
+{
+    carried_is_exact();
 }
 
 /// The laws of `si_model` that these rest on.

@@ -13,9 +13,12 @@ pub mod explanations;
 pub mod faults;
 mod keys;
 pub mod laws;
-mod versions;
+pub mod lookups;
+mod unstamped;
+pub mod versions;
 
-pub use checks::check_evidence;
+pub use checks::{check_evidence, check_evidence_by};
 pub use explanations::explain;
 pub use faults::ExplainFault;
-pub use si_model::{Edge, Evidence, Label, Walk, evidence_of};
+pub use lookups::Lookup;
+pub use si_model::{Edge, Evidence, KeyedEdge, Knot, Label, Walk, evidence_of};

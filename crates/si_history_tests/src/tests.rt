@@ -3,6 +3,7 @@
 
 mod book_scripts;
 mod books;
+mod chances;
 mod commit_order;
 mod devices;
 mod evidence;

@@ -59,21 +59,36 @@ impl HandOver {
         ensures id { place.new.table_id ≡ place.old.table_id }
         ensures put { view place.new ≡ with_put item (view place.old) }
     {
+        if let Err(back) = self.try_put(rt, place, item) {
+            self.put_at_last(rt, place, back);
+        }
+        self.call_accepter();
+    }
+
+    /// Puts the item, once there is room for it: there was none.
+    #[inline(never)]
+    fn put_at_last<R: Wait>(&self, rt: &R, place: &mut Place, item: Item)
+        requires own { IsPassOf self.now.queue place.old }
+        requires source { view place.old ≡ source_view item.source (view place.old).put }
+        requires unended { has_last (view place.old).put ≡ false }
+        ensures own { IsPassOf self.now.queue place.new }
+        ensures id { place.new.table_id ≡ place.old.table_id }
+        ensures put { view place.new ≡ with_put item (view place.old) }
+    {
         let backoff = Backoff::new();
         let mut item = item;
         for _ in rt.forever() {
+            backoff.snooze();
             let tried = if backoff.is_completed() {
                 self.put_or_sleep(rt, place, item)
             } else {
                 self.try_put(rt, place, item)
             };
             match tried {
-                Ok(()) => break,
+                Ok(()) => return,
                 Err(back) => item = back,
             }
-            backoff.snooze();
         }
-        self.call_accepter();
     }
 
     /// The item comes back where the queue was full.
@@ -117,8 +132,24 @@ impl HandOver {
         ensures id { place.new.table_id ≡ place.old.table_id }
         ensures taken { IsTakenFrom (view place.old) result (view place.new) }
     {
+        match self.try_take(rt, place) {
+            Some(item) => item,
+            None => self.take_at_last(rt, place),
+        }
+    }
+
+    /// Takes the next item, once there is one: there was none.
+    #[inline(never)]
+    fn take_at_last<R: Wait>(&self, rt: &R, place: &mut Place) -> Item
+        requires own { IsPassOf self.now.queue place.old }
+        requires accepter { view place.old ≡ accepter_view (view place.old).made (view place.old).got [] }
+        ensures own { IsPassOf self.now.queue place.new }
+        ensures id { place.new.table_id ≡ place.old.table_id }
+        ensures taken { IsTakenFrom (view place.old) result (view place.new) }
+    {
         let backoff = Backoff::new();
         for _ in rt.forever() {
+            backoff.snooze();
             let tried = if backoff.is_completed() {
                 self.take_or_sleep(rt, place)
             } else {
@@ -127,7 +158,6 @@ impl HandOver {
             if let Some(item) = tried {
                 return item;
             }
-            backoff.snooze();
         }
         unreachable!()
     }

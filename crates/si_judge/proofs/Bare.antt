@@ -82,10 +82,10 @@ module _ (M : OnKey) (bare : IsBare M) where
       let w = last_written T d.1.value (version_from T d e).value in
       nothing_of (writes_of T) (write_of T w.0 d.1.value) (bare.writes T c) (write_to T w.0 d.1.value w.1)
 
-  no_read : (T : Part) (i : ℕ) (v : Option Value) → IsRead M T i v → ⊥
+  pub no_read : (T : Part) (i : ℕ) (v : Option Value) → IsRead M T i v → ⊥
   no_read T i v read = nothing_of (reads_in T) (kept_read_of T i v, own_value T i) (bare.reads T read.part) (reader_read M T i v read)
 
-  no_installer : (n : Installer) → IsInstaller M n → ⊥
+  pub no_installer : (n : Installer) → IsInstaller M n → ⊥
   no_installer n i = let v = installs_version i.0 n i.2 in no_version i.0 v.0 i.1 v.1
 
   pub nothing_found : (J : Rules) → IsOfHistory M → (x : List ℕ) → findings_on J x M ≡ []

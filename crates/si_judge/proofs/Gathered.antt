@@ -40,7 +40,7 @@ use Rattle.si_judge.proofs.PartLists.{read_from, version_from, version_installs,
 
 -- ---- the readers of a value
 
-reader_is : (v : Option Value) (after : Option Stamp) (r : KeptRead) → (is_kept_read_of v after r ≡ true) ↔ IsKeptReadOf v after r
+pub reader_is : (v : Option Value) (after : Option Stamp) (r : KeptRead) → (is_kept_read_of v after r ≡ true) ↔ IsKeptReadOf v after r
 reader_is v after r = (
   (λ e. let both = and_parts _ (is_later after r.start) e in ((read_is r.value v).0 both.0, later after both.1)),
   (λ i. and_from _ (is_later after r.start) ((read_is r.value v).1 i.0) (from_later after i.1)),

@@ -6,6 +6,7 @@ pub mod Updates
 pub mod IndexEdits
 pub mod Others
 pub mod Orders
+pub mod FoundLists
 pub mod KeyParts
 pub mod PartLists
 pub mod RisingValues
@@ -21,6 +22,8 @@ pub mod Seen
 pub mod Gathered
 pub mod Touching
 pub mod Mended
+pub mod MarkLists
+pub mod Waiting
 pub mod Bare
 pub mod Beside
 pub mod Pairs
@@ -32,5 +35,9 @@ pub mod Edited
 pub mod Asked
 pub mod Mendings
 pub mod SetUps
+pub mod Waitings
 pub mod Listed
+pub mod Noting
+pub mod Counted
+pub mod FoundTimes
 pub mod Following

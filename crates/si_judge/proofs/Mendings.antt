@@ -35,49 +35,64 @@ pub record IsWhole (J : Rules) (Q R : OnKey) (u : TxnId) (old new : Found) : Typ
 pub arrival_fits : (T : Part) (Q : OnKey) → IsOfHistory (arrived_on T Q) → Fits T Q
 arrival_fits T Q h = (arrived_on T Q, arrival_joins T Q h, h)
 
+-- ---- beside an arrival
+
+module _ {M R : OnKey} (h : IsOfHistory M) (T : Part) (joins : Joins T M R) where
+  pub new_side : IsSide M T M
+  new_side = record { history = h; initial = refl; above = λ X c. c; within = λ X c. inl c }
+
+  pub new_silent : (X : Part) (i : ℕ) (v : Option Value) → IsRead M X i v → X.id ≡ T.id → ⊥
+  new_silent X i v read e = joins.absent X read.part e
+
+  pub new_idle : (n : Installer) → IsInstaller M n → n.txn ≢ T.id
+  new_idle n i e = joins.absent i.0 i.1 (sym i.2.txn ∙ e)
+
 pub arrived : (J : Rules) {M R : OnKey} (ix new_ix : Indexes) (T : Part) (old new : Found) → AreIndexes M ix → AreIndexes R new_ix → Joins T M R
     → IsRight J M old → IsJudgedWith J T R ix new_ix old new → IsWhole J M R T.id old new
-arrived J {M} {R} ix new_ix T old new is is_new joins right judged = record {
-  right = right_with J ix new_ix is is_new T T joins M side refl (λ r t. t) silent idle old new right judged;
-  bound = bound_with J ix new_ix is is_new T T joins M side refl (λ r t. t) silent idle old new right judged;
-}
-  where
-    side : IsSide M T M
-    side = record { history = is.history; initial = refl; above = λ X c. c; within = λ X c. inl c }
+arrived J {M} {R} ix new_ix T old new is is_new joins right judged =
+    let side = new_side is.history T joins in
+    let silent = new_silent is.history T joins in
+    let idle = new_idle is.history T joins in
+    record {
+      right = right_with J ix new_ix is is_new T T joins M side refl (λ r t. t) silent idle old new right judged;
+      bound = bound_with J ix new_ix is is_new T T joins M side refl (λ r t. t) silent idle old new right judged;
+    }
 
-    silent : (X : Part) (i : ℕ) (v : Option Value) → IsRead M X i v → X.id ≡ T.id → ⊥
-    silent X i v read e = joins.absent X read.part e
-
-    idle : (n : Installer) → IsInstaller M n → n.txn ≢ T.id
-    idle n i e = joins.absent i.0 i.1 (sym i.2.txn ∙ e)
+-- ---- beside a resolution
 
 -- one in doubt has no commit
 no_commit : (s : Status) (c : Stamp) → s ≡ status.InDoubt → s ≡ status.Committed c → ⊥
 no_commit s c e f = no_value c (sym (ap commit_of e) ∙ ap commit_of f)
 
+module _ {M : OnKey} (ix : Indexes) (T : Part) (o : Outcome) (Q : OnKey) (h : IsOfHistory Q) (was : Joins T M Q) (doubt : T.status ≡ status.InDoubt) where
+  pub doubt_side : IsSide M T Q
+  doubt_side = record { history = h; initial = was.initial; above = λ X c. (was.parts X).1 (inl c); within = λ X c. (was.parts X).0 c }
+
+  is_T : (X : Part) → Contains Q.parts X → X.id ≡ T.id → X ≡ T
+  is_T X c e = one_part Q h X T c ((was.parts T).1 (inr refl)) e
+
+  pub doubt_less : (r : KeptRead) → IsTouchedBy ix T r → IsTouchedBy ix (record T { status = status_after o }) r
+  doubt_less r (inl w) = inl w
+  doubt_less r (inr i) = absurd (no_commit T.status i.0.0 doubt (version_from T i.0 i.2).committed)
+
+  pub doubt_silent : (X : Part) (i : ℕ) (v : Option Value) → IsRead Q X i v → X.id ≡ T.id → ⊥
+  doubt_silent X i v read e = no_commit X.status read.committed.0 (ap (λ (Y : Part). Y.status) (is_T X read.part e) ∙ doubt) read.committed.1
+
+  pub doubt_idle : (n : Installer) → IsInstaller Q n → n.txn ≢ T.id
+  doubt_idle n i e = no_commit (i.0).status n.commit (ap (λ (Y : Part). Y.status) (is_T i.0 i.1 (sym i.2.txn ∙ e)) ∙ doubt) i.2.committed
+
 pub resolved : (J : Rules) {M R : OnKey} (ix new_ix : Indexes) (T : Part) (o : Outcome) (Q : OnKey) (old new : Found) → AreIndexes M ix → AreIndexes R new_ix → IsOfHistory Q → Joins T M Q
     → T.status ≡ status.InDoubt → Joins (record T { status = status_after o }) M R → IsRight J Q old → IsJudgedWith J (record T { status = status_after o }) R ix new_ix old new
     → IsWhole J Q R T.id old new
-resolved J {M} {R} ix new_ix T o Q old new is is_new h was doubt joins right judged = record {
-  right = right_with J ix new_ix is is_new (record T { status = status_after o }) T joins Q side refl less silent idle old new right judged;
-  bound = bound_with J ix new_ix is is_new (record T { status = status_after o }) T joins Q side refl less silent idle old new right judged;
-}
-  where
-    side : IsSide M T Q
-    side = record { history = h; initial = was.initial; above = λ X c. (was.parts X).1 (inl c); within = λ X c. (was.parts X).0 c }
-
-    is_T : (X : Part) → Contains Q.parts X → X.id ≡ T.id → X ≡ T
-    is_T X c e = one_part Q h X T c ((was.parts T).1 (inr refl)) e
-
-    less : (r : KeptRead) → IsTouchedBy ix T r → IsTouchedBy ix (record T { status = status_after o }) r
-    less r (inl w) = inl w
-    less r (inr i) = absurd (no_commit T.status i.0.0 doubt (version_from T i.0 i.2).committed)
-
-    silent : (X : Part) (i : ℕ) (v : Option Value) → IsRead Q X i v → X.id ≡ T.id → ⊥
-    silent X i v read e = no_commit X.status read.committed.0 (ap (λ (Y : Part). Y.status) (is_T X read.part e) ∙ doubt) read.committed.1
-
-    idle : (n : Installer) → IsInstaller Q n → n.txn ≢ T.id
-    idle n i e = no_commit (i.0).status n.commit (ap (λ (Y : Part). Y.status) (is_T i.0 i.1 (sym i.2.txn ∙ e)) ∙ doubt) i.2.committed
+resolved J {M} {R} ix new_ix T o Q old new is is_new h was doubt joins right judged =
+    let side = doubt_side ix T o Q h was doubt in
+    let less = doubt_less ix T o Q h was doubt in
+    let silent = doubt_silent ix T o Q h was doubt in
+    let idle = doubt_idle ix T o Q h was doubt in
+    record {
+      right = right_with J ix new_ix is is_new (record T { status = status_after o }) T joins Q side refl less silent idle old new right judged;
+      bound = bound_with J ix new_ix is is_new (record T { status = status_after o }) T joins Q side refl less silent idle old new right judged;
+    }
 
 pub withdrawn : (J : Rules) {R : OnKey} (ix : Indexes) (T : Part) (Q : OnKey) (old new : Found) → AreIndexes R ix → IsOfHistory Q → Joins T R Q → IsRight J Q old → IsJudgedWithout J T R ix old new
     → IsWhole J Q R T.id old new

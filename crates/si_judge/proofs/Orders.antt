@@ -42,7 +42,7 @@ tie_both Less b e f = absurd (true≢false (sym e))
 tie_both Equal b e f = f
 tie_both Greater b e f = absurd (true≢false (sym e))
 
-option_decides : (v w : Option Value) → (is_eq (option_cmp value_cmp v w) ≡ true) ↔ (v ≡ w)
+pub option_decides : (v w : Option Value) → (is_eq (option_cmp value_cmp v w) ≡ true) ↔ (v ≡ w)
 option_decides None None = (λ e. refl, λ e. refl)
 option_decides None (Some w) = (λ e. absurd (true≢false (sym e)), λ e. cc)
 option_decides (Some v) None = (λ e. absurd (true≢false (sym e)), λ e. cc)

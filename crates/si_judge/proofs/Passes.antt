@@ -10,6 +10,7 @@ use Rattle.std.proofs.Math.Seq.{take-suc}
 use Rattle.std.proofs.lemmas.List.{append-nil, take_all}
 use Rattle.std.proofs.lemmas.List.Sums.{fold-append}
 use Rattle.si_model.specs.declared.kinds.Kind.{Kind}
+use Rattle.si_model.specs.declared.numbers.Stamp.{Stamp}
 use Rattle.si_model.specs.declared.numbers.Value.{Value}
 use Rattle.si_model.specs.declared.parts.OnKey.{OnKey}
 use Rattle.si_model.specs.declared.parts.Part.{Part}
@@ -95,6 +96,18 @@ module _ (J : Rules) (M : OnKey) (ix : Indexes) where
       → AreReadsJudged J M ix (filter_map h (take (j + 1) ys)) old new
   reads_judged old mid new h ys j o comes first second =
       subst (λ l. AreReadsJudged J M ix l old new) (sym (grown h ys j o comes)) (judged_more old mid new (filter_map h (take j ys)) (option_to_list o) first second)
+
+  -- the reads under the marks up to the next one
+  pub range_judged : (old mid new : ReadId → Option Kind) (marks : List (Option Value × Option Stamp)) (j : ℕ) (d : Option Value × Option Stamp) → j < length marks
+      → AreReadsJudged J M ix (flat_map (λ m. kept_reads_in ix m.0 m.1) (take j marks)) old mid → AreReadsJudged J M ix (kept_reads_in ix (get_or marks j d).0 (get_or marks j d).1) mid new
+      → AreReadsJudged J M ix (flat_map (λ m. kept_reads_in ix m.0 m.1) (take (j + 1) marks)) old new
+  range_judged old mid new marks j d within first second =
+      let f = λ (m : Option Value × Option Stamp). kept_reads_in ix m.0 m.1 in
+      let one : flat_map f (get_or marks j d ∷ []) ≡ f (get_or marks j d) = append-nil (f (get_or marks j d)) in
+      let all : flat_map f (take (j + 1) marks) ≡ flat_map f (take j marks) ++ f (get_or marks j d)
+      = ap (flat_map f) (ap (λ n. take n marks) (let e : j + 1 ≡ suc j = omega arith in e) ∙ take-suc marks j d within) ∙ flat_map-append f (take j marks) (get_or marks j d ∷ [])
+      ∙ ap (λ l. flat_map f (take j marks) ++ l) one in
+      subst (λ l. AreReadsJudged J M ix l old new) (sym all) (judged_more old mid new (flat_map f (take j marks)) (f (get_or marks j d)) first second)
 
 pub reads_counted : {Y : Type 0} (h : Placed → Option Y) (ys : List Placed) (j : ℕ) (o : Option Y) (n mid new : ℕ) → ComesOf h ys j o
     → mid ≡ risen n (length (filter_map h (take j ys))) → new ≡ risen mid (length (option_to_list o)) → new ≡ risen n (length (filter_map h (take (j + 1) ys)))

@@ -1,7 +1,8 @@
 -- Versions whose values rise with their commits, when one comes or goes.
-use Rattle.std.proofs.Common.{◌≡◌, ◌∙◌, ◌⊎◌, inl, inr, ◌<◌, ◌≤◌, List, Some, None, ap, subst, arith}
+use Rattle.std.proofs.Common.{◌≡◌, ◌∙◌, ◌⊎◌, inl, inr, suc, ◌-◌, ◌<◌, ◌≤◌, List, [], ◌∷◌, length, slice_get, Some, None, sym, ap, subst, arith}
 use Rattle.std.specs.List.{Contains}
 use Rattle.std.proofs.lemmas.Bool.{cases_lt}
+use Rattle.si_lists.proofs.Members.{Contains-cons_cases, Contains-nil, get_contains, here, at_each, same_some}
 use Rattle.si_model.specs.declared.numbers.Stamp.{Stamp}
 use Rattle.si_model.specs.declared.numbers.Value.{Value}
 use Rattle.si_timeline.specs.Timelines.{Adds, Dated, IsNearestAfter, IsNearestBefore, IsRising, ValuesRise}
@@ -74,3 +75,32 @@ rise_with few more c w adds fits d e in_d in_e lt = by ((added_are c w few more 
 -- one goes
 pub rise_without : (few more : List Dated) (c : Stamp) (w : Version) → Adds c w few more → ValuesRise more → ValuesRise few
 rise_without few more c w adds rise d e in_d in_e lt = rise d e ((added_are c w few more adds d).1 (inl in_d)) ((added_are c w few more adds e).1 (inl in_e)) lt
+
+-- ---- behind all
+
+last_greatest : (ds : List Dated) → IsRising ds → (d : Dated) → slice_get ds (length ds - 1) ≡ Some d → (e : Dated) → Contains ds e → e.0.0 ≤ d.0.0
+last_greatest [] rises d is e c = absurd (Contains-nil e c)
+last_greatest (x ∷ []) rises d is e c =
+    let last : x ≡ d = same_some is in
+    elim (Contains-cons_cases x [] e c) [
+      | inl same ↦ (let stamp = ap (λ (y : Dated). y.0.0) (sym same ∙ last) in omega (arith, stamp))
+      | inr none ↦ absurd (Contains-nil e none)
+    ]
+last_greatest (x ∷ y ∷ ds) rises d is e c =
+    let behind : length (x ∷ y ∷ ds) - 1 ≡ suc (length (y ∷ ds) - 1) = omega arith in
+    let rest = last_greatest (y ∷ ds) rises.1 d (sym (ap (slice_get (x ∷ y ∷ ds)) behind) ∙ is) in
+    elim (Contains-cons_cases x (y ∷ ds) e c) [
+      | inl same ↦
+          let stamp = ap (λ (z : Dated). z.0.0) same in
+          let first = at_each (λ z. x.0.0 < z.0.0) (y ∷ ds) y rises.0 (here y ds) in
+          let most = rest y (here y ds) in
+          omega (arith, stamp, first, most)
+      | inr later ↦ rest e later
+    ]
+
+pub fits_behind : (ds : List Dated) (c : Stamp) (v : Value) (d : Dated) → IsRising ds → slice_get ds (length ds - 1) ≡ Some d → d.0.0 < c.0 → d.1.value.0 < v.0 → ValuesRise ds → FitsRising ds c v
+fits_behind ds c v d rises is before less rise = (
+  rise,
+  above_former ds rises rise c v d (get_contains ds (length ds - 1) d is, before, λ e c _. last_greatest ds rises d is e c) less,
+  λ e there behind. (let most = last_greatest ds rises d is e there in absurd (omega (arith, most, before, behind))),
+)

@@ -19,7 +19,7 @@ use Rattle.si_judge.specs.declared.judgements.ReadId.{ReadId}
 use Rattle.si_judge.specs.declared.indexes.Indexes.{Indexes}
 use Rattle.si_judge.specs.Indexes.{AreIndexes, AreReadsOf, kept_read_of, kept_reads_in}
 use Rattle.si_judge.specs.KeptReads.{IsKeptReadOf}
-use Rattle.si_judge.specs.Mending.{AreReadsJudged, Found, IsPairKind, IsRight, risen}
+use Rattle.si_judge.specs.Mending.{ArePairKinds, AreReadsJudged, Found, IsPairKind, IsRight, risen}
 use Rattle.si_judge.specs.Touched.{IsBoundedBy, IsTouchedBySetUp}
 use Rattle.si_judge.proofs.Coverage.{bounded, kept_reads_once}
 use Rattle.si_judge.proofs.Gathered.{both_are, kept_reads_are}
@@ -41,30 +41,28 @@ pair_again : (J : Rules) (p q : Option Value) (parts : List Part) (c : Stamp) (k
 pair_again J p q parts c k f = (f.0, f.1, f.2, f.3, next_again p q parts _ f.1 f.4, f.5, f.6)
 
 -- a read that returned null or the value
-abbrev IsOfEither : Value → KeptRead → Type 0
+abbrev pub IsOfEither : Value → KeptRead → Type 0
 IsOfEither w r = IsKeptReadOf None None r ⊎ IsKeptReadOf (Some w) None r
 
-module _ (J : Rules) {M : OnKey} (ix : Indexes) (is : AreIndexes M ix) (w : Value) (unset : M.initial ≡ None) (h : IsOfHistory (set_up_on w M)) (old new : Found) (right : IsRight J M old)
-    (judged : AreReadsJudged J (set_up_on w M) (set_up_in w ix) (kept_reads_in (set_up_in w ix) None None ++ kept_reads_in (set_up_in w ix) (Some w) None) old.reads new.reads)
-    (same : (c : Stamp) → new.overlaps c ≡ old.overlaps c)
-    (counted : new.answers ≡ risen old.answers (length (kept_reads_in (set_up_in w ix) None None ++ kept_reads_in (set_up_in w ix) (Some w) None))) where
-  set : Indexes
-  set = set_up_in w ix
+-- the pairs are the same
+pub pairs_set_up : (J : Rules) (M : OnKey) (w : Value) (old new : Stamp → Option Kind) → ArePairKinds J M old → ((c : Stamp) → new c ≡ old c) → ArePairKinds J (set_up_on w M) new
+pairs_set_up J M w old new right same c k = (
+  (λ e. pair_again J M.initial (Some w) M.parts c k ((right c k).0 (sym (same c) ∙ e))),
+  (λ f. same c ∙ (right c k).1 (pair_again J (Some w) M.initial M.parts c k f)),
+)
 
-  are_set : AreIndexes (set_up_on w M) (set_up_in w ix)
+module _ {M : OnKey} (ix : Indexes) (is : AreIndexes M ix) (w : Value) (unset : M.initial ≡ None) (h : IsOfHistory (set_up_on w M)) where
+  pub are_set : AreIndexes (set_up_on w M) (set_up_in w ix)
   are_set = indexes_set_up w ix is h
 
-  reads : List (KeptRead × Option Value)
-  reads = kept_reads_in (set_up_in w ix) None None ++ kept_reads_in (set_up_in w ix) (Some w) None
-
-  are_reads : AreReadsOf (set_up_in w ix) (IsOfEither w) (kept_reads_in (set_up_in w ix) None None ++ kept_reads_in (set_up_in w ix) (Some w) None)
+  pub are_reads : AreReadsOf (set_up_in w ix) (IsOfEither w) (kept_reads_in (set_up_in w ix) None None ++ kept_reads_in (set_up_in w ix) (Some w) None)
   are_reads = both_are (set_up_in w ix) are_set (kept_reads_in (set_up_in w ix) None None) (kept_reads_in (set_up_in w ix) (Some w) None)
       (kept_reads_are (set_up_in w ix) are_set None None) (kept_reads_are (set_up_in w ix) are_set (Some w) None) (λ r a b. no_value w (sym a.0 ∙ b.0))
 
-  reader : (p : KeptRead × Option Value) → Contains (kept_reads_in (set_up_in w ix) None None ++ kept_reads_in (set_up_in w ix) (Some w) None) p → IsKeptRead (set_up_on w M) p
+  pub reader : (p : KeptRead × Option Value) → Contains (kept_reads_in (set_up_in w ix) None None ++ kept_reads_in (set_up_in w ix) (Some w) None) p → IsKeptRead (set_up_on w M) p
   reader p c = (are_set.reads p.0 p.1).0 (are_reads.only p c).0
 
-  same_seen : (o : ReadId) → NotAmong (kept_reads_in (set_up_in w ix) None None ++ kept_reads_in (set_up_in w ix) (Some w) None) o → (X : Part) (v : Option Value) → IsRead M X o.place v → X.id ≡ o.txn
+  pub same_seen : (o : ReadId) → NotAmong (kept_reads_in (set_up_in w ix) None None ++ kept_reads_in (set_up_in w ix) (Some w) None) o → (X : Part) (v : Option Value) → IsRead M X o.place v → X.id ≡ o.txn
       → sight_of M X o.place v ≡ sight_of (set_up_on w M) X o.place v
   same_seen o none X v read e =
       let seen = (sight_law M X o.place v (sight_of M X o.place v) is.history read.part).1 refl in
@@ -77,31 +75,32 @@ module _ (J : Rules) {M : OnKey} (ix : Indexes) (is : AreIndexes M ix) (w : Valu
           (are_reads.all (kept_read_of X o.place v) (own_value X o.place) ((are_set.reads (kept_read_of X o.place v) (own_value X o.place)).1 (X, read.part, reader_read M X o.place v read)) t)
           (λ i. record { txn = e i; place = o.place })
 
+module _ (J : Rules) {M : OnKey} (ix : Indexes) (is : AreIndexes M ix) (w : Value) (unset : M.initial ≡ None) (h : IsOfHistory (set_up_on w M)) (old new : Found) (right : IsRight J M old)
+    (judged : AreReadsJudged J (set_up_on w M) (set_up_in w ix) (kept_reads_in (set_up_in w ix) None None ++ kept_reads_in (set_up_in w ix) (Some w) None) old.reads new.reads)
+    (same : (c : Stamp) → new.overlaps c ≡ old.overlaps c)
+    (counted : new.answers ≡ risen old.answers (length (kept_reads_in (set_up_in w ix) None None ++ kept_reads_in (set_up_in w ix) (Some w) None))) where
   pub right_set_up : IsRight J (set_up_on w M) new
   right_set_up = record {
-    reads = λ o k. right_after J (set_up_in w ix) are_set (kept_reads_in (set_up_in w ix) None None ++ kept_reads_in (set_up_in w ix) (Some w) None) reader old.reads new.reads judged o k (λ none. (
+    reads = λ o k. right_after J (set_up_in w ix) (are_set ix is w unset h) (kept_reads_in (set_up_in w ix) None None ++ kept_reads_in (set_up_in w ix) (Some w) None) (reader ix is w unset h) old.reads new.reads judged o k (λ none. (
       (λ e. let f = (right.reads o k).0 e in
-          (f.0, f.1, record { part = f.2.part; committed = f.2.committed; returned = f.2.returned }, f.3, ap J.read (sym (same_seen o none f.0 f.1 f.2 f.3)) ∙ f.4)),
+          (f.0, f.1, record { part = f.2.part; committed = f.2.committed; returned = f.2.returned }, f.3, ap J.read (sym (same_seen ix is w unset h o none f.0 f.1 f.2 f.3)) ∙ f.4)),
       (λ f. let read : IsRead M f.0 o.place f.1 = record { part = f.2.part; committed = f.2.committed; returned = f.2.returned } in
-          (right.reads o k).1 (f.0, f.1, read, f.3, ap J.read (same_seen o none f.0 f.1 read f.3) ∙ f.4)),
+          (right.reads o k).1 (f.0, f.1, read, f.3, ap J.read (same_seen ix is w unset h o none f.0 f.1 read f.3) ∙ f.4)),
     ));
-    overlaps = λ c k. (
-      (λ e. pair_again J M.initial (Some w) M.parts c k ((right.overlaps c k).0 (sym (same c) ∙ e))),
-      (λ f. same c ∙ (right.overlaps c k).1 (pair_again J (Some w) M.initial M.parts c k f)),
-    );
+    overlaps = pairs_set_up J M w old.overlaps new.overlaps right.overlaps same;
   }
 
   pub bound_set_up : (n : ℕ) × IsBoundedBy (IsTouchedBySetUp (set_up_on w M) w) n × (new.answers ≡ risen old.answers n)
   bound_set_up = (
     length (kept_reads_in (set_up_in w ix) None None ++ kept_reads_in (set_up_in w ix) (Some w) None),
     bounded (IsTouchedBySetUp (set_up_on w M) w) (kept_reads_in (set_up_in w ix) None None ++ kept_reads_in (set_up_in w ix) (Some w) None)
-        (kept_reads_once (set_up_in w ix) are_set (IsOfEither w) (kept_reads_in (set_up_in w ix) None None ++ kept_reads_in (set_up_in w ix) (Some w) None) are_reads)
-        (λ p c. (let x = reader p c in record {
+        (kept_reads_once (set_up_in w ix) (are_set ix is w unset h) (IsOfEither w) (kept_reads_in (set_up_in w ix) None None ++ kept_reads_in (set_up_in w ix) (Some w) None) (are_reads ix is w unset h))
+        (λ p c. (let x = reader ix is w unset h p c in record {
           part = x.0;
           value = p.0.value;
           read = is_read (set_up_on w M) x.0 p x.1 x.2;
           of = kept_read_id x.0 p x.2;
-          touched = elim (are_reads.only p c).1 [ inl a ↦ inl a.0 | inr b ↦ inr b.0 ];
+          touched = elim ((are_reads ix is w unset h).only p c).1 [ inl a ↦ inl a.0 | inr b ↦ inr b.0 ];
         }))
         (length (kept_reads_in (set_up_in w ix) None None ++ kept_reads_in (set_up_in w ix) (Some w) None)) (omega arith),
     counted,

@@ -1,6 +1,9 @@
 -- The findings on a key, kept without its transactions, and what they show. All of it is this project's choice.
-use Rattle.std.specs.Prelude.{◌≡◌, ℕ, List, [], None}
+use Rattle.std.specs.Prelude.{◌≡◌, ℕ, Box, List, [], None, Option}
 use Rattle.std.specs.List.{Contains}
+use Rattle.std.specs.List.Sorted.{IsStrictlySortedBy}
+use Rattle.std.specs.Map.{keys_of}
+use Rattle.std.specs.declared.alloc.Global.{Global}
 use Rattle.si_model.specs.declared.numbers.TxnId.{TxnId}
 use Rattle.si_model.specs.declared.transactions.Status.TheVariants as status
 use Rattle.si_model.specs.declared.parts.Part.{Part}
@@ -11,9 +14,15 @@ use Rattle.si_model.specs.Findings.{Rules}
 use Rattle.si_sorted.specs.Entries.{value_at}
 use Rattle.si_judge.specs.declared.judgements.ReadId.{ReadId}
 use Rattle.si_judge.specs.declared.indexes.Indexes.{Indexes}
+use Rattle.si_judge.specs.declared.notes.Notes.{Notes}
 use Rattle.si_judge.specs.Indexes.{AreIndexes, reads_in, writes_of}
-use Rattle.si_judge.specs.Mending.{Found, IsRight, read_cmp, risen, stamp_cmp}
+use Rattle.si_judge.specs.Marks.{AreReadKindsBut, Marked}
+use Rattle.si_judge.specs.Mending.{ArePairKinds, Found, IsRight, read_cmp, risen, stamp_cmp}
 use Rattle.si_judge.specs.Touched.{IsBoundedBy}
+
+-- what came and what went, where that is noted
+abbrev pub Noted : Type 0
+Noted = Option (Box Notes Global)
 
 -- what is kept of a key
 pub record Kept : Type 0 where
@@ -24,15 +33,31 @@ pub record Kept : Type 0 where
   pub overlaps : List (Stamp × Kind)
   -- how many answers the judge has given
   pub judged : ℕ
+  -- which reads are still to be judged again
+  pub marks : Marked
+  -- what came and what went, where that is noted
+  pub notes : Noted
 
 -- what the judge found, and its count
 abbrev pub found_in : Kept → Found
 found_in s = record { reads = value_at read_cmp s.reads; overlaps = value_at stamp_cmp s.overlaps; answers = s.judged }
 
+-- what was found stands in the order of reads, and of commits
+pub record IsRising (s : Kept) : Type 0 where
+  pub reads : IsStrictlySortedBy read_cmp (keys_of s.reads)
+  pub overlaps : IsStrictlySortedBy stamp_cmp (keys_of s.overlaps)
+
 -- it shows what is on the key: it has the indexes of that, and what the judge finds there
 pub record Shows (J : Rules) (M : OnKey) (s : Kept) : Type 0 where
   pub indexes : AreIndexes M s.indexes
   pub right : IsRight J M (found_in s)
+
+-- it would show what is on the key if the reads that are marked were judged: it has the indexes of that, of each other read what the
+-- judge finds, and of the versions too
+pub record WouldShow (J : Rules) (M : OnKey) (s : Kept) : Type 0 where
+  pub indexes : AreIndexes M s.indexes
+  pub reads : AreReadKindsBut J M s.marks (found_in s).reads
+  pub overlaps : ArePairKinds J M (found_in s).overlaps
 
 -- no write, no read of a committed transaction and no set-up value is on the key
 pub record IsBare (M : OnKey) : Type 0 where

@@ -1,12 +1,15 @@
 pub mod Commits
 pub mod Following
+pub mod Found
 pub mod Indexes
 pub mod Judges
 pub mod KeyParts
 pub mod Kept
 pub mod Maps
+pub mod Marks
 pub mod Mending
 pub mod KeptReads
+pub mod Notes
 pub mod Sights
 pub mod States
 pub mod Touched

@@ -2,7 +2,6 @@
 use Rattle.std.specs.Prelude.{◌≡◌, ◌↔◌, ℕ, zero, suc, ◌+◌, ◌≤◌, true, cond, List, length, None, Some, Option}
 use Rattle.std.specs.List.{fold}
 use Rattle.std.specs.Map.{update}
-use Rattle.std.specs.BTreeMap.{get}
 use Rattle.std.specs.Ordering.{eq_by_cmp, nat_cmp, ordering_then}
 use Rattle.std.specs.declared.cmp.Ordering.{Ordering}
 use Rattle.si_model.specs.declared.numbers.Stamp.{Stamp}
@@ -16,6 +15,7 @@ use Rattle.si_model.specs.declared.kinds.Kind.TheVariants as kind
 use Rattle.si_model.specs.Versions.{IsInstaller, IsNext, next_after}
 use Rattle.si_model.specs.Reads.{IsRead, sight_of}
 use Rattle.si_model.specs.Findings.{Rules, overlap_with}
+use Rattle.si_sorted.specs.Entries.{value_at}
 use Rattle.si_timeline.specs.Timelines.{Dated, IsNearestBefore}
 use Rattle.si_judge.specs.declared.reads.KeptRead.{KeptRead}
 use Rattle.si_judge.specs.declared.indexes.Indexes.{Indexes}
@@ -119,27 +119,35 @@ pub record IsRight (J : Rules) (Q : OnKey) (m : Found) : Type 0 where
   pub reads : AreReadKinds J Q m.reads
   pub overlaps : ArePairKinds J Q m.overlaps
 
--- T came to what the indexes held before, and R is on the key: the reads that it touches were judged, its own, and its version
-pub record IsJudgedWith (J : Rules) (T : Part) (R : OnKey) (before after : Indexes) (old new : Found) : Type 0 where
-  pub others : List (KeptRead × Option Value)
-  pub touched : AreTouchedReads before T (writes_of T) others
+-- T came to what the indexes hold, and R is on the key: these reads of others were judged, its own, and its version
+pub record HasCome (J : Rules) (T : Part) (R : OnKey) (after : Indexes) (others : List (KeptRead × Option Value)) (old new : Found) : Type 0 where
   pub middle : ReadId → Option Kind
   pub others_judged : AreReadsJudged J R after others old.reads middle
   pub own_judged : AreReadsJudged J R after (reads_in T) middle new.reads
   pub version : IsVersionJudged J R after (version_by T) old.overlaps new.overlaps
   pub counted : RisesBy (length others + length (reads_in T) + 2) old.answers new.answers
 
--- T went from a key on which R is left, and the indexes are without it: the reads that it touched were judged, its own were
--- forgotten, and its version
-pub record IsJudgedWithout (J : Rules) (T : Part) (R : OnKey) (after : Indexes) (old new : Found) : Type 0 where
+-- the same, where the reads are those that it touches among what the indexes held before
+pub record IsJudgedWith (J : Rules) (T : Part) (R : OnKey) (before after : Indexes) (old new : Found) : Type 0 where
   pub others : List (KeptRead × Option Value)
-  pub touched : AreTouchedReads after T (writes_of T) others
+  pub touched : AreTouchedReads before T (writes_of T) others
+  pub come : HasCome J T R after others old new
+
+-- T went from a key on which R is left, and the indexes are without it: its own reads were forgotten, these reads of others were
+-- judged, and its version was forgotten
+pub record HasGone (J : Rules) (T : Part) (R : OnKey) (after : Indexes) (others : List (KeptRead × Option Value)) (old new : Found) : Type 0 where
   pub middle : ReadId → Option Kind
   pub own_forgotten : AreForgotten (reads_in T) old.reads middle
   pub others_judged : AreReadsJudged J R after others middle new.reads
   pub version : IsVersionForgotten J R after (version_by T) old.overlaps new.overlaps
   pub counted : RisesBy (length others + 2) old.answers new.answers
 
+-- the same, where the reads are those that it touched
+pub record IsJudgedWithout (J : Rules) (T : Part) (R : OnKey) (after : Indexes) (old new : Found) : Type 0 where
+  pub others : List (KeptRead × Option Value)
+  pub touched : AreTouchedReads after T (writes_of T) others
+  pub gone : HasGone J T R after others old new
+
 -- what a judge that is counted so found on a key
 abbrev pub found_by : {J : Type 0} → (J → ℕ) → Judgements J → Found
-found_by answers m = record { reads = get read_cmp m.reads; overlaps = get stamp_cmp m.overlaps; answers = answers m.judge }
+found_by answers m = record { reads = value_at read_cmp m.reads; overlaps = value_at stamp_cmp m.overlaps; answers = answers m.judge }

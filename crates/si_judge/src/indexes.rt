@@ -129,7 +129,9 @@ impl Indexes {
 
     /// All that is seen at a read.
     pub fn sight_of(&self, read: ReadWithOwn) -> Sight
-        ensures { (M : OnKey) → AreIndexes M self.now → result ≡ sight_in M self.now read }
+        ensures seen { (M : OnKey) → AreIndexes M self.now → result ≡ sight_in M self.now read }
+        ensures txn { result.txn ≡ read.0.txn }
+        ensures place { result.op ≡ read.0.place }
     {
         match self.nearest_read(read.0) {
             Some((commit, version)) => sight_of_nearest(read, version.writer, commit),
@@ -151,7 +153,9 @@ impl Indexes {
 
     /// All that is seen at a read, whose value is looked for among the writes and the versions.
     fn sight_by_value(&self, read: ReadWithOwn) -> Sight
-        ensures { (M : OnKey) → AreIndexes M self.now → result ≡ sight_in M self.now read }
+        ensures seen { (M : OnKey) → AreIndexes M self.now → result ≡ sight_in M self.now read }
+        ensures txn { result.txn ≡ read.0.txn }
+        ensures place { result.op ≡ read.0.place }
     {
         let (reader, own) = read;
         let (told, later) = self.told_of(read);

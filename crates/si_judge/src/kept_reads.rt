@@ -1,6 +1,6 @@
 //! The reads of a key's committed transactions, found by what they returned.
 
-ghost use Rattle.std.specs.Prelude.{◌≡◌, ◌↔◌, ◌<◌, ◌++◌, ◌-◌, None, IsTrue, OnErr, OnOk, Some, length, slice_get};
+ghost use Rattle.std.specs.Prelude.{◌≡◌, ◌↔◌, ◌<◌, ◌++◌, ◌-◌, None, IfOk, IsTrue, OnErr, OnOk, Some, if◌then◌else◌, length, slice_get};
 ghost use Rattle.std.specs.List.{AllPairs};
 ghost use Rattle.std.specs.Map.{keys_of};
 ghost use Rattle.std.specs.Option.{option_to_list};
@@ -16,6 +16,9 @@ use si_sorted::{Choice, SortedMap};
 use std::alloc::Global;
 use std::marker::Model;
 use std::ops::Bound;
+
+/// So many reads of a value that an edit touches are judged at once. More of them are cheaper to mark.
+const FEW: usize = 8;
 
 /// The own values of readers.
 type OwnValues = SortedMap<KeptRead, Value>;
@@ -180,6 +183,24 @@ impl KeptReads {
         let of_value = OfValue { value, after, own };
         self.all.add_between(least, beyond, &of_value, reads)?;
         Ok(())
+    }
+
+    /// The same where these are few; else none is added, and it says so.
+    pub fn add_few_to(
+        &self,
+        reads: &mut Vec<ReadWithOwn>,
+        value: Option<Value>,
+        after: Option<Stamp>,
+    ) -> Result<bool, OutOfMemory>
+        ensures { IfOk result (λ few. reads.new.items ≡ (if few then reads.old.items ++ kept_reads_among self.now value after else reads.old.items)) }
+    {
+        let (least, beyond) = (least_kept_read(value, after), beyond(value));
+        let own = &self.own;
+        let of_value = OfValue { value, after, own };
+        let few = self
+            .all
+            .add_few_between(least, beyond, &of_value, FEW, reads)?;
+        Ok(few)
     }
 }
 

@@ -1,7 +1,6 @@
 //! Many entries at once, put into a map or taken out.
 
 ghost use Rattle.std.specs.Prelude.{◌≡◌, ◌∷◌, [], OnOk};
-ghost use Rattle.std.specs.BTreeMap.{Updates};
 ghost use Rattle.std.specs.Option.{option_to_list};
 ghost use Rattle.std.specs.Ordering.{eq_by_cmp};
 ghost use Rattle.si_model.specs.Versions.{last_write};
@@ -12,7 +11,6 @@ ghost use Rattle.si_judge.specs.Values.{at_value, value_cmp};
 use crate::reads::{Write, write_at};
 use si_model::{OutOfMemory, Part, Value};
 use si_sorted::SortedMap;
-use std::collections::BTreeMap;
 
 /// Puts those writes of the transaction in that install no version, each under its value. The last one is of `last`.
 pub fn insert_writes(
@@ -58,23 +56,4 @@ fn remove_other(map: &mut SortedMap<Value, Write>, write: (Value, Write))
     if write.1.fate.is_other() {
         map.remove(write.0);
     }
-}
-
-/// Puts the value in its place, or takes it out where there is none.
-pub fn put<K: Ord + Copy + Drop, V: Drop>(
-    map: &mut BTreeMap<K, V>,
-    key: K,
-    value: Option<V>,
-) -> Result<(), OutOfMemory>
-    ensures { OnOk result (Updates K.cmp map.old map.new key value) }
-{
-    match value {
-        Some(value) => {
-            map.insert(key, value)?;
-        }
-        None => {
-            map.remove(&key);
-        }
-    }
-    Ok(())
 }

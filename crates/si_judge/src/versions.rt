@@ -88,7 +88,22 @@ impl Versions {
         if !self.rising {
             return false;
         }
+        // (mostly a version comes behind all)
+        if self.is_above_last(commit, value) {
+            return true;
+        }
         self.is_above_former(commit, value) && self.is_below_next(commit, value)
+    }
+
+    /// Whether the version that was installed last, if there is one, has a lesser commit and a lesser value.
+    fn is_above_last(&self, commit: Stamp, value: Value) -> bool
+        ensures { IsTrue result → ValuesRise self.now → FitsRising self.now commit value }
+    {
+        let _rising = self.timeline.len();
+        match self.timeline.last() {
+            Some((last, version)) => last < commit && version.value < value,
+            None => false,
+        }
     }
 
     /// Whether the version before the commit has a lesser value, if there is one.

@@ -3,11 +3,9 @@ use Rattle.std.proofs.Common.{◌≡◌, inl, inr, ℕ, Bool, true, false, List,
 use Rattle.std.specs.List.{Contains, flat_map, filter, filter_map}
 use Rattle.std.specs.List.Sorted.{IsStrictlySortedBy}
 use Rattle.std.specs.Option.{option_to_list}
-use Rattle.std.specs.Cmp.Lexicographic.{nat_list_cmp_total}
 use Rattle.std.proofs.lemmas.List.Kept.{IsStrictlySortedBy-filter}
 use Rattle.std.proofs.lemmas.List.Elements.{Contains-append_left, Contains-append_right, Contains-append_cases}
 use Rattle.si_model.specs.declared.numbers.Stamp.{Stamp}
-use Rattle.si_model.specs.declared.transactions.Txn.{Txn}
 use Rattle.si_model.specs.declared.parts.Access.{Access}
 use Rattle.si_model.specs.declared.parts.Access.TheVariants as access
 use Rattle.si_model.specs.declared.parts.Part.{Part}
@@ -17,18 +15,18 @@ use Rattle.si_model.specs.declared.sights.VersionId.TheVariants as version
 use Rattle.si_model.specs.declared.kinds.Kind.{Kind}
 use Rattle.si_model.specs.declared.kinds.Kind.TheVariants as kind
 use Rattle.si_model.specs.declared.findings.Finding.{Finding}
-use Rattle.si_model.specs.Operations.{key_of, same_key}
+use Rattle.si_model.specs.Operations.{same_key}
 use Rattle.si_model.specs.Parts.{Present, parts, on_key}
 use Rattle.si_model.specs.Versions.{IsNextIfAny, commit_of, install, next_after}
 use Rattle.si_model.specs.Reads.{sight_of}
 use Rattle.si_model.specs.Order.{finding_cmp, in_order, IsListOf}
-use Rattle.si_model.specs.Findings.{Rules, cases, IsFoundOn, IsFindingOn, IsFinding, access_kind, placed_kind, overlap_with, overlap_of, kinds_by, kinds_of, finding_at, found_on, findings_on, keys_in, keys, found_at, findings}
+use Rattle.si_model.specs.Findings.{Rules, cases, IsFoundOn, IsFindingOn, IsFinding, access_kind, placed_kind, overlap_with, overlap_of, kinds_by, kinds_of, finding_at, found_on, findings_on, keys, found_at, findings}
 use Rattle.si_model.specs.History.{IsHistory, IsOfHistory}
-use Rattle.si_lists.proofs.Members.{same_some, Contains-nil, here, Contains-one, Contains-flat_map, Contains-from_flat_map, Contains-filter_map, Contains-from_filter_map, Contains-map, Contains-from_map, Contains-filter, Contains-from_filter, get_contains}
+use Rattle.si_lists.proofs.Members.{same_some, Contains-nil, here, Contains-one, Contains-flat_map, Contains-from_flat_map, Contains-filter_map, Contains-from_filter_map, Contains-map, Contains-from_map, Contains-filter, Contains-from_filter}
 use Rattle.si_model.proofs.Equalities.{same_key_is, same_key_from}
-use Rattle.si_model.proofs.KeyParts.{accesses_are, parts_are}
 use Rattle.si_model.proofs.InOrder.{sorted-in_order, Contains-in_order, Contains-from_in_order, same_sorted}
-use Rattle.si_model.proofs.FindingOrder.{exact_bytes, exact_findings, findings_total}
+use Rattle.si_model.proofs.FindingOrder.{exact_findings, findings_total}
+use Rattle.si_model.proofs.AllKeys.{keys_exact, key_of_part}
 use Rattle.si_model.proofs.Histories.{key_of_history}
 use Rattle.si_model.proofs.LastWrites.{commit_is, install_is}
 use Rattle.si_model.proofs.NextVersions.{next_is, same_next}
@@ -134,16 +132,6 @@ module _ (J : Rules) (Q : OnKey) (h : IsOfHistory Q) where
 
 -- ---- the findings on all keys
 
--- a key that has a part is the key of an operation
-key_of_part : (txns : List Txn) (x : List ℕ) (T : Part) → Contains (parts x txns) T → Contains (keys txns) x
-unfolding keys
-key_of_part txns x T c =
-    let f = (parts_are x txns T).0 c in
-    let a = f.2.some in
-    let p = (accesses_are x f.0.ops a.0).0 (subst (λ ys. Contains ys a.0) f.2.accesses a.1) in
-    let key : Contains (keys_in f.0) x = subst (λ y. Contains (keys_in f.0) y) p.2 (Contains-map key_of f.0.ops p.0 (get_contains f.0.ops a.0.place p.0 p.1)) in
-    Contains-in_order nat_list_cmp_total exact_bytes (flat_map keys_in txns) x (Contains-flat_map keys_in txns f.0 x f.1 key)
-
 -- what is found on a key is found there, at a part
 found_at_part : (P : Present) (x : List ℕ) (f : Finding) → Contains (found_at P x) f → (f.key ≡ x) × ((T : Part) × Contains (parts x P.txns) T)
 unfolding found_at
@@ -158,7 +146,7 @@ among_all : (P : Present) (x : List ℕ) (f : Finding) → Contains (found_at P 
 unfolding findings
 among_all P x f c =
     let T = (found_at_part P x f c).1 in
-    Contains-in_order findings_total exact_findings (flat_map (found_at P) (keys P.txns)) f (Contains-flat_map (found_at P) (keys P.txns) x f (key_of_part P.txns x T.0 T.1) c)
+    Contains-in_order findings_total exact_findings (flat_map (found_at P) (keys P.txns)) f (Contains-flat_map (found_at P) (keys P.txns) x f ((keys_exact P.txns).complete x (key_of_part P.txns x T.0 T.1)) c)
 
 at_its_key : (P : Present) (f : Finding) → Contains (findings P) f → Contains (found_at P f.key) f
 unfolding findings

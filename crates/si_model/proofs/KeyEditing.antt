@@ -53,7 +53,7 @@ part_resolved x u o T = by (same_id T.id u) refl
     by : (b : Bool) → same_id T.id u ≡ b → part_with (cond b (record T { status = status_after o }) T) (accesses x (cond b (record T { status = status_after o }) T).ops) ≡ option_map (resolved_part u o) (part_with T (accesses x T.ops))
     by b e = ap (part_with (cond b (record T { status = status_after o }) T)) (ops_same b) ∙ with (accesses x T.ops) b e
 
-resolves : (x : List ℕ) (u : TxnId) (o : Outcome) (txns : List Txn) → parts x (map (resolved u o) txns) ≡ map (resolved_part u o) (parts x txns)
+pub resolves : (x : List ℕ) (u : TxnId) (o : Outcome) (txns : List Txn) → parts x (map (resolved u o) txns) ≡ map (resolved_part u o) (parts x txns)
 resolves x u o [] = refl
 resolves x u o (T ∷ txns) = ap (λ p. cons_option p (parts x (map (resolved u o) txns))) (part_resolved x u o T) ∙ ap (cons_option (option_map (resolved_part u o) (part x T))) (resolves x u o txns) ∙ mapped (part x T) (parts x txns)
   where

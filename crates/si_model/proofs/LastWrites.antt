@@ -146,7 +146,7 @@ same_place (y ∷ ys) a b r c d e = elim (Contains-cons_cases y ys a c) [
 pub one_access : (Q : OnKey) → IsOfHistory Q → (T : Part) (a b : Placed) → Contains Q.parts T → Contains T.accesses a → Contains T.accesses b → a.place ≡ b.place → a ≡ b
 one_access Q h T a b c = same_place T.accesses a b (h.places T c)
 
-final : (T : Part) (v : Value) → Rise T.accesses → last_write T.accesses ≡ Some v → IsFinalWrite T v
+pub final : (T : Part) (v : Value) → Rise T.accesses → last_write T.accesses ≡ Some v → IsFinalWrite T v
 unfolding last_from
 final T v r e = elim (last_cases None T.accesses v r e) [
   | inl f ↦ (let none = f.0 in cc)
@@ -156,7 +156,7 @@ final T v r e = elim (last_cases None T.accesses v r e) [
 write_value : (v w : Value) → access.Write v ≡ access.Write w → v ≡ w
 write_value v w e = cc
 
-last_from_final : (T : Part) (v : Value) → Rise T.accesses → IsFinalWrite T v → last_write T.accesses ≡ Some v
+pub last_from_final : (T : Part) (v : Value) → Rise T.accesses → IsFinalWrite T v → last_write T.accesses ≡ Some v
 last_from_final T v r f =
     let s = some_last T v (f.place, f.is) in
     let g = final T s.0 r s.1 in

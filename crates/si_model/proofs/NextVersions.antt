@@ -1,5 +1,5 @@
 -- The next version that a walk finds is the next version, and there is one at most.
-use Rattle.std.proofs.Common.{◌≡◌, ◌⊎◌, inl, inr, ◌↔◌, ◌≤◌, Bool, true, false, nat_lt, List, [], ◌∷◌, ◌++◌, Option, Some, None, refl, sym, ap, subst, ◌∙◌, arith, cond}
+use Rattle.std.proofs.Common.{◌≡◌, ◌⊎◌, inl, inr, ◌↔◌, ℕ, ◌+◌, ◌<◌, ◌≤◌, Bool, true, false, nat_lt, List, [], ◌∷◌, ◌++◌, Option, Some, None, zero, suc, refl, sym, ap, subst, ◌∙◌, arith, cond}
 use Rattle.std.specs.List.{Contains}
 use Rattle.std.proofs.lemmas.Bool.{ltb-true, ltb-false, lt-ltb}
 use Rattle.si_model.specs.declared.numbers.Stamp.{Stamp}
@@ -8,7 +8,7 @@ use Rattle.si_model.specs.declared.parts.OnKey.{OnKey}
 use Rattle.si_model.specs.declared.sights.Installer.{Installer}
 use Rattle.si_model.specs.declared.sights.VersionId.{VersionId}
 use Rattle.si_model.specs.declared.sights.VersionId.TheVariants as version
-use Rattle.si_model.specs.Versions.{Installs, IsInstaller, IsAfter, IsNextIfAny, install, is_after, earlier, nearer, next_after}
+use Rattle.si_model.specs.Versions.{Installs, IsInstaller, IsAfter, IsNext, IsNextIfAny, install, is_after, earlier, nearer, next_after}
 use Rattle.si_model.specs.History.{IsOfHistory}
 use Rattle.si_lists.proofs.Members.{same_some, Contains-nil}
 use Rattle.si_lists.proofs.Pushes.{push_cases, push_last, push_keeps, fold_keeps}
@@ -134,3 +134,26 @@ same_next Q h a (Some m) (Some n) i j = ap Some (same_installer Q h m n i.instal
 
 pub next_exact : (Q : OnKey) (a : VersionId) (n : Option Installer) → IsOfHistory Q → IsNextIfAny Q a n ↔ (n ≡ next_after Q.parts a)
 next_exact Q a n h = (λ is. same_next Q h a n (next_after Q.parts a) is (next_is Q a), λ e. subst (IsNextIfAny Q a) (sym e) (next_is Q a))
+
+-- ---- the version before
+
+-- the version before n's, where an installer is at most so many stamps before: it is that installer's, or a later one
+pub before_next : (Q : OnKey) (n : Installer) → IsInstaller Q n → (most : ℕ) (m : Installer) → IsInstaller Q m → m.commit.0 < n.commit.0 → n.commit.0 ≤ m.commit.0 + most
+    → (b : Installer) × IsInstaller Q b × IsNext Q (version.Installed b.commit) n × (m.commit.0 ≤ b.commit.0)
+before_next Q n at zero m i less near = absurd (omega arith)
+before_next Q n at (suc most) m i less near = by (before_next Q n at most) (next_after Q.parts (version.Installed m.commit)) (next_is Q (version.Installed m.commit))
+  where
+    by : ((b : Installer) → IsInstaller Q b → b.commit.0 < n.commit.0 → n.commit.0 ≤ b.commit.0 + most → (d : Installer) × IsInstaller Q d × IsNext Q (version.Installed d.commit) n × (b.commit.0 ≤ d.commit.0))
+        → (o : Option Installer) → IsNextIfAny Q (version.Installed m.commit) o → (d : Installer) × IsInstaller Q d × IsNext Q (version.Installed d.commit) n × (m.commit.0 ≤ d.commit.0)
+    by further None none = absurd (none n at less)
+    by further (Some b) is = tested (nat_lt b.commit.0 n.commit.0) refl
+      where
+        tested : (t : Bool) → nat_lt b.commit.0 n.commit.0 ≡ t → (d : Installer) × IsInstaller Q d × IsNext Q (version.Installed d.commit) n × (m.commit.0 ≤ d.commit.0)
+        tested true t =
+            let after = is.after in
+            let f = further b is.installs (ltb-true b.commit.0 n.commit.0 t) (omega arith) in
+            let past = f.3 in
+            (f.0, f.1, f.2, omega arith)
+        tested false t =
+            let past = ltb-false b.commit.0 n.commit.0 t in
+            (m, i, record { installs = at; after = less; first = λ q j k. let first = is.first q j k in let nearest = is.first n at less in omega arith }, omega arith)

@@ -442,7 +442,7 @@ nothing_is_history = record {
   initial = λ x v T i c a y. absurd (Contains-nil T a);
 }
 
-nothing_present : present [] ≡ nothing
+pub nothing_present : present [] ≡ nothing
 unfolding present
 nothing_present = refl
 
@@ -479,7 +479,7 @@ strict_from before (e ∷ rest) strict accepted h =
     let regroup : (before ++ e ∷ []) ++ rest ≡ before ++ e ∷ rest = append_assoc before (e ∷ []) rest in
     subst IsAccepted regroup (strict_from (before ++ e ∷ []) rest (subst IsStrictJournal (sym regroup) strict) grown later)
 
-none_accepted : IsAccepted []
+pub none_accepted : IsAccepted []
 none_accepted [] e rest s = cc
 none_accepted (d ∷ before) e rest s = cc
 

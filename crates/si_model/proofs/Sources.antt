@@ -91,10 +91,10 @@ module _ (Q : OnKey) (h : IsOfHistory Q) where
       by None none = refl
       by (Some v) none = ap (source_from v) (find_none (part_writes v) Q.parts (λ T c t. none v T refl c ((writes_are v T).0 t)))
 
-  by_last : (T : Part) (v : Value) (c : Stamp) → Contains Q.parts T → IsFinalWrite T v → source_by T v (status.Committed c) ≡ source.Installed T.id c
+  pub by_last : (T : Part) (v : Value) (c : Stamp) → Contains Q.parts T → IsFinalWrite T v → source_by T v (status.Committed c) ≡ source.Installed T.id c
   by_last T v c at f = ap (λ b. cond b (source.Installed T.id c) (source.Earlier T.id)) ((value_is (last_write T.accesses) v).1 ((last_is_final Q T v h at).1 f))
 
-  by_other : (T : Part) (v : Value) (c : Stamp) → Contains Q.parts T → (IsFinalWrite T v → ⊥) → source_by T v (status.Committed c) ≡ source.Earlier T.id
+  pub by_other : (T : Part) (v : Value) (c : Stamp) → Contains Q.parts T → (IsFinalWrite T v → ⊥) → source_by T v (status.Committed c) ≡ source.Earlier T.id
   by_other T v c at other = by (option_eq same_value (last_write T.accesses) (Some v)) refl
     where
       by : (b : Bool) → option_eq same_value (last_write T.accesses) (Some v) ≡ b → cond b (source.Installed T.id c) (source.Earlier T.id) ≡ source.Earlier T.id

@@ -1,7 +1,7 @@
 -- A violation stays one through arrivals, resolutions and set-ups of other keys.
-use Rattle.std.proofs.Common.{◌≡◌, ◌≢◌, inl, inr, ℕ, ◌+◌, ◌<◌, ◌≤◌, Bool, true, false, nat_lt, List, [], ◌∷◌, ◌++◌, map, Option, Some, None, zero, suc, refl, sym, ap, subst, ◌∙◌, arith, cond, append_assoc, append-nil}
+use Rattle.std.proofs.Common.{◌≡◌, ◌≢◌, inl, inr, ℕ, ◌<◌, Bool, true, false, nat_lt, List, [], ◌∷◌, ◌++◌, map, Option, Some, None, refl, sym, ap, subst, ◌∙◌, arith, cond, append_assoc, append-nil}
 use Rattle.std.specs.List.{Contains}
-use Rattle.std.proofs.lemmas.Bool.{ltb-true, ltb-false, lt-ltb, leb-false}
+use Rattle.std.proofs.lemmas.Bool.{ltb-true, lt-ltb, leb-false}
 use Rattle.std.specs.Option.{option_eq}
 use Rattle.si_model.specs.declared.numbers.TxnId.{TxnId}
 use Rattle.si_model.specs.declared.numbers.Stamp.{Stamp}
@@ -22,7 +22,7 @@ use Rattle.si_model.specs.declared.kinds.Kind.{Kind}
 use Rattle.si_model.specs.declared.kinds.Kind.TheVariants as kind
 use Rattle.si_model.specs.Operations.{same_value, same_key}
 use Rattle.si_model.specs.Parts.{Present, part, on_key}
-use Rattle.si_model.specs.Versions.{IsInstaller, IsNext, IsNextIfAny, next_after}
+use Rattle.si_model.specs.Versions.{IsInstaller, IsNextIfAny, next_after}
 use Rattle.si_model.specs.Reads.{IsRead, IsWriter, IsSource, own_value, writes_later, source_of, sight_of, if_before, missed_at, judged_by_next, judged_by_source, judged_by_own, kind_of}
 use Rattle.si_model.specs.Order.{number}
 use Rattle.si_model.specs.Findings.{cases, IsOfRead, IsOfPair, IsFoundOn}
@@ -38,7 +38,7 @@ use Rattle.si_lists.proofs.Pushes.{push_keeps}
 use Rattle.si_model.proofs.Equalities.{same_id_is, same_key_is}
 use Rattle.si_model.proofs.KeyParts.{parts_are}
 use Rattle.si_model.proofs.Histories.{key_of_history}
-use Rattle.si_model.proofs.NextVersions.{next_is}
+use Rattle.si_model.proofs.NextVersions.{next_is, before_next}
 use Rattle.si_model.proofs.Sources.{source_is, same_source, sight_is, same_sight}
 use Rattle.si_model.proofs.Exact.{findings_exact}
 use Rattle.si_model.proofs.Acceptance.{present_push, accepted_begins}
@@ -187,36 +187,16 @@ module _ (Q R : OnKey) (g : IsOfHistory Q) (h : IsOfHistory R) (initial : Q.init
 
   -- ---- two neighbouring versions
 
-  -- the version before n's, which n's transaction overlaps, where it overlaps one that is at most so many stamps before
-  IsBefore : Installer → Type 0
-  IsBefore n = (m : Installer) × IsInstaller R m × IsNext R (version.Installed m.commit) n × (n.start.0 < m.commit.0)
-
-  before : (n : Installer) → IsInstaller R n → (most : ℕ) (m : Installer) → IsInstaller R m → m.commit.0 < n.commit.0 → n.start.0 < m.commit.0 → n.commit.0 ≤ m.commit.0 + most → IsBefore n
-  unfolding IsBefore
-  before n at zero m i less overlap near = absurd (omega arith)
-  before n at (suc most) m i less overlap near = by (before n at most) (next_after R.parts (version.Installed m.commit)) (next_is R (version.Installed m.commit))
-    where
-      by : ((b : Installer) → IsInstaller R b → b.commit.0 < n.commit.0 → n.start.0 < b.commit.0 → n.commit.0 ≤ b.commit.0 + most → IsBefore n) → (o : Option Installer) → IsNextIfAny R (version.Installed m.commit) o → IsBefore n
-      by further None none = absurd (none n at less)
-      by further (Some b) is = tested (nat_lt b.commit.0 n.commit.0) refl
-        where
-          tested : (t : Bool) → nat_lt b.commit.0 n.commit.0 ≡ t → IsBefore n
-          tested true t =
-              let after = is.after in
-              further b is.installs (ltb-true b.commit.0 n.commit.0 t) (omega arith) (omega arith)
-          tested false t =
-              let past = ltb-false b.commit.0 n.commit.0 t in
-              (m, i, record { installs = at; after = less; first = λ q j k. let first = is.first q j k in let nearest = is.first n at less in omega arith }, overlap)
-
   pair_again : (k : Kind) → IsOfPair cases Q k → IsAgain k
-  unfolding IsAgain IsBefore
+  unfolding IsAgain
   pair_again k p =
       let n = p.second in
       let at = installer_stays n p.next.installs in
       let overlap = ltb-true n.start.0 p.first.commit.0 p.judged in
-      let b = before n at n.commit.0 p.first (installer_stays p.first p.installs) p.next.after overlap (omega arith) in
+      let b = before_next R n at n.commit.0 p.first (installer_stays p.first p.installs) p.next.after (omega arith) in
+      let past = b.3 in
       let l : Kind = kind.Overlap b.0.txn n.txn in
-      subst IsAgain (sym p.is) (l, inr (record { first = b.0; second = n; installs = b.1; next = b.2; judged = lt-ltb n.start.0 b.0.commit.0 b.3; is = refl }), (b.0.txn, refl))
+      subst IsAgain (sym p.is) (l, inr (record { first = b.0; second = n; installs = b.1; next = b.2; judged = lt-ltb n.start.0 b.0.commit.0 (omega arith); is = refl }), (b.0.txn, refl))
 
   pub found_again : (k : Kind) → IsFoundOn cases Q k → 2 < number k → (l : Kind) × IsFoundOn cases R l × TellsAgain k l
   unfolding IsAgain

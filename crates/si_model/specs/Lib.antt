@@ -11,6 +11,12 @@ pub mod Form
 pub mod Edits
 pub mod Journals
 pub mod KeyEdits
+pub mod Chances
+pub mod Changes
 pub mod Evidence
+pub mod Horizons
 pub mod Laws
+pub mod ChanceLaws
+pub mod HorizonLaws
+pub mod HorizonRuns
 pub mod HistoryTests

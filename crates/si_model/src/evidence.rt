@@ -1,10 +1,10 @@
-//! What stands for a phenomenon: edges of the start-ordered serialization graph, walks of them, and evidence. Its meaning
-//! stands in `si_graph`; the types stand here, so that texts need no graph.
+//! What stands for a phenomenon: edges of the start-ordered serialization graph, walks of them, and evidence; and what no stamps mend,
+//! forks and knots. Its meaning stands in `si_graph`; the types stand here, so that texts need no graph.
 
 ghost use Rattle.std.specs.Prelude.{◌≡◌, IfOk};
 ghost use Rattle.si_model.specs.Evidence.{edge, missed_walk, evidence_of};
 
-use crate::{Kind, OutOfMemory, TxnId};
+use crate::{Key, Kind, OutOfMemory, TxnId};
 use std::alloc::Global;
 use std::marker::Model;
 
@@ -73,7 +73,58 @@ impl PartialEq for Walk {
     }
 }
 
-/// What shows that a phenomenon is there.
+/// An edge that is there by what was read and written to the key.
+#[derive(Debug, PartialEq, Drop)]
+pub struct KeyedEdge {
+    pub edge: Edge,
+    pub key: Key,
+}
+
+/// Edges with their keys, in their order. Contracts see the list.
+#[derive(Debug, Drop)]
+pub struct Knot {
+    edges: Vec<KeyedEdge>,
+}
+
+impl Model for Knot {
+    ghost use Rattle.std.specs.Prelude.{List};
+    ghost use Rattle.si_model.specs.declared.evidence.KeyedEdge.{KeyedEdge};
+
+    ghost Value = { List KeyedEdge };
+
+    ghost view = { λ k. k.edges.items };
+}
+
+impl Knot {
+    /// These edges, which aren't copied.
+    pub fn from_vec(edges: Vec<KeyedEdge>) -> Self
+        ensures { result ≡ edges.items }
+    {
+        Knot { edges }
+    }
+
+    /// The edges, each of which begins where the one before it ends, if it is a knot.
+    pub fn as_slice(&self) -> &[KeyedEdge]
+        ensures { result.now ≡ self.now }
+    {
+        self.edges.as_slice()
+    }
+}
+
+impl PartialEq for Knot {
+    ghost use Rattle.std.specs.Cmp.Lexicographic.{pointwise, lists_per};
+    ghost use Rattle.si_model.specs.contracts.evidence.KeyedEdgePartialEq.TheImpl.Laws as of_edge;
+
+    ghost eq = { pointwise (⟦<KeyedEdge as PartialEq>⟧.eq) };
+
+    ghost laws = { lists_per of_edge.laws-law };
+
+    fn eq(&self, other: &Self) -> bool {
+        self.edges == other.edges
+    }
+}
+
+/// What shows that a phenomenon is there, or that no stamps make the history clean.
 #[derive(Debug, PartialEq, Drop)]
 pub enum Evidence {
     /// The reader's operation read a value that the writer wrote, which aborted: G1a.
@@ -92,9 +143,17 @@ pub enum Evidence {
     Interference(Edge),
     /// A closed walk with exactly one rw edge: G-SI(b).
     Missed(Walk),
+    /// Two committed transactions each read one and the same version of the key before they wrote it.
+    Fork {
+        key: Key,
+        first: TxnId,
+        second: TxnId,
+    },
+    /// A closed walk of edges that are there by what was read and written, in which no two rw edges stand side by side.
+    Knot(Knot),
 }
 
-/// The evidence for a finding of that kind. None stands for a finding of form.
+/// The evidence for a finding of that kind. None stands for a finding of form, and a fork or a knot for none.
 ///
 /// It looks at no history, so that who has the findings needn't have them computed again.
 pub fn evidence_of(alloc: Global, kind: Kind) -> Result<Option<Evidence>, OutOfMemory>

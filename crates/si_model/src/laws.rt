@@ -1,6 +1,9 @@
 //! The laws of the definitions. Each is the contract of a function with an empty body: to call one is to have its fact.
 
 ghost use Rattle.si_model.specs.Laws.{FindingsAreExact, KeyFindingsAreExact, FormIsFound, OrderIsStrict, ListIsUnique, OrderIsFree, KeyOrderIsFree, JournalOrderIsFree, KeysAreApart, KeysAreOfHistory, PartsAreOfTransactions, AccessesAreOperations, PartsDiffer, KeyEditsAreEdits, TestsDecide, LastWriteIsFinal, OwnValueIsLast, LaterIsLater, WriterIsFound, IdIsFound, InstallIsExact, NextIsExact, SourceIsExact, SightIsExact, LeastIsLeast, FirstIsFirst, PresentGrows, AcceptedGrows, AcceptedBegins, PresentIsHistory, AcceptanceIsExact, StrictJournalsAreAccepted, ViolationsStay, PhenomenaStay};
+ghost use Rattle.si_model.specs.ChanceLaws.{PlacesAreExact, KeysAreExact, NoPlaceElsewhere, ChancesAreChanges};
+ghost use Rattle.si_model.specs.HorizonLaws.{CarriedIsExact, CarriedIsHistory, HistoriesAreMade, CarryingTwice, LateEditsCarry, LateJournalsCarry, NothingIsLost, FinalsStay, NothingComesBelow, FinalsAreFinal};
+ghost use Rattle.si_model.specs.HorizonRuns.{HorizonsLoseNothing, ViolationsAreTold};
 
 /// Of a history, the list of the findings is in strict order and has exactly what the relation says.
 pub fn findings_are_exact()
@@ -190,4 +193,86 @@ pub fn violations_stay()
 /// key is set up.
 pub fn phenomena_stay()
     ensures { PhenomenaStay }
+{}
+
+/// Of a history, the lists of places on a key have exactly what the relations say, each place once.
+pub fn places_are_exact()
+    ensures { PlacesAreExact }
+{}
+
+/// The keys that places are counted on are those that some operation is on, each once.
+pub fn keys_are_exact()
+    ensures { KeysAreExact }
+{}
+
+/// On a key that no operation is on, no place is counted.
+pub fn no_place_elsewhere()
+    ensures { NoPlaceElsewhere }
+{}
+
+/// Of a history, a place of each kind is where one change of the history gives a finding of that kind there.
+pub fn chances_are_changes()
+    ensures { ChancesAreChanges }
+{}
+
+/// Of a history, what is carried over a horizon is what the relation says.
+#[tactic(auto, using(crate::proofs::Carrying::carried_exact))]
+pub fn carried_is_exact()
+    ensures { CarriedIsExact }
+{}
+
+/// And it is a history.
+pub fn carried_is_history()
+    ensures { CarriedIsHistory }
+{}
+
+/// The edits that make a history are accepted and leave it.
+pub fn histories_are_made()
+    ensures { HistoriesAreMade }
+{}
+
+/// Carrying over one horizon and then over another that is no less is carrying over the other.
+pub fn carrying_twice()
+    ensures { CarryingTwice }
+{}
+
+/// Of a history without doubt below a horizon, a late edit that is acceptable is so on what is carried over, and carrying commutes with it.
+pub fn late_edits_carry()
+    ensures { LateEditsCarry }
+{}
+
+/// The same of the late edits that follow those of a journal.
+pub fn late_journals_carry()
+    ensures { LateJournalsCarry }
+{}
+
+/// Of a history, no finding is lost over a horizon but those of what lies below it, and none is new but as unknown in another's place.
+pub fn nothing_is_lost()
+    ensures { NothingIsLost }
+{}
+
+/// What a final finding was of has a finding still, whatever late edits are accepted later, and a violation stays one.
+pub fn finals_stay()
+    ensures { FinalsStay }
+{}
+
+/// Nothing that lies below a horizon has a finding later that had none at the horizon.
+pub fn nothing_comes_below()
+    ensures { NothingComesBelow }
+{}
+
+/// What is final at a second horizon is final there of the whole history.
+pub fn finals_are_final()
+    ensures { FinalsAreFinal }
+{}
+
+/// Horizons lose nothing: where all edits of a run are accepted without horizons too, they have a finding exactly where the run tells one,
+/// and a violation where it tells one.
+pub fn horizons_lose_nothing()
+    ensures { HorizonsLoseNothing }
+{}
+
+/// Where a run finds a violation at a horizon, it tells one of the same read or second version, whatever comes later.
+pub fn violations_are_told()
+    ensures { ViolationsAreTold }
 {}

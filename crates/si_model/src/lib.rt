@@ -7,6 +7,7 @@
 use std::alloc::AllocError;
 
 pub mod cases;
+pub mod chances;
 pub mod edits;
 pub mod evidence;
 pub mod findings;
@@ -26,8 +27,9 @@ pub mod sorting;
 pub mod transactions;
 pub mod versions;
 
+pub use chances::{Chances, Count};
 pub use edits::{Edit, MOST_EDITS};
-pub use evidence::{Edge, Evidence, Label, Walk, evidence_of};
+pub use evidence::{Edge, Evidence, KeyedEdge, Knot, Label, Walk, evidence_of};
 pub use findings::{Finding, findings_of};
 pub use history::is_history;
 pub use keys::{Key, shard_of};

@@ -3,6 +3,7 @@
 ghost use Rattle.std.specs.Prelude.{◌≡◌, [], false};
 ghost use Rattle.std.specs.Mem.{FitsInMemory};
 
+mod chances;
 mod evidence;
 mod expectations;
 mod files;
@@ -19,7 +20,7 @@ mod set_ups;
 
 use si_cli::{ExitStatus, NamedFiles, Options, RunFault, main_with, run};
 use si_text::memory::{MemorySink, MemorySource};
-use si_text::{ByteSink, ByteSource, Foreseen};
+use si_text::{Asked, ByteSink, ByteSource, ExpectedPlaces, Foreseen};
 use std::alloc::AllocGlobal;
 use std::fmt::{Debug, Display};
 use std::hash::RandomState;
@@ -38,8 +39,25 @@ const PLAIN: Options = Options {
     only_new: false,
     explain: false,
     expected: None,
+    asked: NOTHING_ASKED,
     shows_progress: false,
     limit: 16_777_216,
+};
+
+/// Nothing is asked of what could have been found.
+const NOTHING_ASKED: Asked = Asked {
+    tells: false,
+    expected: NO_PLACES,
+};
+
+/// No number of places is expected.
+const NO_PLACES: ExpectedPlaces = ExpectedPlaces {
+    own: None,
+    aborted: None,
+    intermediate: None,
+    future: None,
+    stale: None,
+    overlap: None,
 };
 
 /// What the tests and their helpers need.

@@ -18,13 +18,13 @@ use Rattle.si_model.specs.Order.{finding_cmp, finding_eq}
 use Rattle.si_model.proofs.FindingOrder.{findings_order}
 use Rattle.si_model.proofs.InOrder.{sorted-in_order}
 use Rattle.si_text.specs.Texts.{finding_lines, is_violation, not_among, summary_text, verdict_of}
-use Rattle.si_run.specs.Outputs.{Progress, SourcedItem, Terms, behind_report, changes_at, counted, decided_after, is_due, is_short_of, journal_after, progress_after, progress_through, reason_after, report_at, report_due, report_on_the_way, short_line, start, status_at, status_by, status_of, summary_at, violations_at, whole_report_at}
+use Rattle.si_run.specs.Outputs.{Progress, SourcedItem, Terms, behind_report, changes_at, counted, decided_after, ending_lines, falls_short, is_due, journal_after, progress_after, progress_through, reason_after, report_at, report_due, report_on_the_way, start, status_at, status_by, status_of, summary_at, violations_at, whole_report_at}
 use Rattle.si_run.specs.Laws.{Changes, ChangesAreText, ChangesEndAlike, ChangesTellAll, IsToldStill, changes_due, changes_lines, changes_through}
 use Rattle.si_run.proofs.Beginnings.{counts_on, progress_through-push}
 
 -- ---- findings that are one
 
-found_in_order : (p : Progress) → IsStrictlySortedBy finding_cmp (findings (present p.journal))
+pub found_in_order : (p : Progress) → IsStrictlySortedBy finding_cmp (findings (present p.journal))
 unfolding findings
 found_in_order p = sorted-in_order findings_order.0 _
 
@@ -35,10 +35,10 @@ violations_ascend p = IsStrictlySortedBy-filter finding_cmp (λ f. is_violation 
 ties : (f g : Finding) → finding_eq f g ≡ eq_by_cmp finding_cmp f g
 ties = search (comparing, rules)
 
-equals : IsEquivalence finding_eq
+pub equals : IsEquivalence finding_eq
 equals = search (comparing, rules)
 
-exact : (f g : Finding) → finding_eq f g ≡ true → f ≡ g
+pub exact : (f g : Finding) → finding_eq f g ≡ true → f ≡ g
 exact f g e = by (finding_cmp f g) refl (sym (ties f g) ∙ e)
   where
     by : (o : Ordering) → finding_cmp f g ≡ o → eq_by_cmp finding_cmp f g ≡ true → f ≡ g
@@ -54,12 +54,12 @@ among f others = by (list_any (finding_eq f) others) refl
     by true e = inl (Contains-from_any exact f others e)
     by false e = inr (λ c. true≢false (sym (list_any-from_Contains equals f others c) ∙ e))
 
-not_in : (f : Finding) (others findings : List Finding) → Contains (not_among others findings) f → Contains findings f × (Contains others f → ⊥)
+pub not_in : (f : Finding) (others findings : List Finding) → Contains (not_among others findings) f → Contains findings f × (Contains others f → ⊥)
 not_in f others findings c =
     let parts = Contains-from_filter (λ g. not (list_any (finding_eq g) others)) findings f c in
     (parts.0, λ d. true≢false (sym (parts.1 ∙ refl) ∙ ap not (list_any-from_Contains equals f others d)))
 
-in_not_among : (f : Finding) (others findings : List Finding) → Contains findings f → (Contains others f → ⊥) → Contains (not_among others findings) f
+pub in_not_among : (f : Finding) (others findings : List Finding) → Contains findings f → (Contains others f → ⊥) → Contains (not_among others findings) f
 in_not_among f others findings c none = Contains-filter (λ g. not (list_any (finding_eq g) others)) findings f c (by (list_any (finding_eq f) others) refl)
   where
     by : (b : Bool) → list_any (finding_eq f) others ≡ b → not (list_any (finding_eq f) others) ≡ true
@@ -268,11 +268,11 @@ module _ (terms : Terms) (only_new : Bool) where
   unfolding report_at summary_at
   report_alike p r a = λ i.
       let P = present (a.journal i) in
-      flat_map (finding_lines terms.explain) (findings P) ++ (short_line terms.expected P.txns ++ summary_text (length P.txns) (length (findings P)) (a.refused i) (verdict_of (findings P)))
+      flat_map (finding_lines terms.explain) (findings P) ++ (ending_lines terms P ++ summary_text (length P.txns) (length (findings P)) (a.refused i) (verdict_of (findings P)))
 
   status_alike : (p r : Progress) → AreAlike p r → status_at other p ≡ status_at terms r
   unfolding status_at
-  status_alike p r a = λ i. let P = present (a.journal i) in status_by (verdict_of (findings P)) (a.refused i) (is_short_of terms.expected P.txns)
+  status_alike p r a = λ i. let P = present (a.journal i) in status_by (verdict_of (findings P)) (a.refused i) (falls_short terms P)
 
 pub end_alike : ChangesEndAlike
 unfolding status_of

@@ -11,7 +11,10 @@ use Rattle.si_model.specs.declared.refusals.Refusal.TheVariants as refusal
 use Rattle.si_model.specs.declared.transactions.Txn.{Txn}
 use Rattle.si_model.specs.declared.findings.Finding.{Finding}
 use Rattle.si_model.specs.Edits.{IsAcceptable, refusal_on}
+use Rattle.si_model.specs.declared.chances.Chances.{Chances}
+use Rattle.si_model.specs.Chances.{chances}
 use Rattle.si_model.specs.Findings.{findings}
+use Rattle.si_model.specs.Parts.{Present}
 use Rattle.si_model.specs.Journals.{IsAccepted, present, refusal_after}
 use Rattle.si_model.specs.Laws.{AcceptedGrows, PresentIsHistory}
 use Rattle.si_graph.specs.SnapshotLaws.{SnapshotsAreClean}
@@ -21,11 +24,12 @@ use Rattle.si_text.specs.declared.faults.LineFault.{LineFault}
 use Rattle.si_text.specs.declared.reasons.Reason.{Reason}
 use Rattle.si_text.specs.declared.verdicts.Verdict.{Verdict}
 use Rattle.si_text.specs.declared.verdicts.Verdict.TheVariants as verdict
-use Rattle.si_text.specs.Texts.{finding_lines, is_violation, verdict_of}
+use Rattle.si_text.specs.declared.endings.ExpectedPlaces.{ExpectedPlaces}
+use Rattle.si_text.specs.Texts.{are_few, few_lines, finding_lines, is_few, is_violation, told_chances, verdict_of}
 use Rattle.si_run.specs.declared.statuses.ExitStatus.TheVariants as exit
-use Rattle.si_run.specs.Outputs.{Progress, SourcedItem, Terms, behind_report, counted, decided_after, is_due, is_short_of, item_text, items_text, journal_after, journal_with, output_of, progress_after, progress_through, reason_after, report_at, short_line, start, status_at, status_by, status_of, summary_at, violations_at, whole_report_at, changes_at}
+use Rattle.si_run.specs.Outputs.{Progress, SourcedItem, Terms, behind_report, counted, decided_after, ending_lines, falls_short, is_due, is_short_of, item_text, items_text, journal_after, journal_with, output_of, progress_after, progress_through, reason_after, report_at, short_line, start, status_at, status_by, status_of, summary_at, violations_at, whole_report_at, changes_at}
 use Rattle.si_run.specs.Laws.{accepted_after, refused_among}
-use Rattle.si_run.specs.GateLaws.{ExpectAdds, GateIsExact, IsEnough, ViolationIsExact, unasked}
+use Rattle.si_run.specs.GateLaws.{AreEnough, ExpectAdds, GateIsExact, HasEnough, IsEnough, ViolationIsExact, unasked}
 
 -- ---- what the decisions come to
 
@@ -137,6 +141,59 @@ enough (Some n) txns = (
     few true is most = absurd (let less = ltb-true (committed_among txns) n is in omega (arith, less, most))
     few false is most = refl
 
+-- ---- places
+
+few_is : (places : ℕ) (expected : Option ℕ) → (is_few places expected ≡ false) ↔ HasEnough places expected
+few_is places None = (λ e. tt, λ e. refl)
+few_is places (Some n) = (ltb-false places n, λ most. by (nat_lt places n) refl most)
+  where
+    by : (b : Bool) → nat_lt places n ≡ b → n ≤ places → b ≡ false
+    by true is most = absurd (let less = ltb-true places n is in omega (arith, less, most))
+    by false is most = refl
+
+no_or : (a b : Bool) → (a || b) ≡ false → (a ≡ false) × (b ≡ false)
+no_or true b e = cc
+no_or false b e = (refl, e)
+
+neither : (a b : Bool) → a ≡ false → b ≡ false → (a || b) ≡ false
+neither a b p q = cc
+
+few_are : (e : ExpectedPlaces) (c : Chances) → (are_few e c ≡ false) ↔ AreEnough e c
+few_are e c = (to, from)
+  where
+    to : are_few e c ≡ false → AreEnough e c
+    to none =
+        let a = no_or _ (is_few c.overlap.places e.overlap) none in
+        let b = no_or _ (is_few c.stale.places e.stale) a.0 in
+        let d = no_or _ (is_few c.future.places e.future) b.0 in
+        let f = no_or _ (is_few c.intermediate.places e.intermediate) d.0 in
+        let g = no_or (is_few c.own.places e.own) (is_few c.aborted.places e.aborted) f.0 in
+        record {
+          own = (few_is c.own.places e.own).0 g.0;
+          aborted = (few_is c.aborted.places e.aborted).0 g.1;
+          intermediate = (few_is c.intermediate.places e.intermediate).0 f.1;
+          future = (few_is c.future.places e.future).0 d.1;
+          stale = (few_is c.stale.places e.stale).0 b.1;
+          overlap = (few_is c.overlap.places e.overlap).0 a.1;
+        }
+
+    from : AreEnough e c → are_few e c ≡ false
+    from all =
+        let own = (few_is c.own.places e.own).1 all.own in
+        let aborted = neither _ _ own ((few_is c.aborted.places e.aborted).1 all.aborted) in
+        let intermediate = neither _ _ aborted ((few_is c.intermediate.places e.intermediate).1 all.intermediate) in
+        let future = neither _ _ intermediate ((few_is c.future.places e.future).1 all.future) in
+        let stale = neither _ _ future ((few_is c.stale.places e.stale).1 all.stale) in
+        neither _ _ stale ((few_is c.overlap.places e.overlap).1 all.overlap)
+
+-- nothing is short exactly where transactions and places are enough
+whole : (terms : Terms) (P : Present) → (falls_short terms P ≡ false) ↔ (IsEnough terms.expected P.txns × AreEnough terms.asked.expected (chances P))
+whole terms P = (
+  λ e. (let both = no_or (is_short_of terms.expected P.txns) (are_few terms.asked.expected (chances P)) e in
+      ((enough terms.expected P.txns).0 both.0, (few_are terms.asked.expected (chances P)).0 both.1)),
+  λ is. neither _ _ ((enough terms.expected P.txns).1 is.0) ((few_are terms.asked.expected (chances P)).1 is.1),
+)
+
 module _ (clean : SnapshotsAreClean) (history : PresentIsHistory) (grows : AcceptedGrows) where
   pub gate_exact : GateIsExact
   unfolding status_of status_at
@@ -157,23 +214,27 @@ module _ (clean : SnapshotsAreClean) (history : PresentIsHistory) (grows : Accep
       exact : (findings (present J) ≡ []) ↔ IsSnapshot (present J)
       exact = clean (present J) (history J (all_accepted grows terms.limit [] none_accepted items))
 
-      to : status_of terms items ≡ exit.Clean → (refused_among terms.limit [] items ≡ 0) × IsSnapshot (present J) × IsEnough terms.expected (present J).txns
+      to : status_of terms items ≡ exit.Clean
+          → (refused_among terms.limit [] items ≡ 0) × IsSnapshot (present J) × IsEnough terms.expected (present J).txns × AreEnough terms.asked.expected (chances (present J))
       to e =
-          let s = status_clean (verdict_of (findings (present p.journal))) p.refused (is_short_of terms.expected (present p.journal).txns) e in
-          let none = clean_verdict (findings (present p.journal)) s.0 in (
+          let s = status_clean (verdict_of (findings (present p.journal))) p.refused (falls_short terms (present p.journal)) e in
+          let none = clean_verdict (findings (present p.journal)) s.0 in
+          let enough = (whole terms (present J)).0 (subst (λ K. falls_short terms (present K) ≡ false) journal s.2) in (
             sym refused ∙ s.1,
             exact.0 (subst (λ K. findings (present K) ≡ []) journal none),
-            (enough terms.expected (present J).txns).0 (subst (λ K. is_short_of terms.expected (present K).txns ≡ false) journal s.2),
+            enough.0,
+            enough.1,
           )
 
-      from : (refused_among terms.limit [] items ≡ 0) × IsSnapshot (present J) × IsEnough terms.expected (present J).txns → status_of terms items ≡ exit.Clean
+      from : (refused_among terms.limit [] items ≡ 0) × IsSnapshot (present J) × IsEnough terms.expected (present J).txns × AreEnough terms.asked.expected (chances (present J))
+          → status_of terms items ≡ exit.Clean
       from is =
           let none = subst (λ K. findings (present K) ≡ []) (sym journal) (exact.1 is.1) in
-          let whole = subst (λ K. is_short_of terms.expected (present K).txns ≡ false) (sym journal) ((enough terms.expected (present J).txns).1 is.2) in
+          let nothing = subst (λ K. falls_short terms (present K) ≡ false) (sym journal) ((whole terms (present J)).1 (is.2, is.3)) in
           let verdict_is : verdict_of (findings (present p.journal)) ≡ verdict.Clean = ap verdict_of none in
           let refused_is : p.refused ≡ 0 = refused ∙ is.0 in
-          ap (λ v. status_by v p.refused (is_short_of terms.expected (present p.journal).txns)) verdict_is
-          ∙ ap₂ (λ (n : ℕ) (s : Bool). status_by verdict.Clean n s) refused_is whole
+          ap (λ v. status_by v p.refused (falls_short terms (present p.journal))) verdict_is
+          ∙ ap₂ (λ (n : ℕ) (s : Bool). status_by verdict.Clean n s) refused_is nothing
 
 violation_found : (fs : List Finding) → verdict_of fs ≡ verdict.Violation → list_any (λ (finding : Finding). is_violation finding.kind) fs ≡ true
 violation_found [] e = cc
@@ -200,14 +261,14 @@ pub violation_exact : ViolationIsExact
 unfolding status_of status_at
 violation_exact terms items = (
   λ e. (
-      let v = status_violation (verdict_of (findings (present p.journal))) p.refused (is_short_of terms.expected (present p.journal).txns) e in
+      let v = status_violation (verdict_of (findings (present p.journal))) p.refused (falls_short terms (present p.journal)) e in
       let found = violation_found (findings (present p.journal)) v in
       any_is (λ (f : Finding). is_violation f.kind) (findings (present J)) (subst (λ K. list_any (λ (f : Finding). is_violation f.kind) (findings (present K)) ≡ true) journal found)
       ),
   λ f. (
       let found = any_from (λ (f : Finding). is_violation f.kind) (findings (present J)) f.0 f.1 f.2 in
       let v = found_violation (findings (present p.journal)) (subst (λ K. list_any (λ (f : Finding). is_violation f.kind) (findings (present K)) ≡ true) (sym journal) found) in
-      ap (λ w. status_by w p.refused (is_short_of terms.expected (present p.journal).txns)) v
+      ap (λ w. status_by w p.refused (falls_short terms (present p.journal))) v
       ),
 )
   where
@@ -245,17 +306,23 @@ short_status verdict.Clean n short = by (n == 0) short
     by false true = inl refl
     by false false = inl refl
 
+regroup : (before found told short last : List ℕ) → before ++ (found ++ ((told ++ short) ++ last)) ≡ (before ++ (found ++ told)) ++ (short ++ last)
+regroup before found told short last =
+    ap (λ l. before ++ (found ++ l)) (append_assoc told short last) ∙ ap (λ l. before ++ l) (sym (append_assoc found told (short ++ last)))
+    ∙ sym (append_assoc before (found ++ told) (short ++ last))
+
 pub expect_adds : ExpectAdds
 unfolding status_of status_at output_of report_at
 expect_adds terms items = (
   subst (λ (q : Progress). (status_at terms p ≡ status_at (unasked terms) q) ⊎ ((status_at (unasked terms) q ≡ exit.Clean) × (status_at terms p ≡ exit.Open))) (sym same)
-      (short_status (verdict_of (findings (present p.journal))) p.refused (is_short_of terms.expected (present p.journal).txns)),
+      (short_status (verdict_of (findings (present p.journal))) p.refused (falls_short terms (present p.journal))),
   (
-    items_text terms start items ++ found,
+    items_text terms start items ++ (found ++ told),
     summary_at p,
-    ap₂ (λ (l : List ℕ) (q : Progress). l ++ report_at (unasked terms) q) (texts terms start items) same ∙ sym (append_assoc (items_text terms start items) found (summary_at p)),
-    ap (λ (J : List Edit). items_text terms start items ++ (found ++ (short_line terms.expected (present J).txns ++ summary_at p))) journal
-        ∙ sym (append_assoc (items_text terms start items) found (short_line terms.expected (present (accepted_after terms.limit [] items)).txns ++ summary_at p)),
+    ap₂ (λ (l : List ℕ) (q : Progress). l ++ report_at (unasked terms) q) (texts terms start items) same
+        ∙ regroup (items_text terms start items) found told [] (summary_at p),
+    regroup (items_text terms start items) found told (short p.journal) (summary_at p)
+        ∙ ap (λ (J : List Edit). (items_text terms start items ++ (found ++ told)) ++ (short J ++ summary_at p)) journal,
   ),
 )
   where
@@ -267,6 +334,12 @@ expect_adds terms items = (
 
     found : List ℕ
     found = flat_map (finding_lines terms.explain) (findings (present p.journal))
+
+    told : List ℕ
+    told = told_chances terms.asked.tells (chances (present p.journal))
+
+    short : List Edit → List ℕ
+    short J = short_line terms.expected (present J).txns ++ few_lines terms.asked.expected (chances (present J))
 
     journal : p.journal ≡ accepted_after terms.limit [] items
     journal = journals terms start items

@@ -9,7 +9,9 @@ pub mod Lone
 pub mod Texts
 pub mod SomeText
 pub mod Changed
+pub mod Differences
 pub mod Gathered
 pub mod InRange
 pub mod Gates
 pub mod Shown
+pub mod Askings

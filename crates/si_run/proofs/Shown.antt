@@ -1,13 +1,13 @@
 -- Lines of progress before what is told, and texts that are told one behind the other.
-use Rattle.std.proofs.Common.{◌≡◌, ◌⊎◌, inl, inr, ℕ, List, [], ◌∷◌, ◌++◌, Bool, true, false, flat_map, refl, sym, ap, subst, ◌∙◌, append_assoc, append-nil}
-use Rattle.std.specs.Prelude.{Option, Some, None, Result, Ok, Err}
+use Rattle.std.proofs.Common.{inl, inr, ℕ, List, [], ◌∷◌, ◌++◌, Bool, true, false, flat_map, refl, sym, ap, subst, ◌∙◌, append_assoc, append-nil}
+use Rattle.std.specs.Prelude.{Option, Result, Ok, Err}
 use Rattle.std.specs.Io.KnownBytes.{Appends}
 use Rattle.std.proofs.KnownBytes.{Appends-nil, Appends-trans}
 use Rattle.std.proofs.lemmas.Grind.{flat_map-append}
 use Rattle.si_text.specs.Devices.{Output, lent}
 use Rattle.si_run.specs.declared.statuses.ExitStatus.{ExitStatus}
 use Rattle.si_run.specs.declared.faults.RunFault.{RunFault}
-use Rattle.si_run.specs.Telling.{IsCleared, IsTold, IsToldIfTried, Note, ShowsNotes, Tells, TellsBehind, TellsOn, erasure, fault_line, note_text}
+use Rattle.si_run.specs.Telling.{IsCleared, IsTold, Note, ShowsNotes, Tells, TellsBehind, TellsOn, erasure, fault_line, note_text}
 
 -- a device that isn't touched tells nothing
 pub untouched : (x : Output) → TellsOn (lent x x) []

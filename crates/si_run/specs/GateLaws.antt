@@ -4,11 +4,14 @@ use Rattle.std.specs.List.{Contains}
 use Rattle.si_model.specs.declared.transactions.Txn.{Txn}
 use Rattle.si_model.specs.declared.findings.Finding.{Finding}
 use Rattle.si_model.specs.Parts.{Present}
+use Rattle.si_model.specs.declared.chances.Chances.{Chances}
+use Rattle.si_model.specs.Chances.{chances}
 use Rattle.si_model.specs.Findings.{findings}
 use Rattle.si_model.specs.Journals.{present}
 use Rattle.si_graph.specs.Snapshots.{IsSnapshot}
 use Rattle.si_accept.specs.Statuses.{committed_among, doubtful_among}
-use Rattle.si_text.specs.Texts.{is_violation}
+use Rattle.si_text.specs.declared.endings.ExpectedPlaces.{ExpectedPlaces}
+use Rattle.si_text.specs.Texts.{few_lines, is_violation}
 use Rattle.si_run.specs.declared.statuses.ExitStatus.{ExitStatus}
 use Rattle.si_run.specs.declared.statuses.ExitStatus.TheVariants as exit
 use Rattle.si_run.specs.Outputs.{SourcedItem, Terms, output_of, short_line, status_of}
@@ -23,12 +26,27 @@ abbrev pub IsEnough : Option ℕ → List Txn → Type 0
 IsEnough None txns = ⊤
 IsEnough (Some expected) txns = (expected ≤ committed_among txns) × (doubtful_among txns ≡ [])
 
+-- where so many places of a kind are expected, there are so many
+abbrev pub HasEnough : ℕ → Option ℕ → Type 0
+HasEnough places None = ⊤
+HasEnough places (Some expected) = expected ≤ places
+
+-- of each kind there are as many places as are expected
+pub record AreEnough (e : ExpectedPlaces) (c : Chances) : Type 0 where
+  pub own : HasEnough c.own.places e.own
+  pub aborted : HasEnough c.aborted.places e.aborted
+  pub intermediate : HasEnough c.intermediate.places e.intermediate
+  pub future : HasEnough c.future.places e.future
+  pub stale : HasEnough c.stale.places e.stale
+  pub overlap : HasEnough c.overlap.places e.overlap
+
 -- the status of these items is that of a clean run exactly where none of them is refused, what is present in the end is a snapshot history,
--- and it is as much as was expected
+-- and it is as much as was expected, with as many places at which something could have been found
 abbrev pub IsGate : Terms → List SourcedItem → ExitStatus → Type 0
 IsGate terms items status =
     (status ≡ exit.Clean)
-    ↔ ((refused_among terms.limit [] items ≡ 0) × IsSnapshot (present_after terms items) × IsEnough terms.expected (present_after terms items).txns)
+    ↔ ((refused_among terms.limit [] items ≡ 0) × IsSnapshot (present_after terms items) × IsEnough terms.expected (present_after terms items).txns
+    × AreEnough terms.asked.expected (chances (present_after terms items)))
 
 abbrev pub GateIsExact : Type 0
 GateIsExact = (terms : Terms) (items : List SourcedItem) → IsGate terms items (status_of terms items)
@@ -39,14 +57,19 @@ ViolationIsExact = (terms : Terms) (items : List SourcedItem) →
     (status_of terms items ≡ exit.Violation)
     ↔ ((f : Finding) × Contains (findings (present_after terms items)) f × (is_violation f.kind ≡ true))
 
+-- no number of places is expected
+abbrev pub none_expected : ExpectedPlaces
+none_expected = record { own = None; aborted = None; intermediate = None; future = None; stale = None; overlap = None }
+
 -- the same without a number that is expected
 abbrev pub unasked : Terms → Terms
-unasked terms = record terms { expected = None }
+unasked terms = record terms { expected = None; asked = record terms.asked { expected = none_expected } }
 
--- a number that is expected turns the status of a clean run alone, into that of an open one, and brings one line, if any, before the last one
+-- what is expected turns the status of a clean run alone, into that of an open one, and brings lines of what the run is short of before the last
+-- one: one of transactions, if any, and one of each kind that has too few places
 abbrev pub ExpectAdds : Type 0
 ExpectAdds = (terms : Terms) (items : List SourcedItem) →
     ((status_of terms items ≡ status_of (unasked terms) items)
     ⊎ ((status_of (unasked terms) items ≡ exit.Clean) × (status_of terms items ≡ exit.Open)))
     × ((head last : List ℕ) × (output_of (unasked terms) items ≡ head ++ last)
-    × (output_of terms items ≡ head ++ (short_line terms.expected (present_after terms items).txns ++ last)))
+    × (output_of terms items ≡ head ++ ((short_line terms.expected (present_after terms items).txns ++ few_lines terms.asked.expected (chances (present_after terms items))) ++ last)))

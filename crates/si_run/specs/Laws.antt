@@ -3,10 +3,12 @@ use Rattle.std.specs.Prelude.{◌≡◌, ◌↔◌, ℕ, Bool, true, if◌then�
 use Rattle.std.specs.List.{Contains, flat_map}
 use Rattle.si_model.specs.declared.edits.Edit.{Edit}
 use Rattle.si_model.specs.declared.findings.Finding.{Finding}
+use Rattle.si_model.specs.Chances.{chances}
 use Rattle.si_model.specs.Findings.{findings}
 use Rattle.si_model.specs.Journals.{present}
 use Rattle.si_model.specs.Parts.{Present}
-use Rattle.si_text.specs.Texts.{finding_lines, gone_text, not_among, summary_text, verdict_of}
+use Rattle.si_text.specs.declared.endings.Asked.{Asked}
+use Rattle.si_text.specs.Texts.{few_lines, finding_lines, gone_text, not_among, summary_text, told_chances, verdict_of}
 use Rattle.si_run.specs.Outputs.{Progress, SourcedItem, Terms, counted, decided_after, is_due, journal_after, output_of, progress_after, progress_through, reason_after, refusal_line, report_at, report_due, short_line, start, status_of, summary_at, violations_at}
 
 -- the accepted edits of items that come after these edits, with them
@@ -26,16 +28,18 @@ refused_among limit journal [] = 0
 refused_among limit journal (item ∷ items) =
     counted (refused_among limit (journal_after limit journal item.1.1) items) (reason_after limit journal item.1.1)
 
--- the report of what is present, with the line of what it is short of, where a number is expected
-abbrev pub whole_report : Bool → Option ℕ → Present → ℕ → List ℕ
-whole_report explain expected P refused =
-    flat_map (finding_lines explain) (findings P) ++ (short_line expected P.txns ++ summary_text (length P.txns) (length (findings P)) refused (verdict_of (findings P)))
+-- the report of what is present, with what could have been found, where that is told, and the lines of what it is short of, where numbers are expected
+abbrev pub whole_report : Bool → Option ℕ → Asked → Present → ℕ → List ℕ
+whole_report explain expected asked P refused =
+    flat_map (finding_lines explain) (findings P)
+    ++ ((told_chances asked.tells (chances P) ++ (short_line expected P.txns ++ few_lines asked.expected (chances P)))
+    ++ summary_text (length P.txns) (length (findings P)) refused (verdict_of (findings P)))
 
 -- without reports on the way the output is the lines of the refused items and then the report of what is present
 abbrev pub PlainOutputIsExact : Type 0
-PlainOutputIsExact = (limit : ℕ) (only_new explain : Bool) (expected : Option ℕ) (shows : Bool) (items : List SourcedItem)
-    → output_of (record { limit = limit; every = None; only_new = only_new; explain = explain; expected = expected; shows = shows }) items
-    ≡ refusal_lines limit [] items ++ whole_report explain expected (present (accepted_after limit [] items)) (refused_among limit [] items)
+PlainOutputIsExact = (limit : ℕ) (only_new explain : Bool) (expected : Option ℕ) (asked : Asked) (shows : Bool) (items : List SourcedItem)
+    → output_of (record { limit = limit; every = None; only_new = only_new; explain = explain; expected = expected; asked = asked; shows = shows }) items
+    ≡ refusal_lines limit [] items ++ whole_report explain expected asked (present (accepted_after limit [] items)) (refused_among limit [] items)
 
 -- ---- reports that tell only what changed
 

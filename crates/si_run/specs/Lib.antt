@@ -9,3 +9,4 @@ pub mod Telling
 pub mod Engines
 pub mod Laws
 pub mod GateLaws
+pub mod Tolds

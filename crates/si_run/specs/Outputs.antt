@@ -8,17 +8,20 @@ use Rattle.si_model.specs.declared.edits.Edit.{Edit}
 use Rattle.si_model.specs.declared.findings.Finding.{Finding}
 use Rattle.si_model.specs.declared.numbers.TxnId.{TxnId}
 use Rattle.si_model.specs.declared.transactions.Txn.{Txn}
+use Rattle.si_model.specs.Chances.{chances}
 use Rattle.si_model.specs.Findings.{findings}
 use Rattle.si_model.specs.Journals.{present, refusal_after}
 use Rattle.si_model.specs.Order.{in_order}
+use Rattle.si_model.specs.Parts.{Present}
 use Rattle.si_accept.specs.Statuses.{committed_among, doubtful_among}
+use Rattle.si_text.specs.declared.endings.Asked.{Asked}
 use Rattle.si_text.specs.declared.faults.LineFault.{LineFault}
 use Rattle.si_text.specs.declared.reasons.Reason.{Reason}
 use Rattle.si_text.specs.declared.reasons.Reason.TheVariants.{Malformed, Refused}
 use Rattle.si_text.specs.declared.verdicts.Verdict.{Verdict}
 use Rattle.si_text.specs.declared.verdicts.Verdict.TheVariants as verdict
 use Rattle.si_text.specs.Inputs.{Item}
-use Rattle.si_text.specs.Texts.{changes_text, finding_lines, refused_text, report_text, short_text, summary_text, verdict_of, violations_of}
+use Rattle.si_text.specs.Texts.{are_few, changes_text, few_lines, finding_lines, refused_text, report_text, short_text, summary_text, told_chances, verdict_of, violations_of}
 use Rattle.si_run.specs.declared.engines.Decision.{Decision}
 use Rattle.si_run.specs.declared.engines.Decision.TheVariants as decision
 use Rattle.si_run.specs.declared.statuses.ExitStatus.{ExitStatus}
@@ -37,14 +40,15 @@ abbrev pub from_source : ℕ → List Item → List SourcedItem
 from_source source items = map (sourced source) items
 
 -- the most edits that a journal may have, after how many decided items each report comes, if any do on the way, whether these tell
--- only what changed, whether evidence follows the findings, how many committed transactions are expected at the end, if any number is, and whether
--- lines of progress are shown on the error device, which changes nothing of the text
+-- only what changed, whether evidence follows the findings, how many committed transactions are expected at the end, if any number is, what is
+-- asked of what could have been found, and whether lines of progress are shown on the error device, which changes nothing of the text
 pub record Terms : Type 0 where
   pub limit : ℕ
   pub every : Option ℕ
   pub only_new : Bool
   pub explain : Bool
   pub expected : Option ℕ
+  pub asked : Asked
   pub shows : Bool
 
 -- how far the decisions are: the accepted edits, how many items were decided and how many of them refused, and, where reports on the way
@@ -137,6 +141,14 @@ abbrev pub short_line : Option ℕ → List Txn → List ℕ
 short_line None txns = []
 short_line (Some expected) txns = if is_short expected txns then short_line_of expected txns else []
 
+-- whether it is short of transactions, or of places at which something could have been found
+abbrev pub falls_short : Terms → Present → Bool
+falls_short terms P = is_short_of terms.expected P.txns || are_few terms.asked.expected (chances P)
+
+-- what the last report tells right before its summary: what could have been found, where that is told, and what the run is short of
+abbrev pub ending_lines : Terms → Present → List ℕ
+ending_lines terms P = told_chances terms.asked.tells (chances P) ++ (short_line terms.expected P.txns ++ few_lines terms.asked.expected (chances P))
+
 -- ---- reports
 
 -- the report of all that is found
@@ -156,10 +168,10 @@ changes_at terms p = changes_text terms.explain p.told (violations_at p) ++ summ
 abbrev pub report_on_the_way : Terms → Progress → List ℕ
 report_on_the_way terms p = if terms.only_new then changes_at terms p else whole_report_at terms p
 
--- the last report, which tells all that is found, and what the run is short of
+-- the last report, which tells all that is found, what could have been, where that is told, and what the run is short of
 unfoldable pub report_at : Terms → Progress → List ℕ
 report_at terms p =
-    flat_map (finding_lines terms.explain) (findings (present p.journal)) ++ (short_line terms.expected (present p.journal).txns ++ summary_at p)
+    flat_map (finding_lines terms.explain) (findings (present p.journal)) ++ (ending_lines terms (present p.journal) ++ summary_at p)
 
 -- the line of a refused item
 abbrev pub refusal_line : ℕ → ℕ → Option Reason → List ℕ
@@ -192,7 +204,7 @@ status_by verdict.Clean refused short = if refused == 0 && not short then exit.C
 unfoldable pub status_at : Terms → Progress → ExitStatus
 status_at terms p =
     let P = present p.journal in
-    status_by (verdict_of (findings P)) p.refused (is_short_of terms.expected P.txns)
+    status_by (verdict_of (findings P)) p.refused (falls_short terms P)
 
 -- the exit status
 unfoldable pub status_of : Terms → List SourcedItem → ExitStatus

@@ -38,6 +38,7 @@ terms_by options = record {
   only_new = options.only_new;
   explain = options.explain;
   expected = options.expected;
+  asked = options.asked;
   shows = options.shows_progress;
 }
 

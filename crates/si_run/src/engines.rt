@@ -2,28 +2,35 @@
 //!
 //! Every number of shards gives the same text: no clause here names it.
 
-ghost use Rattle.std.specs.Prelude.{◌≡◌, ◌+◌, ◌<◌, ◌-◌, ◌^◌, ◌++◌, [], None, ℕ, length, true, is_some, IfOk, OnOk, OnErr, IsSome};
+ghost use Rattle.std.specs.Prelude.{◌≡◌, ◌+◌, ◌<◌, ◌≤◌, ◌-◌, ◌^◌, ◌++◌, [], None, Some, if◌then◌else◌, ℕ, length, true, is_some, IfOk, OnOk, OnErr, IsSome};
+ghost use Rattle.si_model.specs.Chances.{chances};
 ghost use Rattle.si_model.specs.Findings.{findings};
 ghost use Rattle.si_model.specs.Journals.{present};
 ghost use Rattle.si_accept.specs.Statuses.{committed_among, doubtful_among};
-ghost use Rattle.si_text.specs.Texts.{shortage_lines};
+ghost use Rattle.si_text.specs.Texts.{asks, is_short_ending, lines_asked, not_among, shortage_lines};
+ghost use Rattle.si_run.specs.Tolds.{found_then};
 ghost use Rattle.si_words.specs.Seats.{seated};
 ghost use Rattle.si_words.specs.Views.{new_pass};
 ghost use Rattle.si_run.specs.declared.faults.RunFault.TheVariants.{Memory};
 ghost use Rattle.si_run.specs.Runs.{every_by, terms_by};
 ghost use Rattle.si_run.specs.Takings.{IsLeftAt};
-ghost use Rattle.si_run.specs.Outputs.{behind_report, changes_at, counted, decision_by, is_due, is_short_of, item_text, journal_after, progress_after, reason_after, refusal_line, report_at, report_due, short_line, sourced, start, status_at, violations_at, whole_report_at};
+ghost use Rattle.si_run.specs.Outputs.{behind_report, changes_at, counted, decision_by, ending_lines, falls_short, is_due, is_short_of, item_text, journal_after, progress_after, reason_after, refusal_line, report_at, report_due, short_line, sourced, start, status_at, violations_at, whole_report_at};
 
+use crate::tolds::Told;
 use crate::{ExitStatus, Options};
-use si_checker::{AcceptFault, Checker, Name, Pass, ReportFault, SettledFindings, Statuses};
-use si_model::sorting::put_in_order;
-use si_model::{Edit, Finding, OutOfMemory};
-use si_text::{
-    LineFault, LineItem, Reason, Shortage, Verdict, keep_violations, print_changes,
-    print_last_report, print_refusal, print_report, print_summary,
+use si_chances::chances_of;
+use si_checker::{
+    AcceptFault, Checker, Name, Pass, ReportFault, SettledChanges, SettledFindings, Statuses,
 };
-use si_words::laws::{edits_append, lone_pass_issues_all};
+use si_model::sorting::put_in_order;
+use si_model::{Chances, Edit, OutOfMemory};
+use si_text::{
+    Asked, Ending, LineFault, LineItem, Reason, Shortage, print_changes, print_last_report,
+    print_refusal, print_report, print_summary,
+};
+use si_words::laws::{edits_append, edits_keep_length, lone_pass_issues_all};
 use std::alloc::{AllocError, Global};
+use std::hash::RandomState;
 use std::marker::{Model, PhantomData};
 use std::num::NonZeroU64;
 use std::sync::Wait;
@@ -42,18 +49,20 @@ pub enum Decision {
 #[derive(Drop)]
 pub struct Engine<N: Name> {
     alloc: Global,
+    hash: RandomState,
     pass: Pass,
     every: Option<NonZeroU64>,
     only_new: bool,
     explain: bool,
     expected: Option<u64>,
+    asked: Asked,
     shows: bool,
     decided: u64,
     refused: u64,
     // How many findings the last report had. It stands in lines of progress alone.
     found: Option<u64>,
-    // The violations at the last report on the way, where these tell only what changed.
-    told: Vec<Finding>,
+    // What the last report on the way told, where these tell only what changed.
+    told: Told,
     of: PhantomData<N>,
 }
 
@@ -63,14 +72,14 @@ impl<N: Name> Model for Engine<N> {
 
     ghost Value = { EngineState };
 
-    ghost view = { λ e. engine_state (record { limit = N.limit; every = every_by e.every; only_new = e.only_new; explain = e.explain; expected = e.expected; shows = e.shows }) e.pass.view e.decided e.refused e.told.items };
+    ghost view = { λ e. engine_state (record { limit = N.limit; every = every_by e.every; only_new = e.only_new; explain = e.explain; expected = e.expected; asked = e.asked; shows = e.shows }) e.pass.view e.decided e.refused e.told };
 
-    ghost invariant = { λ e. IsEngine N.board e.pass e.decided e.refused e.told.items };
+    ghost invariant = { λ e. IsEngine N.board e.pass e.decided e.refused e.told };
 }
 
 impl<N: Name> Engine<N> {
     /// An engine that has decided nothing, with the only pass of the checker.
-    pub fn new(alloc: Global, pass: Pass, options: Options) -> Self
+    pub fn new(alloc: Global, hash: RandomState, pass: Pass, options: Options) -> Self
         requires alone { N.board.passes ≡ 1 }
         requires pass { pass ≡ seated N.board.table (new_pass N.board.shards 0) }
         requires limit { options.limit ≡ N.limit }
@@ -79,16 +88,18 @@ impl<N: Name> Engine<N> {
     {
         Engine {
             alloc,
+            hash,
             pass,
             every: options.every,
             only_new: options.only_new,
             explain: options.explain,
             expected: options.expected,
+            asked: options.asked,
             shows: options.shows_progress,
             decided: 0,
             refused: 0,
             found: None,
-            told: Vec::new(alloc),
+            told: Told::nothing(),
             of: PhantomData,
         }
     }
@@ -268,21 +279,47 @@ impl<N: Name> Engine<N> {
         ensures ok { OnOk result (self.new ≡ record self.old { progress = record self.old.progress { told = violations_at self.old.progress } }) }
         ensures err { OnErr result (self.new ≡ self.old) }
     {
-        let SettledFindings {
+        let told = self.told;
+        let SettledChanges {
+            number,
             transactions,
-            findings: mut violations,
-            ..
-        } = self.settled(rt, checker)?;
-        let (count, verdict) = (violations.len(), Verdict::of(&violations));
-        keep_violations(&mut violations);
-        print_changes(self.alloc, text, &self.told, &violations, self.explain)?;
-        print_summary(self.alloc, text, transactions, count, self.refused, verdict)?;
-        self.told = violations;
-        self.found = Some(count as u64);
+            mut came,
+            mut went,
+        } = self.changed(rt, checker, told.at)?;
+        let now = told.after(number, &mut came, &mut went)?;
+        print_changes(self.alloc, text, &went, &came, self.explain)?;
+        let (found, verdict) = (now.found, now.verdict());
+        print_summary(self.alloc, text, transactions, found, self.refused, verdict)?;
+        self.told = now;
+        self.found = Some(found as u64);
         Ok(())
     }
 
-    /// Appends the last report, with what the run is short of, and answers the status.
+    /// Lets the shards apply all that is left, and takes what came and went since so many edits.
+    fn changed<R: Wait>(
+        &mut self,
+        rt: &R,
+        checker: &Checker<N>,
+        since: u64,
+    ) -> Result<SettledChanges, OutOfMemory>
+        requires { since ≤ length self.old.progress.journal }
+        ensures number { IfOk result (λ changes. changes.number ≡ length self.old.progress.journal) }
+        ensures count { IfOk result (λ changes. changes.transactions ≡ length (present self.old.progress.journal).txns) }
+        ensures came { IfOk result (λ changes. changes.came.items ≡ not_among (found_then self.old.progress.journal since) (findings (present self.old.progress.journal))) }
+        ensures went { IfOk result (λ changes. changes.went.items ≡ not_among (findings (present self.old.progress.journal)) (found_then self.old.progress.journal since)) }
+        ensures state { self.new ≡ self.old }
+    {
+        lone_pass_issues_all();
+        edits_keep_length();
+        checker.await_workers(rt, &mut self.pass);
+        match checker.settled_changes(rt, &mut self.pass, since) {
+            Ok(changes) => Ok(changes),
+            // a spoiled shard was refused memory
+            Err(ReportFault::Spoiled(_) | ReportFault::OutOfMemory) => Err(AllocError),
+        }
+    }
+
+    /// Appends the last report, with what could have been found and what the run is short of, and answers the status.
     #[tactic(auto, unfolding(crate::specs::Outputs::report_at, crate::specs::Outputs::summary_at, crate::specs::Outputs::status_at))]
     pub fn last_report<R: Wait>(
         &mut self,
@@ -295,7 +332,7 @@ impl<N: Name> Engine<N> {
         ensures state { self.new ≡ self.old }
     {
         let end = self.settled(rt, checker)?;
-        let shortage = self.shortage(rt, checker)?;
+        let ending = self.ending(rt, checker)?;
         let (refused, explain) = (self.refused, self.explain);
         let verdict = print_last_report(
             self.alloc,
@@ -304,9 +341,43 @@ impl<N: Name> Engine<N> {
             &end.findings,
             refused,
             explain,
-            &shortage,
+            &ending,
         )?;
-        Ok(ExitStatus::of(verdict, refused, shortage.is_some()))
+        Ok(ExitStatus::of(verdict, refused, ending.is_short()))
+    }
+
+    /// What the last report tells right before its summary.
+    fn ending<R: Wait>(&mut self, rt: &R, checker: &Checker<N>) -> Result<Ending, OutOfMemory>
+        ensures lines { IfOk result (λ e. lines_asked e.asked (shortage_lines e.shortage) e.chances ≡ ending_lines self.old.terms (present self.old.progress.journal)) }
+        ensures short { IfOk result (λ e. is_short_ending e ≡ falls_short self.old.terms (present self.old.progress.journal)) }
+        ensures state { self.new ≡ self.old }
+    {
+        let shortage = self.shortage(rt, checker)?;
+        let chances = self.chances(rt, checker)?;
+        Ok(Ending {
+            shortage,
+            asked: self.asked,
+            chances,
+        })
+    }
+
+    /// What could have been found, where something is asked of it.
+    fn chances<R: Wait>(
+        &mut self,
+        rt: &R,
+        checker: &Checker<N>,
+    ) -> Result<Option<Chances>, OutOfMemory>
+        ensures some { IfOk result (λ found. found ≡ (if asks self.old.terms.asked then Some (chances (present self.old.progress.journal)) else None)) }
+        ensures state { self.new ≡ self.old }
+    {
+        if !self.asked.is_some() {
+            return Ok(None);
+        }
+        lone_pass_issues_all();
+        let present = checker.present(rt, &mut self.pass)?;
+        // (no more edits are issued than there may be, so no more transactions are present)
+        let _issued = checker.issued(&mut self.pass);
+        Ok(Some(chances_of(self.alloc, self.hash, &present)?))
     }
 
     /// What the run is short of, where a number of transactions is expected and it is short.

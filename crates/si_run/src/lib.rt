@@ -17,6 +17,7 @@ pub mod showing;
 mod sources;
 pub mod statuses;
 pub mod telling;
+mod tolds;
 pub mod writing;
 
 pub use faults::RunFault;

@@ -1,5 +1,6 @@
 //! What a caller chooses of a run.
 
+use si_text::Asked;
 use std::num::NonZeroU64;
 
 /// How many shards there are where nothing asks for another number.
@@ -18,6 +19,8 @@ pub struct Options {
     pub explain: bool,
     /// How many committed transactions are to be present at the end, and none in doubt. Nothing is asked where it isn't given.
     pub expected: Option<u64>,
+    /// What is asked of the places at which a likely fault of a database would have shown.
+    pub asked: Asked,
     /// Whether the error device shows, in one line again and again, how far the run is. It changes no text.
     pub shows_progress: bool,
     /// The most edits that are accepted, 1 to `MOST_EDITS`.

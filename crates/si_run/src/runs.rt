@@ -193,7 +193,7 @@ fn run_named<
     let Ok(session) = Session::new(alloc, hash, &checker, gate, inputs.len()) else {
         return refuse(err, options.shows_progress);
     };
-    let mut engine = Engine::new(alloc, pass, options);
+    let mut engine = Engine::new(alloc, hash, pass, options);
     let ended = read_and_accept(
         rt,
         &session,

@@ -1,7 +1,7 @@
 -- A shard may go to another thread, and be shared.
 use denote.Param.Send.{IsSend, IsSync}
-use Rattle.si_shard.specs.contracts.shards.Shard as Shard
-use Rattle.si_shard.proofs.shards.Shard.TheSendSync as shard
+use Rattle.si_shard.specs.contracts.journal_shards.JournalShard as Shard
+use Rattle.si_shard.proofs.journal_shards.JournalShard.TheSendSync as shard
 
 pub shard_send : IsSend Shard.the_row
 shard_send = shard.the_send

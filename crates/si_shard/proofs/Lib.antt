@@ -1,7 +1,8 @@
 pub mod OnKeys
+pub mod Noted
+pub mod Counting
 pub mod Beginnings
-pub mod ArrivalPlaces
-pub mod CountedArrivals
+pub mod ById
 pub mod KeyChanges
 pub mod Crossing
 pub mod EachKey
@@ -12,4 +13,4 @@ pub mod ShardsTogether
 pub mod Changing
 pub mod ByKey
 pub mod Listing
-pub mod Pieces
+pub mod Following

@@ -1,32 +1,52 @@
--- What stored edits made of the keys of one shard. All of it is this project's choice.
-use Rattle.std.specs.Prelude.{◌≡◌, ℕ, true, false, List, Some, None, Option, slice_get}
-use Rattle.std.specs.List.{Contains}
+-- What the edits of a journal made of the keys of one shard. All of it is this project's choice.
+use Rattle.std.specs.Prelude.{◌≡◌, ℕ, ◌≤◌, true, false, length, take, List, [], ◌∷◌, ◌++◌, Some, None, Option}
+use Rattle.std.specs.List.{Contains, filter}
+use Rattle.std.specs.Option.{option_map}
 use Rattle.si_model.specs.declared.operations.Op.{Op}
 use Rattle.si_model.specs.declared.parts.Part.{Part}
 use Rattle.si_model.specs.declared.parts.Placed.{Placed}
-use Rattle.si_model.specs.declared.transactions.Status.{Status}
+use Rattle.si_model.specs.declared.transactions.Txn.{Txn}
 use Rattle.si_model.specs.declared.edits.Edit.{Edit}
 use Rattle.si_model.specs.declared.edits.Edit.TheVariants as edit
+use Rattle.si_model.specs.declared.findings.Finding.{Finding}
+use Rattle.si_model.specs.Findings.{findings}
 use Rattle.si_model.specs.Parts.{accesses, on_key}
-use Rattle.si_model.specs.Journals.{present}
+use Rattle.si_model.specs.Journals.{IsAccepted, present}
+use Rattle.si_accept.specs.Notes.{txn_before}
 use Rattle.si_judge.specs.Following.{empty_key}
 use Rattle.si_shard.specs.declared.shard_ids.ShardId.{ShardId}
 use Rattle.si_shard.specs.declared.applied_edits.Applied.{Applied}
-use Rattle.si_shard.specs.declared.arrivals.Arrival.{Arrival}
 use Rattle.si_shard.specs.declared.key_changes.TxnHead.{TxnHead}
 use Rattle.si_shard.specs.declared.key_changes.KnownTxn.{KnownTxn}
 use Rattle.si_shard.specs.declared.key_changes.Change.{Change}
 use Rattle.si_shard.specs.declared.key_changes.Change.TheVariants as change
-use Rattle.si_shard.specs.Arrivals.{AreKnown}
 use Rattle.si_shard.specs.ShardIds.{is_ours}
-use Rattle.si_shard.specs.KeyStates.{IsOn}
+use Rattle.si_shard.specs.declared.key_states.KeyStates.{KeyStates}
+use Rattle.si_shard.specs.KeyStates.{IsOn, WereFoundOn}
 
--- what the edits made of the shard: on each of its keys is what is present there, and on other keys nothing; the index of arrivals is
--- that of a beginning
+-- what is found on the keys of the shard after these edits, and after the first n of them
+abbrev pub found_after : ShardId → List Edit → List Finding
+found_after id edits = filter (λ f. is_ours id f.key) (findings (present edits))
+
+abbrev pub found_first : ShardId → List Edit → ℕ → List Finding
+found_first id edits n = found_after id (take n edits)
+
+-- what comes and goes is noted since the first n of the edits were applied
+pub record AreNotedSince (id : ShardId) (edits : List Edit) (n : ℕ) (ks : KeyStates) : Type 0 where
+  pub within : n ≤ length edits
+  pub found : WereFoundOn (found_first id edits n) ks
+
+-- what the edits made of the shard: on each of its keys is what is present there, but that reads may be marked, and on other keys nothing;
+-- and what comes and goes is noted since so many of them, if it is noted
 pub record AreApplied (id : ShardId) (edits : List Edit) (a : Applied) : Type 0 where
   pub ours : (x : List ℕ) → is_ours id x ≡ true → IsOn a.keys x (on_key x (present edits))
   pub others : (x : List ℕ) → is_ours id x ≡ false → IsOn a.keys x empty_key
-  pub arrivals : AreKnown id edits a.arrivals
+  pub noted : (n : ℕ) → a.noted ≡ Some n → AreNotedSince id edits n a.keys
+
+-- so, and no reads are marked
+pub record AreSettled (id : ShardId) (edits : List Edit) (a : Applied) : Type 0 where
+  pub applied : AreApplied id edits a
+  pub settled : a.keys.marked.items ≡ []
 
 -- ---- one edit
 
@@ -39,28 +59,21 @@ abbrev pub known : Option KnownTxn → Option TxnBefore
 known None = None
 known (Some t) = Some (t.head, t.ops.now)
 
--- the transaction that arrives by the edit, with that status
-abbrev pub txn_in : Status → Edit → Option TxnBefore
-txn_in s (edit.Arrive T) = Some (record { id = T.id; start = T.start; status = s }, T.ops)
-txn_in s (edit.Resolve u o) = None
-txn_in s (edit.Withdraw u) = None
-txn_in s (edit.SetUp x v) = None
+-- all of a transaction
+abbrev pub whole_txn : Txn → TxnBefore
+whole_txn T = (record { id = T.id; start = T.start; status = T.status }, T.ops)
 
-abbrev pub txn_in_some : Status → Option Edit → Option TxnBefore
-txn_in_some s None = None
-txn_in_some s (Some e) = txn_in s e
+-- the edit's transaction, if there is one, of which this is told where the edit resolves or withdraws one
+abbrev pub txn_told : Edit → Option Txn → Option TxnBefore
+txn_told (edit.Arrive T) before = Some (whole_txn T)
+txn_told (edit.Resolve u o) before = option_map whole_txn before
+txn_told (edit.Withdraw u) before = option_map whole_txn before
+txn_told (edit.SetUp x v) before = None
 
--- the transaction of that arrival
-abbrev pub txn_at : List Edit → Option Arrival → Option TxnBefore
-txn_at edits None = None
-txn_at edits (Some a) = txn_in_some a.status (slice_get edits a.place)
-
--- the edit's transaction, if there is one, whose arrival is looked for among the stored edits
-abbrev pub txn_for : (ℕ → Option Arrival) → List Edit → Edit → Option TxnBefore
-txn_for at edits (edit.Arrive T) = Some (record { id = T.id; start = T.start; status = T.status }, T.ops)
-txn_for at edits (edit.Resolve u o) = txn_at edits (at u.0)
-txn_for at edits (edit.Withdraw u) = txn_at edits (at u.0)
-txn_for at edits (edit.SetUp x v) = None
+-- the edit may come after these, and its transaction was this one before
+pub record IsNext (edits : List Edit) (e : Edit) (before : Option Txn) : Type 0 where
+  pub accepted : IsAccepted (edits ++ e ∷ [])
+  pub before_is : before ≡ txn_before (present edits) e
 
 -- what the transaction does on a key that it accesses so
 abbrev pub part_by : TxnHead → List Placed → Part

@@ -5,7 +5,7 @@ use Rattle.si_model.specs.declared.parts.OnKey.{OnKey}
 use Rattle.si_model.specs.Findings.{cases}
 use Rattle.si_model.specs.KeyEdits.{arrived_on, resolved_on, set_up_on, withdrawn_on}
 use Rattle.si_model.specs.History.{IsOfHistory}
-use Rattle.si_judge.specs.Kept.{IsInDoubt, Kept, Shows}
+use Rattle.si_judge.specs.Kept.{IsInDoubt, Kept, WouldShow}
 use Rattle.si_shard.specs.declared.key_changes.Change.{Change}
 use Rattle.si_shard.specs.declared.key_changes.Change.TheVariants as change
 
@@ -28,7 +28,8 @@ pub record CanChange (c : Change) (Q : OnKey) : Type 0 where
   pub asks : AsksRightly c Q
   pub history : IsOfHistory (changed_on c Q)
 
--- what is kept of a key after its change: whatever it showed, it shows what the change makes of that
+-- what is kept of a key after its change: whatever it would show once its marked reads are judged, it would show what the change makes of
+-- that
 pub record IsChanged (c : Change) (old new : Kept) : Type 0 where
   pub key : new.key ≡ old.key
-  pub shows : (Q : OnKey) → Shows cases Q old → CanChange c Q → Shows cases (changed_on c Q) new
+  pub shows : (Q : OnKey) → WouldShow cases Q old → CanChange c Q → WouldShow cases (changed_on c Q) new

@@ -4,6 +4,7 @@
 ghost use Rattle.std.specs.Prelude.{◌≡◌, []};
 
 use crate::key_states::KeyStates;
+use si_hashing::Hints;
 use si_model::Key;
 use std::alloc::Global;
 
@@ -11,23 +12,13 @@ use std::alloc::Global;
 /// looks at its own keys, so many at a time.
 pub const MOST_AHEAD: usize = 128;
 
-/// So many slots remember where a key's state stands.
-const SLOTS: usize = 2048;
-
-/// Where the state of a key may stand whose hash is this one.
-#[derive(Clone, Copy, Default)]
-struct Near {
-    hash: u32,
-    place: u32,
-}
-
 /// Keys to be looked at, and what was seen so far.
 #[derive(Drop)]
 pub struct Ahead {
     // Where the keys' states stand.
     places: Vec<usize>,
-    // Where the state of the last key stood that was looked for and has its slot here.
-    near: Vec<Near>,
+    // Where the states of keys stood that were looked for.
+    near: Hints,
     // It means nothing, but is kept, so that no compiler leaves the looks out.
     seen: u64,
 }
@@ -39,32 +30,25 @@ impl Ahead {
     {
         Ahead {
             places: Vec::new(alloc),
-            near: Vec::new(alloc),
+            near: Hints::new(alloc),
             seen: 0,
         }
     }
 
     /// The key will be looked at, if anything is kept of it and memory is there.
     pub fn add(&mut self, keys: &KeyStates, key: &Key) {
-        if let Some(place) = keys.place_of(key, self.near(key)) {
+        let near = self.near(key);
+        if let Some(place) = keys.place_of(key, near) {
             let _added = self.places.push(place).is_ok();
-            self.keep(key.shard_hash(), place);
-        }
-    }
-
-    fn keep(&mut self, hash: u32, place: usize) {
-        if let (Some(near), Ok(place)) = (self.near.get_mut(slot_of(hash)), u32::try_from(place)) {
-            *near = Near { hash, place };
+            if place != near {
+                self.near.note(key.shard_hash(), place, keys.len());
+            }
         }
     }
 
     /// Where the state of the key may stand.
     pub fn near(&self, key: &Key) -> usize {
-        let hash = key.shard_hash();
-        match self.near.get(slot_of(hash)) {
-            Some(near) if near.hash == hash => near.place as usize,
-            _ => usize::MAX,
-        }
+        self.near.place(key.shard_hash())
     }
 
     /// Reads the states of the keys, first the heads of all and then the ends of what they hold, so that each is fetched while the
@@ -74,12 +58,5 @@ impl Ahead {
     {
         self.seen = self.seen ^ keys.look_at(&self.places);
         self.places.clear();
-        if self.near.is_empty() {
-            let _grown = self.near.resize(SLOTS, Near::default()).is_ok();
-        }
     }
-}
-
-fn slot_of(hash: u32) -> usize {
-    hash as usize % SLOTS
 }

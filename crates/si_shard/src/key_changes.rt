@@ -3,7 +3,8 @@
 ghost use Rattle.std.specs.Prelude.{◌≡◌, OnOk};
 ghost use Rattle.si_model.specs.declared.parts.OnKey.{OnKey};
 ghost use Rattle.si_model.specs.Findings.{cases};
-ghost use Rattle.si_judge.specs.Kept.{Shows};
+ghost use Rattle.si_judge.specs.Kept.{WouldShow};
+ghost use Rattle.si_judge.specs.Notes.{KeepsNotesOf};
 ghost use Rattle.si_shard.specs.AppliedEdits.{change_by};
 ghost use Rattle.si_shard.specs.KeyChanges.{CanChange, IsChanged};
 
@@ -57,15 +58,16 @@ pub fn change_by(head: TxnHead, edit: &Edit, accesses: Accesses) -> Change
     }
 }
 
-/// Makes the change of one key.
+/// Makes the change of one key. Where it touches many reads of a value these are marked, and judged once the key is settled.
 pub fn make_change(kept: &mut KeyFindings<Cases>, change: &mut Change) -> Result<(), OutOfMemory>
-    requires { (Q : OnKey) × Shows cases Q kept.old × CanChange change.old Q }
-    ensures { OnOk result (IsChanged change.old kept.old kept.new) }
+    requires { (Q : OnKey) × WouldShow cases Q kept.old × CanChange change.old Q }
+    ensures changed { OnOk result (IsChanged change.old kept.old kept.new) }
+    ensures noted { OnOk result (KeepsNotesOf kept.old kept.new) }
 {
     match change {
-        Change::Arrive(part) => kept.arrive(part),
-        Change::Resolve(part, outcome) => kept.resolve(part, *outcome),
-        Change::Withdraw(part) => kept.withdraw(part),
-        Change::SetUp(value) => kept.set_up(*value),
+        Change::Arrive(part) => kept.arrive_later(part),
+        Change::Resolve(part, outcome) => kept.resolve_later(part, *outcome),
+        Change::Withdraw(part) => kept.withdraw_later(part),
+        Change::SetUp(value) => kept.set_up_later(*value),
     }
 }

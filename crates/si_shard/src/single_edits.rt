@@ -10,7 +10,7 @@ ghost use Rattle.si_model.specs.Operations.{access_of, key_of, same_key};
 ghost use Rattle.si_model.specs.Parts.{accesses};
 ghost use Rattle.si_shard.specs.AppliedEdits.{TxnBefore, change_by, known};
 ghost use Rattle.si_shard.specs.KeyChanges.{CanChange};
-ghost use Rattle.si_shard.specs.KeyStates.{IsChangedAt, IsOn};
+ghost use Rattle.si_shard.specs.KeyStates.{IsChangedAt, IsOn, KeepsNotesOf};
 ghost use Rattle.si_shard.specs.SingleEdits.{AreByKey, AreHashed, CanBeMadeBy, IsKeyAt, IsMadeBy, is_accessed, is_first};
 
 use crate::aheads::{Ahead, MOST_AHEAD};
@@ -39,7 +39,8 @@ pub fn make_each(
 ) -> Result<(), OutOfMemory>
     requires shards { 0 < id.shards }
     requires can { CanBeMadeBy id (known txn) edit.now keys.old }
-    ensures { OnOk result (IsMadeBy id (known txn.entry) edit.now keys.old keys.new) }
+    ensures made { OnOk result (IsMadeBy id (known txn.entry) edit.now keys.old keys.new) }
+    ensures noted { OnOk result (KeepsNotesOf keys.old keys.new) }
 {
     if let Edit::SetUp(key, value) = edit {
         return make_set_up(keys, key, *value, id);
@@ -59,7 +60,8 @@ fn make_set_up(
 ) -> Result<(), OutOfMemory>
     requires shards { 0 < id.shards }
     requires can { (t : Option TxnBefore) → CanBeMadeBy id t (variant.SetUp key.now value) keys.old }
-    ensures { OnOk result ((t : Option TxnBefore) → IsMadeBy id t (variant.SetUp key.now value) keys.old keys.new) }
+    ensures made { OnOk result ((t : Option TxnBefore) → IsMadeBy id t (variant.SetUp key.now value) keys.old keys.new) }
+    ensures noted { OnOk result (KeepsNotesOf keys.old keys.new) }
 {
     if id.has(key) {
         keys.change(key, usize::MAX, &mut Change::SetUp(value))?;
@@ -80,7 +82,8 @@ fn make_accessed(
     requires shards { 0 < id.shards }
     requires other { (x : List ℕ) (v : Written) → edit.now ≡ variant.SetUp x v → ⊥ }
     requires can { CanBeMadeBy id (Some (head, ops.now)) edit.now keys.old }
-    ensures { OnOk result (IsMadeBy id (Some (head, ops.now)) edit.now keys.old keys.new) }
+    ensures made { OnOk result (IsMadeBy id (Some (head, ops.now)) edit.now keys.old keys.new) }
+    ensures noted { OnOk result (KeepsNotesOf keys.old keys.new) }
 {
     if ops.len() <= MOST_LOOKED_THROUGH {
         return make_few(alloc, keys, ahead, ops, head, edit, id);
@@ -101,7 +104,8 @@ fn make_few(
     requires shards { 0 < id.shards }
     requires other { (x : List ℕ) (v : Written) → edit.now ≡ variant.SetUp x v → ⊥ }
     requires can { CanBeMadeBy id (Some (head, ops.now)) edit.now keys.old }
-    ensures { OnOk result (IsMadeBy id (Some (head, ops.now)) edit.now keys.old keys.new) }
+    ensures made { OnOk result (IsMadeBy id (Some (head, ops.now)) edit.now keys.old keys.new) }
+    ensures noted { OnOk result (KeepsNotesOf keys.old keys.new) }
 {
     for place in 0..ops.len() {
         let key = ops[place].key();
@@ -123,7 +127,8 @@ fn make_here(
     edit: &Edit,
 ) -> Result<(), OutOfMemory>
     requires { (Q : OnKey) × IsOn keys.old key.now Q × CanChange (change_by head edit.now accesses) Q }
-    ensures { OnOk result (IsChangedAt key.now (change_by head edit.now accesses) keys.old keys.new) }
+    ensures made { OnOk result (IsChangedAt key.now (change_by head edit.now accesses) keys.old keys.new) }
+    ensures noted { OnOk result (KeepsNotesOf keys.old keys.new) }
 {
     let mut change = change_by(head, edit, accesses);
     keys.change(key, ahead.near(key), &mut change)
@@ -196,7 +201,8 @@ fn make_many(
     requires shards { 0 < id.shards }
     requires other { (x : List ℕ) (v : Written) → edit.now ≡ variant.SetUp x v → ⊥ }
     requires can { CanBeMadeBy id (Some (head, ops.now)) edit.now keys.old }
-    ensures { OnOk result (IsMadeBy id (Some (head, ops.now)) edit.now keys.old keys.new) }
+    ensures made { OnOk result (IsMadeBy id (Some (head, ops.now)) edit.now keys.old keys.new) }
+    ensures noted { OnOk result (KeepsNotesOf keys.old keys.new) }
 {
     let list = by_key(alloc, ops, id)?;
     let mut accesses = Accesses::new(alloc);

@@ -1,8 +1,16 @@
 -- The entries between two bounds stand side by side.
-use Rattle.std.proofs.Common.{◌≡◌, ◌∙◌, ℕ, zero, suc, ◌<◌, ◌≤◌, Bool, true, false, cond, ◌&&◌, not, List, [], ◌∷◌, length, get_or, take, drop, sym, ap, ap₂, refl, arith, inl, inr}
+use Rattle.std.proofs.Common.{◌≡◌, ◌∙◌, ℕ, zero, suc, ◌<◌, ◌≤◌, Bool, true, false, true≢false, cond, ◌&&◌, not, List, [], ◌∷◌, length, get_or, take, drop, sym, ap, ap₂, refl, subst, arith, inl, inr, Ordering, is_le, is_lt}
+use Rattle.std.specs.BTreeMap.Range.{is_past_end}
+use Rattle.std.specs.Cmp.{IsTotalOrder}
 use Rattle.std.specs.List.{filter}
+use Rattle.std.specs.List.Sorted.{IsStrictlySortedBy}
+use Rattle.std.specs.Map.{keys_of}
+use Rattle.std.specs.declared.cmp.Ordering.TheVariants.{Less, Equal, Greater}
+use Rattle.std.specs.declared.ops.Bound.{Bound}
+use Rattle.std.specs.declared.ops.Bound.TheVariants.{Included, Excluded, Unbounded}
 use Rattle.std.proofs.lemmas.Bool.{cases_lt}
-use Rattle.si_sorted.specs.Places.{IsCutAt}
+use Rattle.si_sorted.specs.Places.{IsCutAt, IsEndFrom}
+use Rattle.si_sorted.proofs.Search.{less_at}
 
 module _ {A : Type 0} (p : A → Bool) where
   skipped : (a : A) (xs : List A) → p a ≡ false → filter p (a ∷ xs) ≡ filter p xs
@@ -59,3 +67,37 @@ module _ {K X : Type 0} (start past : K → Bool) (es : List (K × X)) (from to 
     | inl before ↦ both_fail _ _ (starts.fails j d before hi)
     | inr at_least ↦ past_fails _ _ (ends.holds j d (omega (arith, ge, at_least)) hi)
   ])
+
+-- ---- where a walk ends
+
+module _ {K : Type 0} {R : K → K → Ordering} (o : IsTotalOrder R) where
+  -- what is greater than a key past the bound is past it too
+  past_above : (high : Bound K) (p q : K) → R p q ≡ Less → is_past_end R high p ≡ true → is_past_end R high q ≡ true
+  past_above (Included b) p q less past = go (R b p) refl past
+    where
+      go : (r : Ordering) → R b p ≡ r → is_lt r ≡ true → is_lt (R b q) ≡ true
+      go Less order told = ap is_lt (o.trans b p q order less)
+      go Equal order told = absurd (true≢false (sym told))
+      go Greater order told = absurd (true≢false (sym told))
+  past_above (Excluded b) p q less past = go (R b p) refl past
+    where
+      go : (r : Ordering) → R b p ≡ r → is_le r ≡ true → is_le (R b q) ≡ true
+      go Less order told = ap is_le (o.trans b p q order less)
+      go Equal order told = ap is_le (o.congr b p q order ∙ less)
+      go Greater order told = absurd (true≢false (sym told))
+  past_above Unbounded p q less past = absurd (true≢false (sym past))
+
+  module _ {X : Type 0} (es : List (K × X)) (rising : IsStrictlySortedBy R (keys_of es)) where
+    past_later : (high : Bound K) (i j : ℕ) (d : K × X) → i ≤ j → j < length es → is_past_end R high (get_or es i d).0 ≡ true → is_past_end R high (get_or es j d).0 ≡ true
+    past_later high i j d le hi past = elim (cases_lt i j) [
+      | inl before ↦ past_above high _ _ (less_at o es rising i j d before hi) past
+      | inr at_least ↦ let same : i ≡ j = omega (arith, le, at_least) in subst (λ n. is_past_end R high (get_or es n d).0 ≡ true) same past
+    ]
+
+    -- what a walk from the first place within the lower bound passes is what stands between the bounds
+    pub between_few : (start : K → Bool) (high : Bound K) (from to : ℕ) → IsCutAt start es from → IsEndFrom (is_past_end R high) es from to
+        → drop from (take to es) ≡ filter (λ (e : K × X). start e.0 && not (is_past_end R high e.0)) es
+    between_few start high from to starts ends = part_passes (λ (e : K × X). start e.0 && not (is_past_end R high e.0)) es from to ends.onward ends.in_range
+        (λ j d lt hi. both_fail _ _ (starts.fails j d lt hi))
+        (λ j d ge lt. let hi : j < length es = omega (arith, lt, ends.in_range) in inside_holds _ _ (starts.holds j d ge hi) (ends.fails j d ge lt))
+        (λ j d ge hi. past_fails _ _ (past_later high to j d ge hi (ends.holds d (omega (arith, ge, hi)))))

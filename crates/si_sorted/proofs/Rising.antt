@@ -2,7 +2,7 @@
 use Rattle.std.proofs.Common.{◌≡◌, ◌∙◌, ℕ, zero, suc, ◌+◌, ◌<◌, List, [], ◌∷◌, ◌++◌, length, get_or, take, drop, Bool, true, false, cond, Some, None, is_eq, sym, ap, subst, refl, arith, Ordering}
 use Rattle.std.specs.BTreeMap.{insert_entry, is_at}
 use Rattle.std.specs.Cmp.{IsTotalOrder, eq_by_cmp_equiv}
-use Rattle.std.specs.List.{AllByRecursion}
+use Rattle.std.specs.List.{AllByRecursion, filter}
 use Rattle.std.specs.List.Sorted.{IsStrictlySortedBy}
 use Rattle.std.specs.Map.{keys_of, lookup, remove_entry}
 use Rattle.std.specs.Ordering.{match_ordering}
@@ -18,7 +18,7 @@ module _ {K : Type 0} (R : K → K → Ordering) where
   unfolding IsStrictlySortedBy
   none_rises = tt
 
-  rising_more : (k : K) (ks : List K) → AllByRecursion (λ q. R k q ≡ Less) ks → IsStrictlySortedBy R ks → IsStrictlySortedBy R (k ∷ ks)
+  pub rising_more : (k : K) (ks : List K) → AllByRecursion (λ q. R k q ≡ Less) ks → IsStrictlySortedBy R ks → IsStrictlySortedBy R (k ∷ ks)
   unfolding IsStrictlySortedBy
   rising_more k ks head tail = (head, tail)
 
@@ -67,6 +67,23 @@ module _ {K X : Type 0} {R : K → K → Ordering} (o : IsTotalOrder R) where
         go : (b : Bool) → IsStrictlySortedBy R (keys_of (remove_entry test es)) → IsStrictlySortedBy R (keys_of (cond b es (e ∷ remove_entry test es)))
         go true rest = sorted_tail R e.0 (keys_of es) rising
         go false rest = rising_more R e.0 (keys_of (remove_entry test es)) (all_left (λ q. R e.0 q ≡ Less) es (sorted_head R e.0 (keys_of es) rising)) rest
+
+  module _ (test : K × X → Bool) where
+    all_kept : (P : K → Type 0) (es : List (K × X)) → AllByRecursion P (keys_of es) → AllByRecursion P (keys_of (filter test es))
+    all_kept P [] all = tt
+    all_kept P (e ∷ es) all = go (test e) (all_kept P es all.1)
+      where
+        go : (b : Bool) → AllByRecursion P (keys_of (filter test es)) → AllByRecursion P (keys_of (cond b (e ∷ filter test es) (filter test es)))
+        go true rest = (all.0, rest)
+        go false rest = rest
+
+    pub rising_kept : (es : List (K × X)) → IsStrictlySortedBy R (keys_of es) → IsStrictlySortedBy R (keys_of (filter test es))
+    rising_kept [] rising = rising
+    rising_kept (e ∷ es) rising = go (test e) (rising_kept es (sorted_tail R e.0 (keys_of es) rising))
+      where
+        go : (b : Bool) → IsStrictlySortedBy R (keys_of (filter test es)) → IsStrictlySortedBy R (keys_of (cond b (e ∷ filter test es) (filter test es)))
+        go true rest = rising_more R e.0 (keys_of (filter test es)) (all_kept (λ q. R e.0 q ≡ Less) es (sorted_head R e.0 (keys_of es) rising)) rest
+        go false rest = rest
 
   -- an entry above all goes to the end
   pushed : (es : List (K × X)) (e : K × X) (rest : List (K × X)) → IsStrictlySortedBy R (keys_of (es ++ e ∷ rest)) → insert_entry R es e.0 e.1 ≡ es ++ e ∷ []

@@ -39,3 +39,10 @@ pub record IsCutAt {K X : Type 0} (test : K → Bool) (es : List (K × X)) (i : 
   pub in_range : i ≤ length es
   pub fails : (j : ℕ) (d : K × X) → j < i → j < length es → test (slice_index_or es j d).0 ≡ false
   pub holds : (j : ℕ) (d : K × X) → i ≤ j → j < length es → test (slice_index_or es j d).0 ≡ true
+
+-- the test fails at each key from the first place up to the second, and holds at the one that stands there, if one does
+pub record IsEndFrom {K X : Type 0} (test : K → Bool) (es : List (K × X)) (from to : ℕ) : Type 0 where
+  pub onward : from ≤ to
+  pub in_range : to ≤ length es
+  pub fails : (j : ℕ) (d : K × X) → from ≤ j → j < to → test (slice_index_or es j d).0 ≡ false
+  pub holds : (d : K × X) → to < length es → test (slice_index_or es to d).0 ≡ true

@@ -1,8 +1,8 @@
-//! The first entry whose value passes a test, looked for by a walk over all.
+//! The entries whose values pass a test, looked for by a walk over all.
 
 ghost use Rattle.std.specs.Prelude.{◌≡◌, None, Some, cond};
 ghost use Rattle.std.specs.BTreeMap.Range.{IsLeBy, IsLtBy, entries_between};
-ghost use Rattle.std.specs.List.{find};
+ghost use Rattle.std.specs.List.{filter, find};
 ghost use Rattle.std.specs.Option.{option_or};
 ghost use Rattle.std.specs.Range.Bound.{IsForward};
 
@@ -75,4 +75,24 @@ fn first_of<K: Copy + Drop, V: Copy + Drop, T: ValueTest<V>>(
         return Some(next);
     }
     found
+}
+
+/// Keeps those of the entries alone whose values pass.
+pub fn retain_in<K: Copy + Drop, V: Copy + Drop, T: ValueTest<V>>(
+    entries: &mut Vec<(K, V)>,
+    test: &T,
+)
+    ensures { entries.new.items ≡ filter (λ e. T.passes test.now e.1) entries.old.items }
+{
+    entries.retain(|entry| test.wants(entry.1));
+}
+
+/// The same of a tree.
+pub fn retain_in_tree<K: Ord + Copy + Drop, V: Copy + Drop, T: ValueTest<V>>(
+    tree: &mut BTreeMap<K, V>,
+    test: &T,
+)
+    ensures { tree.new.entries ≡ filter (λ e. T.passes test.now e.1) tree.old.entries }
+{
+    tree.retain(|_key, value| test.wants(*value));
 }

@@ -1,6 +1,6 @@
 //! Entries in a vector, in rising order of their keys.
 
-ghost use Rattle.std.specs.Prelude.{◌≡◌, ◌≤◌, None, IsTrue, MatchResult, OnErr, OnOk, length};
+ghost use Rattle.std.specs.Prelude.{◌≡◌, ◌≤◌, None, IsTrue, MatchResult, OnErr, OnOk, if◌then◌else◌, is_some, length};
 ghost use Rattle.std.specs.BTreeMap.{insert_entry, is_at};
 ghost use Rattle.std.specs.List.Sorted.{IsStrictlySortedBy};
 ghost use Rattle.std.specs.Map.{keys_of, lookup, remove_entry};
@@ -199,6 +199,26 @@ pub fn remove_from<K: Ord + Copy + Drop, V: Copy + Drop>(
 {
     match place_of(entries.as_slice(), key) {
         Ok(place) => Some(entries.remove(place).1),
+        Err(_) => None,
+    }
+}
+
+/// Puts the value in the place of the one that stands under the key, if one does, and answers that one.
+pub fn replace_in<K: Ord + Copy + Drop, V: Copy + Drop>(
+    entries: &mut Vec<(K, V)>,
+    key: K,
+    value: V,
+) -> Option<V>
+    requires { IsStrictlySortedBy K.cmp (keys_of entries.old.items) }
+    ensures value { result ≡ lookup (is_at (K.cmp key)) entries.old.items }
+    ensures entries { entries.new.items ≡ (if is_some result then insert_entry K.cmp entries.old.items key value else entries.old.items) }
+{
+    match place_of(entries.as_slice(), key) {
+        Ok(place) => {
+            let (there, was) = entries[place];
+            entries[place] = (there, value);
+            Some(was)
+        }
         Err(_) => None,
     }
 }

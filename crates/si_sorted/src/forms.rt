@@ -1,22 +1,22 @@
 //! The two forms that a map has.
 
-ghost use Rattle.std.specs.Prelude.{◌≡◌, ◌<◌, ◌≤◌, ◌++◌, ◌-◌, None, IfNone, IfOk, IfSome, OnErr, OnOk, length, slice_get};
+ghost use Rattle.std.specs.Prelude.{◌≡◌, ◌<◌, ◌≤◌, ◌++◌, ◌-◌, None, IfNone, IfOk, IfSome, OnErr, OnOk, if◌then◌else◌, is_some, length, slice_get};
 ghost use Rattle.std.specs.BTreeMap.{insert_entry, is_at};
 ghost use Rattle.std.specs.BTreeMap.Range.{IsLeBy, IsLtBy, entries_between};
-ghost use Rattle.std.specs.List.{filter_map, find};
+ghost use Rattle.std.specs.List.{filter, filter_map, find};
 ghost use Rattle.std.specs.Range.Bound.{IsForward};
 ghost use Rattle.std.specs.List.Sorted.{IsStrictlySortedBy};
 ghost use Rattle.std.specs.Map.{keys_of, lookup, remove_entry};
 ghost use Rattle.si_sorted.specs.Entries.{IsFirstAbove, IsFirstFrom, IsLastBelow};
 ghost use Rattle.si_sorted.specs.Forms.{MovesAtMost, StaysTree, entries_in, moved_by_one, moved_without_one};
 
-use crate::finds::{ValueTest, find_in, find_in_tree};
+use crate::finds::{ValueTest, find_in, find_in_tree, retain_in, retain_in_tree};
 use crate::flat::{
     entry_after, entry_before, entry_from, insert_in, is_past, moved_by, moved_without, push_in,
-    remove_from, value_in,
+    remove_from, replace_in, value_in,
 };
-use crate::runs::{Choice, add_from, add_from_tree};
-use crate::trees::{after_in, before_in, from_in, tree_of, tree_with};
+use crate::runs::{Choice, add_few_from, add_few_from_tree, add_from, add_from_tree};
+use crate::trees::{after_in, before_in, from_in, replace_in_tree, tree_of, tree_with};
 use std::alloc::{AllocError, Global};
 use std::collections::BTreeMap;
 use std::ops::Bound;
@@ -119,6 +119,32 @@ impl<K: Ord + Copy + Drop, V: Copy + Drop> Form<K, V> {
         }
     }
 
+    /// Puts the value in the place of the one at the key, if one stands there, and answers that one.
+    pub fn replace(&mut self, key: K, value: V) -> Option<V>
+        requires { IsStrictlySortedBy K.cmp (keys_of (entries_in self.old)) }
+        ensures value { result ≡ lookup (is_at (K.cmp key)) (entries_in self.old) }
+        ensures entries { entries_in self.new ≡ (if is_some result then insert_entry K.cmp (entries_in self.old) key value else entries_in self.old) }
+        ensures tree { StaysTree self.old self.new }
+    {
+        match self {
+            Form::Flat(entries) => replace_in(entries, key, value),
+            Form::Tree(tree) => replace_in_tree(tree, key, value),
+        }
+    }
+
+    /// Keeps the entries alone whose values pass.
+    pub fn retain<T: ValueTest<V>>(&mut self, test: &T)
+        requires { IsStrictlySortedBy K.cmp (keys_of (entries_in self.old)) }
+        ensures entries { entries_in self.new ≡ filter (λ e. T.passes test.now e.1) (entries_in self.old) }
+        ensures tree { StaysTree self.old self.new }
+        ensures rising { IsStrictlySortedBy K.cmp (keys_of (entries_in self.new)) }
+    {
+        match self {
+            Form::Flat(entries) => retain_in(entries, test),
+            Form::Tree(tree) => retain_in_tree(tree, test),
+        }
+    }
+
     /// What stands at the key.
     pub fn get(&self, key: K) -> Option<V>
         requires { IsStrictlySortedBy K.cmp (keys_of (entries_in self.now)) }
@@ -181,6 +207,25 @@ impl<K: Ord + Copy + Drop, V: Copy + Drop> Form<K, V> {
         match self {
             Form::Flat(entries) => add_from(entries.as_slice(), low, high, choice, out),
             Form::Tree(tree) => add_from_tree(tree, low, high, choice, out),
+        }
+    }
+
+    /// The same where no more than so many entries stand between the bounds. Answers whether it is so.
+    pub fn add_few_between<E: Drop, C: Choice<K, V, E>>(
+        &self,
+        low: Bound<K>,
+        high: Bound<K>,
+        choice: &C,
+        most: usize,
+        out: &mut Vec<E>,
+    ) -> Result<bool, AllocError>
+        requires rising { IsStrictlySortedBy K.cmp (keys_of (entries_in self.now)) }
+        requires forward { IsForward (IsLeBy K.cmp) (IsLtBy K.cmp) low high }
+        ensures { IfOk result (λ few. out.new.items ≡ (if few then out.old.items ++ filter_map (λ e. C.tells choice.now e.0 e.1) (entries_between K.cmp low high (entries_in self.now)) else out.old.items)) }
+    {
+        match self {
+            Form::Flat(entries) => add_few_from(entries.as_slice(), low, high, choice, most, out),
+            Form::Tree(tree) => add_few_from_tree(tree, low, high, choice, most, out),
         }
     }
 

@@ -1,9 +1,9 @@
 //! A map in the order of its keys.
 
-ghost use Rattle.std.specs.Prelude.{◌≡◌, ◌++◌, ◌-◌, [], None, Some, IfSome, IsTrue, OnErr, OnOk, ◌↔◌, length, slice_get};
+ghost use Rattle.std.specs.Prelude.{◌≡◌, ◌++◌, ◌-◌, [], None, Some, IfOk, IfSome, IsTrue, OnErr, OnOk, ◌↔◌, if◌then◌else◌, is_some, length, slice_get};
 ghost use Rattle.std.specs.BTreeMap.{insert_entry, is_at};
 ghost use Rattle.std.specs.BTreeMap.Range.{IsLeBy, IsLtBy, entries_between};
-ghost use Rattle.std.specs.List.{filter_map, find};
+ghost use Rattle.std.specs.List.{filter, filter_map, find};
 ghost use Rattle.std.specs.Range.Bound.{IsForward};
 ghost use Rattle.std.specs.List.Sorted.{IsStrictlySortedBy};
 ghost use Rattle.std.specs.Map.{keys_of, remove_entry};
@@ -74,6 +74,24 @@ impl<K: Ord + Copy + Drop, V: Copy + Drop> SortedMap<K, V> {
         self.form.remove(self.alloc, key)
     }
 
+    /// Puts the value in the place of the one that stands under the key, if one does, and answers that one. It takes no memory.
+    pub fn replace(&mut self, key: K, value: V) -> Option<V>
+        ensures value { result ≡ value_at K.cmp self.old key }
+        ensures entries { self.new ≡ (if is_some result then insert_entry K.cmp self.old key value else self.old) }
+        ensures rising { IsStrictlySortedBy K.cmp (keys_of self.new) }
+        ensures was_rising { IsStrictlySortedBy K.cmp (keys_of self.old) }
+    {
+        self.form.replace(key, value)
+    }
+
+    /// Keeps the entries alone whose values pass the test. They keep their memory.
+    pub fn retain<T: ValueTest<V>>(&mut self, test: &T)
+        ensures entries { self.new ≡ filter (λ e. T.passes test.now e.1) self.old }
+        ensures rising { IsStrictlySortedBy K.cmp (keys_of self.new) }
+    {
+        self.form.retain(test);
+    }
+
     /// The value under the key, if one stands there.
     pub fn get(&self, key: K) -> Option<V>
         ensures value { result ≡ value_at K.cmp self.now key }
@@ -121,6 +139,22 @@ impl<K: Ord + Copy + Drop, V: Copy + Drop> SortedMap<K, V> {
     {
         self.form.add_between(low, high, choice, out)?;
         Ok(())
+    }
+
+    /// The same where no more than so many entries stand between the bounds, else nothing. Answers whether it is so.
+    pub fn add_few_between<E: Drop, C: Choice<K, V, E>>(
+        &self,
+        low: Bound<K>,
+        high: Bound<K>,
+        choice: &C,
+        most: usize,
+        out: &mut Vec<E>,
+    ) -> Result<bool, AllocError>
+        requires { IsForward (IsLeBy K.cmp) (IsLtBy K.cmp) low high }
+        ensures { IfOk result (λ few. out.new.items ≡ (if few then out.old.items ++ filter_map (λ e. C.tells choice.now e.0 e.1) (entries_between K.cmp low high self.now) else out.old.items)) }
+    {
+        let few = self.form.add_few_between(low, high, choice, most, out)?;
+        Ok(few)
     }
 
     /// The entries in rising order of their keys, where they stand side by side.

@@ -1,9 +1,9 @@
 //! Entries in a tree.
 
-ghost use Rattle.std.specs.Prelude.{◌≡◌, IfOk};
-ghost use Rattle.std.specs.BTreeMap.{insert_entry};
+ghost use Rattle.std.specs.Prelude.{◌≡◌, IfOk, if◌then◌else◌, is_some};
+ghost use Rattle.std.specs.BTreeMap.{insert_entry, is_at};
 ghost use Rattle.std.specs.List.Sorted.{IsStrictlySortedBy};
-ghost use Rattle.std.specs.Map.{keys_of};
+ghost use Rattle.std.specs.Map.{keys_of, lookup};
 ghost use Rattle.si_sorted.specs.Entries.{IsFirstAbove, IsFirstFrom, IsLastBelow};
 
 use std::alloc::{AllocError, Global};
@@ -38,6 +38,22 @@ pub fn tree_of<K: Ord + Copy + Drop, V: Copy + Drop>(
         tree.insert(entry.0, entry.1)?;
     }
     Ok(tree)
+}
+
+/// Puts the value in the place of the one that stands under the key, if one does, and answers that one.
+pub fn replace_in_tree<K: Ord + Copy + Drop, V: Copy + Drop>(
+    tree: &mut BTreeMap<K, V>,
+    key: K,
+    value: V,
+) -> Option<V>
+    ensures value { result ≡ lookup (is_at (K.cmp key)) tree.old.entries }
+    ensures entries { tree.new.entries ≡ (if is_some result then insert_entry K.cmp tree.old.entries key value else tree.old.entries) }
+{
+    let was = *tree.get(&key)?;
+    match tree.insert(key, value) {
+        Ok(_) => Some(was),
+        Err(_) => unreachable!(),
+    }
 }
 
 /// The last entry below the key.

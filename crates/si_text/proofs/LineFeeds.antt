@@ -1,12 +1,14 @@
 -- Lemmas on the first line feed of a list of bytes, and on lists without one.
-use Rattle.std.proofs.Common.{◌≡◌, ℕ, zero, suc, ◌+◌, ◌<◌, List, [], ◌∷◌, ◌++◌, length, take, drop, Bool, true, false, not, ◌||◌, cond, Option, Some, None, unwrap_or, ltb, refl, sym, ap, ◌∙◌, arith}
+use Rattle.std.proofs.Common.{◌≡◌, ℕ, zero, suc, ◌+◌, ◌-◌, ◌<◌, ◌≤◌, List, [], ◌∷◌, ◌++◌, length, take, drop, Bool, true, false, not, ◌||◌, cond, Option, Some, None, unwrap_or, ltb, refl, sym, ap, subst, ◌∙◌, arith, ◌⊎◌, inl, inr, append-nil}
 use Rattle.std.specs.List.{prefix_len}
 use Rattle.std.proofs.lemmas.Bool.{eqb-true, ltb-true, ltb-false}
 use Rattle.std.proofs.lemmas.List.{drop_all}
 use Rattle.std.specs.Bool.{MatchBool}
 use Rattle.std.proofs.lemmas.List.Sums.{prefix_len_is}
 use Rattle.memchr.specs.Find.{IsFirstByte, is_byte}
-use Rattle.si_text.specs.Inputs.{is_line_feed, has_line_feed}
+use Rattle.std.proofs.lemmas.Bool.{cases_lt}
+use Rattle.std.proofs.lemmas.List.{take_all, take-append-drop}
+use Rattle.si_text.specs.Inputs.{is_line_feed, has_line_feed, with_first, lines_of}
 
 abbrev pub is_other : ℕ → Bool
 is_other byte = not (is_line_feed byte)
@@ -83,3 +85,60 @@ behind_at false bytes e = drop_all (before_feed bytes) bytes (ltb-false (before_
 pub behind : (piece one two rest : List ℕ) (count : ℕ) → one ≡ piece → count ≡ before_feed one → two ≡ piece → rest ≡ drop count piece
     → MatchBool (ltb count (length two)) (BeginsWithFeed rest) (rest ≡ [])
 behind piece one two rest count one_is count_is two_is rest_is = rw (rest_is, two_is, count_is, one_is) (behind_at (ltb (before_feed piece) (length piece)) piece refl)
+
+-- ---- the first line
+
+whole_line : (line rest : List ℕ) → has_line_feed line ≡ false → lines_of (line ++ 10 ∷ rest) ≡ line ∷ lines_of rest
+whole_line [] rest none = refl
+whole_line (byte ∷ line) rest none =
+    let parts = or_false (is_line_feed byte) (has_line_feed line) none in
+    ap (λ b. cond b ([] ∷ lines_of (line ++ 10 ∷ rest)) (with_first byte (lines_of (line ++ 10 ∷ rest)))) parts.0 ∙ ap (with_first byte) (whole_line line rest parts.1)
+
+last_line : (byte : ℕ) (line : List ℕ) → has_line_feed (byte ∷ line) ≡ false → lines_of (byte ∷ line) ≡ (byte ∷ line) ∷ []
+last_line byte [] none = (let parts = or_false (is_line_feed byte) false none in ap (λ b. cond b ([] ∷ []) ((byte ∷ []) ∷ [])) parts.0)
+last_line byte (next ∷ line) none =
+    let parts = or_false (is_line_feed byte) (has_line_feed (next ∷ line)) none in
+    ap (λ b. cond b ([] ∷ lines_of (next ∷ line)) (with_first byte (lines_of (next ∷ line)))) parts.0 ∙ ap (with_first byte) (last_line next line parts.1)
+
+-- the first line of bytes, and what stands behind it
+pub line_and_rest : (bytes : List ℕ) → 0 < length bytes → (byte : ℕ) (rest : List ℕ) → drop (before_feed bytes) bytes ≡ byte ∷ rest → lines_of bytes ≡ take (before_feed bytes) bytes ∷ lines_of rest
+line_and_rest bytes some byte rest behind_is =
+    let n = before_feed bytes in
+    let within : n < length bytes = elim (cases_lt n (length bytes)) [
+      | inl lt ↦ lt
+      | inr le ↦ (let none = drop_all n bytes le in let both : [] ≡ byte ∷ rest = sym none ∙ behind_is in cc)
+    ] in
+    let feed = next_feed bytes within in
+    let same : byte ∷ rest ≡ 10 ∷ feed.0 = sym behind_is ∙ feed.1 in
+    let tail : feed.0 ≡ rest = cc in
+    let whole : take n bytes ++ 10 ∷ feed.0 ≡ bytes = ap (λ l. take n bytes ++ l) (sym feed.1) ∙ take-append-drop n bytes in
+    ap lines_of (sym whole) ∙ whole_line (take n bytes) feed.0 (front_without bytes) ∙ ap (λ l. take n bytes ∷ lines_of l) tail
+
+pub line_alone : (bytes : List ℕ) → 0 < length bytes → drop (before_feed bytes) bytes ≡ [] → lines_of bytes ≡ take (before_feed bytes) bytes ∷ []
+line_alone bytes some behind_is =
+    let n = before_feed bytes in
+    let whole : take n bytes ≡ bytes = sym (append-nil (take n bytes)) ∙ ap (λ l. take n bytes ++ l) (sym behind_is) ∙ take-append-drop n bytes in
+    go bytes some (subst (λ l. has_line_feed l ≡ false) whole (front_without bytes)) ∙ ap (λ l. l ∷ []) (sym whole)
+  where
+    go : (l : List ℕ) → 0 < length l → has_line_feed l ≡ false → lines_of l ≡ l ∷ []
+    go [] most none = absurd (omega arith)
+    go (byte ∷ line) most none = last_line byte line none
+
+empty_list : (xs : List ℕ) → length xs < 1 → xs ≡ []
+empty_list [] few = refl
+empty_list (x ∷ xs) few = absurd (omega (arith, few))
+
+-- the same of bytes that were split before the first line feed
+pub split_alone : (bytes front behind : List ℕ) (n : ℕ) → 0 < length bytes → n ≡ before_feed bytes → front ≡ take n bytes → behind ≡ drop n bytes → length behind < 1 → lines_of bytes ≡ front ∷ lines_of behind
+split_alone bytes front behind n some count front_is behind_is few =
+    let none : behind ≡ [] = empty_list behind few in
+    let line : front ≡ take (before_feed bytes) bytes = front_is ∙ ap (λ k. take k bytes) count in
+    line_alone bytes some (ap (λ k. drop k bytes) (sym count) ∙ sym behind_is ∙ none) ∙ ap (λ l. l ∷ []) (sym line) ∙ ap (λ l. front ∷ lines_of l) (sym none)
+
+pub split_more : (bytes front behind : List ℕ) (n : ℕ) → 0 < length bytes → n ≡ before_feed bytes → front ≡ take n bytes → behind ≡ drop n bytes → 1 ≤ length behind
+    → lines_of bytes ≡ front ∷ lines_of (take (length behind - 1) (drop 1 behind))
+split_more bytes front [] n some count front_is behind_is most = absurd (omega (arith, most))
+split_more bytes front (byte ∷ rest) n some count front_is behind_is most =
+    let line : front ≡ take (before_feed bytes) bytes = front_is ∙ ap (λ k. take k bytes) count in
+    let whole : take (length (byte ∷ rest) - 1) (drop 1 (byte ∷ rest)) ≡ rest = take_all (length (byte ∷ rest) - 1) rest (omega arith) in
+    line_and_rest bytes some byte rest (ap (λ k. drop k bytes) (sym count) ∙ sym behind_is) ∙ ap (λ l. l ∷ lines_of rest) (sym line) ∙ ap (λ l. front ∷ lines_of l) (sym whole)

@@ -1,8 +1,10 @@
 -- The texts that are printed: findings and their evidence, refused items, the summary and the whole report.
-use Rattle.std.specs.Prelude.{ℕ, List, [], ◌∷◌, ◌++◌, length, take, codes, decimal, Bool, not, nat_lt, if◌then◌else◌, Option, Some, None}
+use Rattle.std.specs.Prelude.{ℕ, List, [], ◌∷◌, ◌++◌, length, take, codes, decimal, Bool, false, not, ◌||◌, nat_lt, if◌then◌else◌, Option, Some, None, is_some}
 use Rattle.std.specs.List.{filter, flat_map, list_any}
 use Rattle.serde_json.specs.Data.{string}
 use Rattle.serde_json.specs.Written.{compact_text}
+use Rattle.si_model.specs.declared.chances.Count.{Count}
+use Rattle.si_model.specs.declared.chances.Chances.{Chances}
 use Rattle.si_model.specs.declared.findings.Finding.{Finding}
 use Rattle.si_model.specs.declared.kinds.Kind.{Kind}
 use Rattle.si_model.specs.declared.kinds.Kind.TheVariants.{Unknown, Doubt, Own, Aborted, Intermediate, Future, Stale, Overlap}
@@ -12,6 +14,7 @@ use Rattle.si_model.specs.declared.refusals.Refusal.{Refusal}
 use Rattle.si_model.specs.declared.refusals.Refusal.TheVariants.{Full, IdPresent, NoSuch, NotInDoubt, StampOrder, StampTaken}
 use Rattle.si_model.specs.declared.refusals.Refusal.TheVariants.{ValueTwice, ValueTaken, SetUpTwice, SetUpTaken, ValueSetUp}
 use Rattle.si_model.specs.declared.evidence.Edge.{Edge}
+use Rattle.si_model.specs.declared.evidence.KeyedEdge.{KeyedEdge}
 use Rattle.si_model.specs.declared.evidence.Label.{Label}
 use Rattle.si_model.specs.declared.evidence.Label.TheVariants as label
 use Rattle.si_model.specs.declared.evidence.Evidence.{Evidence}
@@ -23,6 +26,9 @@ use Rattle.si_text.specs.declared.faults.LineFault.{LineFault}
 use Rattle.si_text.specs.declared.faults.LineFault.TheVariants.{TooLong, NotJson, NotObject, BadKind, BadField, BadStatus, TooManyOps, BadOp, OutOfMemory}
 use Rattle.si_text.specs.declared.reasons.Reason.{Reason}
 use Rattle.si_text.specs.declared.reasons.Reason.TheVariants.{Malformed, Refused}
+use Rattle.si_text.specs.declared.endings.Asked.{Asked}
+use Rattle.si_text.specs.declared.endings.Ending.{Ending}
+use Rattle.si_text.specs.declared.endings.ExpectedPlaces.{ExpectedPlaces}
 use Rattle.si_text.specs.declared.shortages.Shortage.{Shortage}
 use Rattle.si_text.specs.declared.shortages.TheConstants.{MOST_IDS_TOLD}
 use Rattle.si_text.specs.declared.verdicts.Verdict.{Verdict}
@@ -87,12 +93,34 @@ edge_text e = codes " " ++ decimal e.from.0 ++ label_text e.label ++ decimal e.t
 abbrev pub missed_text : List Edge → List ℕ
 missed_text es = codes "  G-SI(b)" ++ flat_map edge_text es
 
+-- an edge and its key, as ` 1-wr->2 key="x"`
+abbrev pub keyed_edge_text : KeyedEdge → List ℕ
+keyed_edge_text e = edge_text e.edge ++ codes " key=" ++ key_text e.key
+
+-- one that stands behind others
+abbrev pub next_edge_text : KeyedEdge → List ℕ
+next_edge_text e = codes "," ++ keyed_edge_text e
+
+abbrev pub knot_text : List KeyedEdge → List ℕ
+knot_text [] = codes "  knot"
+knot_text (e ∷ es) = codes "  knot" ++ keyed_edge_text e ++ flat_map next_edge_text es
+
+-- two transactions, each behind a space
+abbrev pub two_text : TxnId → TxnId → List ℕ
+two_text a b = codes " " ++ decimal a.0 ++ codes " " ++ decimal b.0
+
+-- two transactions that each read one version of the key and overwrote it
+abbrev pub fork_text : List ℕ → TxnId → TxnId → List ℕ
+fork_text x a b = codes "  fork key=" ++ key_text x ++ two_text a b
+
 -- what an evidence says
 abbrev pub shown_text : Evidence → List ℕ
 shown_text (evidence.AbortedRead t i u) = read_from_text (codes "  G1a reader=") t i u
 shown_text (evidence.IntermediateRead t i u) = read_from_text (codes "  G1b reader=") t i u
 shown_text (evidence.Interference e) = codes "  G-SI(a)" ++ edge_text e
 shown_text (evidence.Missed walk) = missed_text walk
+shown_text (evidence.Fork x a b) = fork_text x a b
+shown_text (evidence.Knot es) = knot_text es
 
 -- the line of an evidence
 abbrev pub evidence_text : Evidence → List ℕ
@@ -110,6 +138,10 @@ explanation_text k = evidence_lines (evidence_of k)
 -- the line of a finding, and its evidence if that is asked for
 abbrev pub finding_lines : Bool → Finding → List ℕ
 finding_lines explain f = finding_text f ++ (if explain then explanation_text f.kind else [])
+
+-- the line of an evidence that fails, by the number of its own line
+abbrev pub failure_text : ℕ → List ℕ
+failure_text line = codes "fails line=" ++ decimal line ++ line_end
 
 -- ---- refused items
 
@@ -239,7 +271,82 @@ abbrev pub shortage_lines : Option Shortage → List ℕ
 shortage_lines None = []
 shortage_lines (Some s) = short_text s.committed s.expected s.in_doubt.items
 
--- a report with the line of what the run is short of right before its summary
-abbrev pub last_report_text : Bool → ℕ → List Finding → Option Shortage → ℕ → List ℕ
-last_report_text explain transactions findings shortage refused =
-    flat_map (finding_lines explain) findings ++ (shortage_lines shortage ++ summary_text transactions (length findings) refused (verdict_of findings))
+-- ---- what could have been found
+
+-- how the line of the places of a kind begins
+abbrev pub chance_label : List ℕ → List ℕ
+chance_label kind = codes "chances kind=" ++ kind ++ codes " places="
+
+-- the line of the places of one kind, behind its beginning: how many there are, and on how many keys
+unfoldable pub chance_text : List ℕ → Count → List ℕ
+chance_text label c = label ++ decimal c.places ++ codes " keys=" ++ decimal c.keys ++ line_end
+
+-- the lines of all six kinds
+abbrev pub chances_text : Chances → List ℕ
+chances_text c =
+    chance_text (chance_label (codes "own")) c.own ++ chance_text (chance_label (codes "aborted")) c.aborted
+    ++ chance_text (chance_label (codes "intermediate")) c.intermediate ++ chance_text (chance_label (codes "future")) c.future
+    ++ chance_text (chance_label (codes "stale")) c.stale ++ chance_text (chance_label (codes "overlap")) c.overlap
+
+-- whether there are fewer places than were expected, where a number is expected
+abbrev pub is_few : ℕ → Option ℕ → Bool
+is_few places None = false
+is_few places (Some expected) = nat_lt places expected
+
+-- whether there are of some kind
+abbrev pub are_few : ExpectedPlaces → Chances → Bool
+are_few e c =
+    is_few c.own.places e.own || is_few c.aborted.places e.aborted || is_few c.intermediate.places e.intermediate
+    || is_few c.future.places e.future || is_few c.stale.places e.stale || is_few c.overlap.places e.overlap
+
+-- how the line of a kind begins that has fewer places than were expected
+abbrev pub few_label : List ℕ → List ℕ
+few_label kind = codes "short kind=" ++ kind ++ codes " places="
+
+-- that line, behind its beginning
+abbrev pub few_text : List ℕ → ℕ → ℕ → List ℕ
+few_text label places expected = label ++ decimal places ++ codes " expected=" ++ decimal expected ++ line_end
+
+-- the same where there are fewer
+abbrev pub few_line : List ℕ → ℕ → Option ℕ → List ℕ
+few_line label places None = []
+few_line label places (Some expected) = if nat_lt places expected then few_text label places expected else []
+
+-- the lines of all that have
+abbrev pub few_lines : ExpectedPlaces → Chances → List ℕ
+few_lines e c =
+    few_line (few_label (codes "own")) c.own.places e.own ++ few_line (few_label (codes "aborted")) c.aborted.places e.aborted
+    ++ few_line (few_label (codes "intermediate")) c.intermediate.places e.intermediate ++ few_line (few_label (codes "future")) c.future.places e.future
+    ++ few_line (few_label (codes "stale")) c.stale.places e.stale ++ few_line (few_label (codes "overlap")) c.overlap.places e.overlap
+
+-- ---- the last report
+
+-- whether something is asked of what could have been found
+abbrev pub asks : Asked → Bool
+asks a =
+    a.tells || is_some a.expected.own || is_some a.expected.aborted || is_some a.expected.intermediate || is_some a.expected.future
+    || is_some a.expected.stale || is_some a.expected.overlap
+
+-- the lines of what could have been found, where they are told
+abbrev pub told_chances : Bool → Chances → List ℕ
+told_chances tells c = if tells then chances_text c else []
+
+-- the lines of what is asked of what could have been found, before and behind those of a shortage
+abbrev pub lines_asked : Asked → List ℕ → Option Chances → List ℕ
+lines_asked a short None = short
+lines_asked a short (Some c) = told_chances a.tells c ++ (short ++ few_lines a.expected c)
+
+-- whether there are too few places of some kind, where the places are known
+abbrev pub are_known_few : ExpectedPlaces → Option Chances → Bool
+are_known_few e None = false
+are_known_few e (Some c) = are_few e c
+
+-- whether a run that ends so is short of transactions or of places
+abbrev pub is_short_ending : Ending → Bool
+is_short_ending e = is_some e.shortage || are_known_few e.asked.expected e.chances
+
+-- a report with what is asked and what the run is short of right before its summary
+abbrev pub last_report_text : Bool → ℕ → List Finding → Ending → ℕ → List ℕ
+last_report_text explain transactions findings e refused =
+    flat_map (finding_lines explain) findings
+    ++ (lines_asked e.asked (shortage_lines e.shortage) e.chances ++ summary_text transactions (length findings) refused (verdict_of findings))

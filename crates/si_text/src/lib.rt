@@ -1,7 +1,7 @@
 //! The texts of the checker: lines in, report lines out, and the devices that carry their bytes.
 //!
 //! It carries the promise that an edit read from a line is what the line says by its definition, and that what is
-//! printed is exactly the text of its definition. It stands on `si_model` for the types and evidence, on `memchr` for
+//! printed is exactly the text of its definition, and an evidence is read only from what is printed of it. It stands on `si_model` for the types and evidence, on `memchr` for
 //! the ends of lines, on `serde_json` for JSON, on `json` and `fast_float` for the tokens of usual lines, on `indexmap` for keys
 //! that came before and on `itoa` for numbers.
 //!
@@ -14,6 +14,8 @@
 mod appending;
 pub mod changes;
 pub mod devices;
+pub mod endings;
+pub mod evidence_lines;
 pub mod explaining;
 pub mod faults;
 mod found_members;
@@ -38,12 +40,14 @@ pub mod verdicts;
 
 pub use changes::{keep_violations, print_changes};
 pub use devices::{ByteSink, ByteSource, DeviceFailed};
-pub use explaining::print_evidence;
+pub use endings::{Asked, Ending, ExpectedPlaces};
+pub use evidence_lines::read_evidence;
+pub use explaining::{print_evidence, print_failure};
 pub use faults::{Field, LineFault};
 pub use known_keys::KnownKeys;
 pub use printing::{print_finding, print_last_report, print_refusal, print_report, print_summary};
 pub use read_edits::read_edit;
-pub use read_items::LineItem;
+pub use read_items::{LineItem, item_of, split_line};
 pub use read_lines::{InputFault, LineBuffer};
 pub use reasons::Reason;
 pub use shortages::Shortage;

@@ -6,9 +6,9 @@ ghost use Rattle.si_text.specs.Printing.{Appends, is_plain};
 ghost use Rattle.si_text.specs.Texts.{code_text, fault_text, finding_lines, finding_text, key_text, kind_text, own_text, read_text, reading_text, reason_text, refusal_text, refused_text, last_report_text, report_text, summary_text, verdict_of};
 
 use crate::appending::{put, put_number, whole_or_none};
+use crate::endings::put_ending;
 use crate::explaining::put_explanation;
-use crate::shortages::put_shortage;
-use crate::{LineFault, Reason, Shortage, Verdict};
+use crate::{Ending, LineFault, Reason, Verdict};
 use serde_json::Value;
 use si_model::{Finding, Key, Kind, OutOfMemory, Refusal, TxnId};
 use std::alloc::Global;
@@ -63,11 +63,13 @@ pub fn print_report(
     ensures err { OnErr result (out.new.items ≡ out.old.items) }
 {
     let before = out.len();
-    let appended = put_report(alloc, out, transactions, found, refused, explain, &None);
+    let nothing = Ending::nothing();
+    let appended = put_report(alloc, out, transactions, found, refused, explain, &nothing);
     whole_or_none(out, before, appended)
 }
 
-/// Appends a report as [`print_report`] does, with the line of what the run is short of, if it is short, right before the summary.
+/// Appends a report as [`print_report`] does, with what could have been found, where it is asked for, and what the run is short of, if it is
+/// short, right before the summary.
 pub fn print_last_report(
     alloc: Global,
     out: &mut Vec<u8>,
@@ -75,15 +77,15 @@ pub fn print_last_report(
     found: &[Finding],
     refused: u64,
     explain: bool,
-    shortage: &Option<Shortage>,
+    ending: &Ending,
 ) -> Result<Verdict, OutOfMemory>
     ensures verdict { IfOk result (λ verdict. verdict ≡ verdict_of found.now) }
     ensures ok { OnOk result
-        (out.new.items ≡ out.old.items ++ last_report_text explain transactions found.now shortage.now refused) }
+        (out.new.items ≡ out.old.items ++ last_report_text explain transactions found.now ending.now refused) }
     ensures err { OnErr result (out.new.items ≡ out.old.items) }
 {
     let before = out.len();
-    let appended = put_report(alloc, out, transactions, found, refused, explain, shortage);
+    let appended = put_report(alloc, out, transactions, found, refused, explain, ending);
     whole_or_none(out, before, appended)
 }
 
@@ -244,7 +246,7 @@ fn put_overlap(out: &mut Vec<u8>, key: &Key, first: TxnId, second: TxnId) -> Res
 }
 
 /// The kind of a finding, and its key.
-fn put_key(out: &mut Vec<u8>, kind: &str, key: &Key) -> Result<(), OutOfMemory>
+pub(crate) fn put_key(out: &mut Vec<u8>, kind: &str, key: &Key) -> Result<(), OutOfMemory>
     ensures { Appends result out.old.items out.new.items
         (kind.now ++ codes " key=" ++ key_text key.now) }
 {
@@ -254,7 +256,7 @@ fn put_key(out: &mut Vec<u8>, kind: &str, key: &Key) -> Result<(), OutOfMemory>
 }
 
 /// Appends a text as JSON, which is the text in quotes where no byte of it wants an escape.
-fn put_json(out: &mut Vec<u8>, text: &str) -> Result<(), OutOfMemory>
+pub(crate) fn put_json(out: &mut Vec<u8>, text: &str) -> Result<(), OutOfMemory>
     ensures { Appends result out.old.items out.new.items (key_text text.now) }
 {
     if is_plain(text.as_bytes()) {
@@ -379,15 +381,15 @@ fn put_report(
     found: &[Finding],
     refused: u64,
     explain: bool,
-    shortage: &Option<Shortage>,
+    ending: &Ending,
 ) -> Result<Verdict, OutOfMemory>
     ensures verdict { IfOk result (λ verdict. verdict ≡ verdict_of found.now) }
     ensures text { Appends result out.old.items out.new.items
-        (last_report_text explain transactions found.now shortage.now refused) }
+        (last_report_text explain transactions found.now ending.now refused) }
 {
     let verdict = Verdict::of(found);
     put_findings(alloc, out, found, explain)?;
-    put_shortage(out, shortage)?;
+    put_ending(out, ending)?;
     put_summary(out, transactions, found.len(), refused, verdict)?;
     Ok(verdict)
 }

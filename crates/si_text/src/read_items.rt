@@ -1,9 +1,9 @@
 //! From a line to its item: none where it is blank, else what reading it gives.
 
-ghost use Rattle.std.specs.Prelude.{◌≡◌, ◌==◌, not, IfOk};
+ghost use Rattle.std.specs.Prelude.{◌≡◌, ◌==◌, ◌<◌, ◌∷◌, length, not, IfOk};
 ghost use Rattle.std.specs.List.{list_all, prefix_len};
 ghost use Rattle.std.specs.Option.{option_to_list};
-ghost use Rattle.si_text.specs.Inputs.{is_blank, is_line_feed, is_space, item_of};
+ghost use Rattle.si_text.specs.Inputs.{is_blank, is_line_feed, is_space, item_of, lines_of};
 
 use crate::read_edits::{MOST_LINE_BYTES, read_edit_with};
 use crate::{KnownKeys, LineFault};
@@ -14,7 +14,7 @@ use std::alloc::{AllocError, Global};
 pub type LineItem = (u64, Result<Edit, LineFault>);
 
 /// The item that a line is, without its line feed; a blank one is none.
-pub(crate) fn item_of(
+pub fn item_of(
     alloc: Global,
     keys: &mut KnownKeys,
     number: u64,
@@ -45,6 +45,19 @@ fn is_all_space(bytes: &[u8]) -> bool
     bytes
         .iter()
         .all(|byte| matches!(*byte, b' ' | b'\t' | b'\r'))
+}
+
+/// The first line of bytes, of which there are some, without its line feed, and what stands behind that.
+pub fn split_line(bytes: &[u8]) -> (&[u8], &[u8])
+    requires { 0 < length bytes.now }
+    ensures lines { lines_of bytes.now ≡ result.0.now ∷ lines_of result.1.now }
+    ensures shorter { length result.1.now < length bytes.now }
+{
+    let (line, behind) = bytes.split_at(length_to_line_feed(bytes));
+    match behind {
+        [] => (line, behind),
+        [_, rest @ ..] => (line, rest),
+    }
 }
 
 /// How many bytes stand before the first line feed; all where there is none.

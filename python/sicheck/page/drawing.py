@@ -201,6 +201,19 @@ def pill(x, y, text):
     return box(x, y, wide, 26, rx=13, class_="node") + words(x + wide / 2, y + 17, text, text_anchor="middle"), wide
 
 
+def draw_steps(steps, label):
+    """Steps from one transaction to the next, side by side."""
+    gap = 90
+    drawn, right = pill(LEFT, 24, str(steps[0][0]))
+    parts, right = [drawn], LEFT + right
+    for _, name, second in steps:
+        drawn, wide = pill(right + gap, 24, str(second))
+        parts += [drawn, line(right + 2, 37, right + gap - 2, 37, class_="edge", marker_end="url(#arrow)"),
+                  words(right + gap / 2, 31, name, text_anchor="middle", class_="edge-label")]
+        right += gap + wide
+    return picture_frame(right + RIGHT, 64, label, parts)
+
+
 def draw_edges(edges, label):
     """One edge, or two that lead there and back, between two transactions."""
     first, _, second = edges[0]

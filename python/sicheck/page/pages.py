@@ -5,13 +5,13 @@ from pathlib import Path
 from ..answers import KINDS
 from .cards import card, digits, ghost_became, heading, key_code
 from .choosing import address
-from .drawing import SHARED
+from .drawing import SHARED, draw_steps
 from ..log_lines import ABORTED, COMMITTED, IN_DOUBT
 from .markup import data, element, scrolled, table, text_of
 from .strips import column_words, columns_of, draw_strip, stamp_of
-from .wording import MEANINGS, REASONS, key_shown, shortage_words
+from .wording import CHANCES, MEANINGS, REASONS, few_words, key_shown, shortage_words, step_words
 
-MOST_KEYS, MOST_ROWS, MOST_OPEN = 10, 100, 60
+MOST_KEYS, MOST_ROWS, MOST_OPEN, MOST_CIRCUITS, MOST_STEPS = 10, 100, 60, 10, 20
 OPTION = re.compile(r"\(?--\w+[,.)]*")
 HERE = Path(__file__).parent
 
@@ -39,8 +39,11 @@ def verdict_part(story):
     if summary.refused:
         lines.append(element("p", "Refused lines are judged by nobody, so the log isn't passed before they are mended.",
                              class_="warning"))
-    if story.answer.shortage:
-        lines.append(element("p", text_of(shortage_words(story.answer.shortage)), class_="warning"))
+    ending = story.answer.ending
+    if ending.shortage:
+        lines.append(element("p", text_of(shortage_words(ending.shortage)), class_="warning"))
+    if ending.few:
+        lines.append(element("p", text_of(few_words(ending.few)), class_="warning"))
     if not summary.transactions:
         lines.append(element("p", "The log has no transactions: see whether it is the one that was meant.", class_="warning"))
     head = element("h1", "Snapshot isolation: ", element("span", word, class_=f"verdict {word}"))
@@ -69,6 +72,21 @@ def kinds_part(story):
     rest = element("p", text_of(f"None is of the kind {none}." if none else "All kinds were found."))
     return section("Findings by kind", table("Findings by kind", ["Kind", "Found", "Drawn", "Means"], rows,
                                              class_="wide"), rest)
+
+
+def chances_part(story):
+    """What could have been found. Where the answer doesn't tell it and nothing was found, how to ask for it."""
+    chances = story.answer.ending.chances
+    title = "What could have been found"
+    if chances:
+        rows = [[text_of(KINDS[it.kind]), f"{it.places:,}", f"{it.keys:,}", text_of(CHANCES[it.kind])] for it in chances]
+        note = "At so many places a likely fault of the database would have been found. Where there is none of a kind, a log without findings says " \
+               "little of it. A log in commit order has none of intermediate and future, and aborted and overlap mean nothing there."
+        return section(title, element("p", text_of(note)), table(title, ["Kind", "Places", "Keys", "A place is"], rows, class_="wide"))
+    if story.answer.findings or story.answer.ending.few:
+        return ""
+    note = "The answer was made without --chances, so it doesn't tell at how many places a fault of the database would have been found."
+    return section(title, element("p", with_whole_options(note)))
 
 
 def keys_part(story):
@@ -232,6 +250,27 @@ def findings_part(story, limits):
                    *(kind_part(story, kind, groups) for kind, groups in sorted(kinds.items())), id="the-findings")
 
 
+def circuit_part(steps):
+    """A fork or a knot: its steps as a picture, and in words."""
+    drawn = steps[:MOST_STEPS]
+    ends = "" if len(drawn) == len(steps) else f"; {many(len(steps) - len(drawn), 'step')} more are left out"
+    label = "Steps: " + ", ".join(f"{step.first} {step.label} {step.second}" for step in drawn) + ends
+    rows = [element("li", text_of(before), key_code(step.key), text_of(behind))
+            for step in drawn for before, behind in [step_words(step)]]
+    left_out = [element("p", text_of(f"{many(len(steps) - len(drawn), 'step')} more are left out."), class_="left-out")] if ends else []
+    return scrolled(draw_steps([step[:3] for step in drawn], label), "Steps") + element("ol", *rows) + "".join(left_out)
+
+
+def circuits_part(story):
+    """The forks and knots that `seal` told before the answer."""
+    circuits = story.answer.circuits
+    note = "The history says so without its stamps: each step orders two transactions, and they lead round in a circle. " \
+           "`sicheck evidence LOG < ANSWER` checks it."
+    more = [element("p", text_of(f"{many(len(circuits) - MOST_CIRCUITS, 'circle')} more are left out."), class_="left-out")]
+    return section("No stamps mend this", element("p", text_of(note)), *(circuit_part(steps) for steps in circuits[:MOST_CIRCUITS]),
+                   *(more if len(circuits) > MOST_CIRCUITS else []), id="circuits")
+
+
 def document(title, *contents):
     """A whole HTML file, with the style and the script of this folder in it."""
     style, script = ((HERE / name).read_text(encoding="utf-8") for name in ("page.css", "page.js"))
@@ -248,7 +287,8 @@ def findings_page(story, limits):
     found = [element("div", kinds_part(story), keys_part(story), class_="beside"), when_part(story)] if summary.findings else []
     findings = [findings_part(story, limits)] if summary.findings else []
     skip = element("a", "To the findings", href="#the-findings", class_="skip") if findings else ""
-    return document(title, skip, verdict_part(story), element("main", *found, log_part(story), *findings))
+    circuits = [circuits_part(story)] if story.answer.circuits else []
+    return document(title, skip, verdict_part(story), element("main", *circuits, *found, chances_part(story), log_part(story), *findings))
 
 
 def misfit_page(reason, names):

@@ -2,7 +2,7 @@
 import json
 import unicodedata
 
-from ..answers import ABORTED_READ, DOUBT, FUTURE, INTERMEDIATE, LATER, OVERLAP, OWN, STALE, UNKNOWN
+from ..answers import ABORTED_READ, DOUBT, FUTURE, INTERMEDIATE, KINDS, LATER, OVERLAP, OWN, STALE, UNKNOWN
 from .judgement import INITIAL
 
 MEANINGS = {
@@ -201,6 +201,30 @@ def edge_words(edge):
             "ww": f"{other} installed the version next after that of {one}, and started before {one} committed",
             "rw": f"{other} installed the version next after the one that {one} read",
             "st": f"{other} started after {one} committed"}[label]
+
+
+def step_words(step):
+    """A step of a fork or a knot in words, before its key and behind it."""
+    if step.label == "wr":
+        return f"{step.second} read what {step.first} wrote last to ", "."
+    return f"{step.second} overwrote the version of ", f" that {step.first} read, and had read it too."
+
+
+# What a place is at which a kind could have been found.
+CHANCES = {
+    OWN: "a read behind a write of the key by its own transaction",
+    ABORTED_READ: "a writer of the key that was rolled back, where a transaction that reads it commits after its start",
+    INTERMEDIATE: "a read, where another transaction at the same time wrote the key more than once",
+    FUTURE: "a read, where another transaction at the same time wrote the key",
+    STALE: "a version that another committed transaction read",
+    OVERLAP: "a writer of the key that was rolled back, where a version of it was committed after its start",
+}
+
+
+def few_words(few):
+    """Of which kinds too little could have been found."""
+    told = "; ".join(f"at {it.places:,} places {KINDS[it.kind]} could have been found, {it.expected:,} expected" for it in few)
+    return f"The log isn't passed: {told}."
 
 
 def shortage_words(shortage):

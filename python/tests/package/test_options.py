@@ -8,10 +8,13 @@ import unittest
 from pathlib import Path
 
 import sicheck
-from sicheck import CheckFailed, Short, Undecided, Violation
+from sicheck import Chance, CheckFailed, Few, Short, Undecided, Violation
+from sicheck.reports import reports_in
 from small_database import Database, logs_in, run_clients
 
 TOP = Path(__file__).resolve().parents[3]
+sys.path.insert(0, str(TOP / "tests"))
+import contention  # noqa: E402 (it stands beside the other tests)
 
 
 def txn(number, start, status, *ops, commit=None):
@@ -76,6 +79,64 @@ class Expected(unittest.TestCase):
         for expect in (-1, 16_777_217):
             with self.assertRaisesRegex(CheckFailed, "--expect"):
                 sicheck.check(lines=[], expect=expect)
+
+
+class Chances(unittest.TestCase):
+    """Client 1 writes x twice beside the reader 2; 3 reads it, and then what it wrote itself; the writer 4 is rolled back."""
+    LINES = [txn(1, 2, "committed", ["w", "x", 1], ["w", "x", 2], commit=5), txn(2, 4, "committed", ["r", "x", None], commit=9),
+             txn(3, 6, "committed", ["r", "x", 2], ["w", "x", 3], ["r", "x", 3], ["r", "x", 3], commit=10), txn(4, 7, "aborted", ["w", "x", 4])]
+
+    def test_told(self):
+        for shards in (1, 3):
+            report = sicheck.check(lines=self.LINES, chances=True, shards=shards).assert_passed()
+            one = Chance(1, 1)
+            self.assertEqual(report.chances, sicheck.Chances(Chance(2, 1), one, one, one, one, one))
+        *_, first, last = sicheck.watch(lines=self.LINES, chances=True, every=1)
+        self.assertEqual((first.chances, last.chances), (None, report.chances))
+        self.assertIsNone(sicheck.check(lines=self.LINES).chances)
+
+    def test_expected(self):
+        report = sicheck.check(lines=self.LINES, expect_own=2, expect_aborted=1, expect_intermediate=1, expect_future=1, expect_stale=1,
+                               expect_overlap=1)
+        self.assertEqual((report.assert_passed().few, report.chances), ((), None))
+        report = sicheck.check(lines=self.LINES, expect=9, expect_future=2, expect_own=0)
+        self.assertEqual((report.status, report.few, report.short), (10, (Few("future", 1, 2),), Short(3, 9, 0, ())))
+        with self.assertRaisesRegex(Undecided, "at 1 places future could have been found, 2 expected"):
+            report.assert_passed()
+        *_, last = sicheck.watch(lines=self.LINES, expect_stale=2, expect_overlap=3)
+        self.assertEqual(last.few, (Few("stale", 1, 2), Few("overlap", 1, 3)))
+
+    def test_out_of_range(self):
+        with self.assertRaisesRegex(CheckFailed, "--expect-stale"):
+            sicheck.check(lines=[], expect_stale=16_777_217)
+
+    def test_commands(self):
+        answer = "".join(f"chances kind={word} places=4 keys=2\n" for word in sicheck.Chances._fields)
+        answer += "short kind=stale places=4 expected=7\ntransactions=0 findings=0 refused=0 verdict=clean\n"
+
+        def told(*words):
+            return subprocess.run([sys.executable, "-B", "-m", "sicheck", *words], input=answer, env={**os.environ, "PYTHONPATH": str(TOP / "python")},
+                                  stdout=subprocess.PIPE, text=True, check=True).stdout.splitlines()
+        *chances, short, summary = map(json.loads, told("json"))
+        self.assertEqual([it["kind"] for it in chances], list(sicheck.Chances._fields))
+        self.assertEqual(chances[3], {"is": "chances", "report": 1, "kind": "future", "places": 4, "keys": 2})
+        self.assertEqual(short, {"is": "short", "report": 1, "kind": "stale", "places": 4, "expected": 7})
+        self.assertEqual(summary["status"], 10)
+        self.assertEqual(told("count")[0], "4 places of the kind stale, of 7 expected")
+
+    def test_only_at_the_end(self):
+        """Nothing but a summary stands behind what only the last report has, and no report behind that."""
+        told, summary = "short kind=stale places=4 expected=7", "transactions=0 findings=0 refused=0 verdict=clean"
+        refused = "refused source=0 line=1 code=2 reason=not-json"
+        for lines in ([told, refused, summary.replace("refused=0", "refused=1")], [told, summary, summary], [told, summary, told, summary]):
+            with self.subTest(lines), self.assertRaisesRegex(CheckFailed, "stands behind"):
+                list(reports_in(f"{it}\n".encode() for it in lines))
+
+    def test_rows_of_logging(self):
+        """The rows on six clients, by the program."""
+        page = (TOP / "docs" / "LOGGING.md").read_text(encoding="utf-8")
+        for row in contention.rows(lambda log, *words: contention.told(sicheck.program_path(), log, *words)):
+            self.assertIn("| " + " | ".join(f"{it:,}" if isinstance(it, int) else it for it in row) + " |\n", page)
 
 
 class New(unittest.TestCase):

@@ -11,6 +11,7 @@ import tempfile
 import unittest
 from pathlib import Path
 
+from sicheck.checking import program_path
 from sicheck.edn import EdnFault, form_at, forms_in
 from sicheck.faults import LogError
 from sicheck.histories import read_history
@@ -349,6 +350,24 @@ class Command(unittest.TestCase):
             self.assertEqual(self.run_seal(history, "--log", log),
                              (0, ["sealed transactions=2", "transactions=2 findings=0 refused=0 verdict=clean"], ""))
             self.assertEqual(len(Path(log).read_text().splitlines()), 2)
+
+    def test_forks_and_knots_are_checked_by_the_log(self):
+        """What is told of drawn histories and of Elle's long fork is evidence that holds of the log."""
+        chance, kinds = random.Random(6), []
+        histories = [lines_of(drawn(chance, name, 4), name) for name in ["append", "w"] * 300]
+        histories.append([line("ok", own, ops, own) for own, ops in enumerate((
+            [("append", 1, 1)], [("append", 2, 1)], [("r", 1, [1]), ("r", 2, [])], [("r", 1, []), ("r", 2, [1])]))])
+        with tempfile.TemporaryDirectory() as folder:
+            for lines in histories:
+                told, log, _ = sealed(lines)
+                evidence = [it for it in told if it.startswith("  ")]
+                if evidence:
+                    kinds.append(evidence[0].split()[0])
+                    Path(folder, "log.jsonl").write_text("".join(log))
+                    done = subprocess.run([program_path(), "evidence", f"{folder}/log.jsonl"], input="\n".join(told) + "\n",
+                                          capture_output=True, text=True, check=False)
+                    self.assertEqual((done.returncode, done.stdout), (0, ""), "".join(lines) + "\n".join(told))
+        self.assertEqual(set(kinds), {"fork", "knot"})
 
     def test_standard_input(self):
         status, lines, _ = self.run_seal("-", given=line("ok", 0, [("r", 1, []), ("append", 1, 1)], 0) + line("ok", 1, [("r", 1, []), ("append", 1, 2)], 1))

@@ -1,7 +1,8 @@
 """Answers: each line, the last of several reports, and texts that aren't whole."""
 import unittest
 
-from sicheck.answers import AnswerFault, Finding, Refusal, Shortage, answer_of, finding_of
+from sicheck.answers import WORDS, AnswerFault, Chance, Ending, FewPlaces, Finding, Refusal, Shortage, answer_of, finding_of
+from sicheck.circuits import Step, steps_of
 from sicheck.log_lines import Place
 
 SUMMARY = "transactions=3 findings={} refused={} verdict={}\n"
@@ -59,19 +60,49 @@ class Answers(unittest.TestCase):
                              + other + SUMMARY.format(1, 0, "violation"))
         self.assertEqual(answer.findings, [Finding(7, "x", 3, 1, 1, 2)])
         self.assertEqual(answer.lines, [6])
-        self.assertIsNone(answer.shortage)
+        self.assertIsNone(answer.ending.shortage)
         with self.assertRaisesRegex(AnswerFault, "line 1 of the answer is no finding"):
             self.answer("gone " + STALE + SUMMARY.format(0, 0, "clean"))
+
+    def test_behind_what_seal_told(self):
+        told = ('no-order certain=yes\n  fork key="x" 1 2\n  knot 1-wr->2 key="a, \\"b\\"", 2-rw->1 key="x"\n'
+                'apart key="x" txn=1 op=0 txn=2 op=0\n')
+        answer = self.answer(told + STALE + SUMMARY.format(1, 0, "violation"))
+        self.assertEqual(answer.lines, [5])
+        self.assertEqual(answer.circuits, ([Step(1, "rw", 2, "x"), Step(2, "rw", 1, "x")],
+                                           [Step(1, "wr", 2, 'a, "b"'), Step(2, "rw", 1, "x")]))
+        self.assertEqual(self.answer("sealed transactions=2\n" + SUMMARY.format(0, 0, "clean")).circuits, ())
+
+    def test_no_steps(self):
+        for line in ('  knot 1-wr->2 key="x",2-rw->1 key="x"', '  knot 1-ww->2 key="x"', "  knot 1-wr->2", '  knot 1-wr->2 key=x',
+                     '  fork key="x" 1', '  fork key="x" 1 2 3', "  G-SI(a) 1-ww->2", "no-order certain=yes"):
+            self.assertIsNone(steps_of(line), line)
 
     def test_shortage(self):
         short = "short committed=1 expected=3 indoubt={}\n"
         answer = self.answer(STALE + short.format("2 ids=7,12") + SUMMARY.format(1, 0, "violation"))
-        self.assertEqual(answer.shortage, Shortage(1, 3, 2, [7, 12]))
+        self.assertEqual(answer.ending.shortage, Shortage(1, 3, 2, [7, 12]))
         self.assertEqual((answer.findings, answer.lines), ([Finding(7, "x", 3, 0, 1, 2)], [1]))
-        self.assertEqual(self.answer(short.format("0") + SUMMARY.format(0, 0, "clean")).shortage, Shortage(1, 3, 0, []))
-        for text in (short.format("0") + STALE + SUMMARY.format(1, 0, "violation"), short.format("2 ids=") + SUMMARY.format(0, 0, "clean")):
-            with self.subTest(text), self.assertRaisesRegex(AnswerFault, "line 1 of the answer is no finding"):
+        self.assertEqual(self.answer(short.format("0") + SUMMARY.format(0, 0, "clean")).ending.shortage, Shortage(1, 3, 0, []))
+        for text, words in ((short.format("0") + STALE + SUMMARY.format(1, 0, "violation"), "others stand among them"),
+                            (short.format("2 ids=") + SUMMARY.format(0, 0, "clean"), "line 1 of the answer is no finding")):
+            with self.subTest(text), self.assertRaisesRegex(AnswerFault, words):
                 self.answer(text)
+
+    def test_ending(self):
+        """What could have been found stands before a shortage, and kinds with too few places behind it."""
+        told = [f"chances kind={word} places={place} keys={min(place, 1)}\n" for place, word in enumerate(WORDS.split("|"))]
+        few = "short kind=own places=0 expected=1\nshort kind=future places=3 expected=9\n"
+        ending = Ending(tuple(Chance(3 + place, place, min(place, 1)) for place in range(6)), Shortage(1, 3, 0, []), (FewPlaces(3, 0, 1), FewPlaces(6, 3, 9)))
+        short, summary = "short committed=1 expected=3 indoubt=0\n", SUMMARY.format(0, 0, "clean")
+        self.assertEqual(self.answer("".join(told) + short + few + summary).ending, ending)
+        self.assertEqual(self.answer(few + summary).ending, Ending((), None, ending.few))
+        turned = "".join(few.splitlines(keepends=True)[::-1])
+        for text in ("".join(told[1:]), "".join(told[::-1]), "".join(told) + few + short, few + "".join(told), turned, few + few,
+                     few.replace("=9", "=3"), "".join(told) + few.replace("places=3", "places=4"), "".join(told).replace("keys=1", "keys=9"),
+                     "".join(told).replace("keys=1", "keys=0"), few + "transactions=0 findings=0 refused=0 verdict=clean\n"):
+            with self.subTest(text), self.assertRaisesRegex(AnswerFault, "aren't whole"):
+                self.answer(text + summary)
 
     def test_faults(self):
         whole = STALE + SUMMARY.format(1, 0, "violation")

@@ -7,7 +7,7 @@ import time
 import unittest
 from pathlib import Path
 
-from sicheck.answers import Finding
+from sicheck.answers import WORDS, Finding
 from sicheck.page.choosing import address
 from sicheck.page.markup import element, text_of
 from page_reader import PageTest, committed, lines, texts_of, unfinished
@@ -255,6 +255,30 @@ class Log(PageTest):
         self.check_says(page, "1 transactions are committed, and 1,200 were expected; 2 in doubt: 7, 12.")
         page = self.good_page("", "short committed=0 expected=1 indoubt=0\n" + SUMMARY.format(0, 0, 0, "clean"))
         self.check_says(page, "The log isn't passed: 0 transactions are committed, and 1 were expected.")
+
+    def test_what_could_have_been_found(self):
+        log = sample("samples/write_skew.jsonl")
+        page = self.good_page(log, sample("samples/write_skew.out"))
+        self.check_says(page, "What could have been found")
+        self.check_says(page, "The answer was made without --chances, so it doesn't tell")
+        told = "".join(f"chances kind={word} places={2 if word == 'future' else 0} keys={2 if word == 'future' else 0}\n" for word in WORDS.split("|"))
+        page = self.good_page(log, told + "short kind=future places=2 expected=1,000\n".replace(",", "") + sample("samples/write_skew.out"))
+        self.check_says(page, "a read, where another transaction at the same time wrote the key")
+        self.check_says(page, "The log isn't passed: at 2 places future could have been found, 1,000 expected.")
+
+    def test_knots_and_forks(self):
+        log = lines(committed(1, 1, 2, ["r", "y", None], ["w", "x", 1], ["w", "y", 7]), committed(2, 3, 4, ["r", "x", 1], ["r", "y", None]))
+        knot = '  knot 1-wr->2 key="x", 2-rw->1 key="y"\n'
+        answer = 'stale key="y" txn=2 op=1 read=initial missed=1\n' + SUMMARY.format(2, 1, 0, "violation")
+        page = self.good_page(log, "no-order certain=yes\n" + knot + '  fork key="<b>" 1 2\n' + answer)
+        self.check_says(page, "No stamps mend this")
+        self.assertEqual([text.strip() for text in page.tags().texts["li"]][:4], [
+            '2 read what 1 wrote last to "x".', '1 overwrote the version of "y" that 2 read, and had read it too.',
+            '2 overwrote the version of "<b>" that 1 read, and had read it too.', '1 overwrote the version of "<b>" that 2 read, and had read it too.'])
+        self.assertEqual(texts_of(page.pictures()[1], "edge-label"), ["wr", "rw"])
+        self.assertNotIn("No stamps mend this", self.good_page(log, "sealed transactions=2\n" + answer).page)
+        long = "  knot " + ", ".join(f'{own}-wr->{own + 1} key="x"' for own in range(30)) + "\n"
+        self.check_says(self.good_page(log, (long * 12) + answer), "10 steps more are left out.")
 
     def test_last_of_several_reports(self):
         page = self.good_page(sample("samples/nearer_version.jsonl"), sample("samples/nearer_version.out"))

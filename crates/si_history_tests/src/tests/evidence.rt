@@ -7,8 +7,11 @@ ghost use Rattle.si_model.specs.History.{IsHistory};
 use super::findings::found_in;
 use super::*;
 use si_graph::{ExplainFault, check_evidence, explain};
-use si_model::{Edge, Evidence, Finding, Key, Kind, Label, Txn, TxnId, Value, Walk, is_history};
+use si_model::{
+    Edge, Evidence, Finding, Key, KeyedEdge, Kind, Knot, Label, Txn, TxnId, Value, Walk, is_history,
+};
 use si_scripts::{History, asked, key, present};
+use si_text::{print_evidence, read_evidence};
 
 fn number(rt: &impl Abort, word: Option<&str>) -> u64 {
     let word = word.expect(rt, "a number");
@@ -44,6 +47,27 @@ fn walk_of(rt: &(impl Abort + AllocGlobal), text: &str) -> Walk {
     Walk::from_vec(edges)
 }
 
+/// Edges with their keys, as `1-wr->2/x 2-rw->1/y`.
+fn knot_of(rt: &(impl Abort + AllocGlobal), text: &str) -> Knot {
+    let mut edges = Vec::new(rt.alloc());
+    for word in text.split_ascii_whitespace() {
+        let (edge, name) = word.split_once('/').expect(rt, "a key");
+        let edge = edge_of(rt, edge);
+        let key = key(rt, name).expect(rt, "a key");
+        edges.push(KeyedEdge { edge, key }).expect(rt, "memory");
+    }
+    Knot::from_vec(edges)
+}
+
+/// A key and two transactions, as `x 1 2`.
+fn fork_of(rt: &(impl Abort + AllocGlobal), text: &str) -> Evidence {
+    let mut words = text.split_ascii_whitespace();
+    let key = key(rt, words.next().expect(rt, "a key")).expect(rt, "a key");
+    let first = TxnId(number(rt, words.next()));
+    let second = TxnId(number(rt, words.next()));
+    Evidence::Fork { key, first, second }
+}
+
 /// A reader, the place of its read and a writer, as `2 0 1`.
 fn read_from(rt: &impl Abort, text: &str) -> (TxnId, usize, TxnId) {
     let mut words = text.split_ascii_whitespace();
@@ -53,7 +77,8 @@ fn read_from(rt: &impl Abort, text: &str) -> (TxnId, usize, TxnId) {
     (TxnId(reader), place as usize, TxnId(writer))
 }
 
-/// `aborted 2 0 1`, `intermediate 2 0 1`, `interference 1-ww->2` or `missed 2-rw->1 1-st->2`.
+/// `aborted 2 0 1`, `intermediate 2 0 1`, `interference 1-ww->2`, `missed 2-rw->1 1-st->2`, `fork x 1 2` or
+/// `knot 1-wr->2/x 2-rw->1/x`.
 fn evidence_of(rt: &(impl Abort + AllocGlobal), line: &str) -> Evidence {
     let (kind, rest) = line.split_once(' ').unwrap_or((line, ""));
     match kind {
@@ -67,6 +92,8 @@ fn evidence_of(rt: &(impl Abort + AllocGlobal), line: &str) -> Evidence {
         }
         "interference" => Evidence::Interference(edge_of(rt, rest)),
         "missed" => Evidence::Missed(walk_of(rt, rest)),
+        "fork" => fork_of(rt, rest),
+        "knot" => Evidence::Knot(knot_of(rt, rest)),
         _ => panic!(rt; "no evidence: {line}"),
     }
 }
@@ -113,6 +140,19 @@ fn explained_alone(
     explained(rt, history, &found[0])
 }
 
+/// The evidence is read from the line as which it is printed.
+fn is_read_back(rt: &(impl Abort + AllocGlobal), evidence: &Evidence, case: (&str, &str)) {
+    let mut line = Vec::new(rt.alloc());
+    print_evidence(rt.alloc(), &mut line, evidence).expect(rt, "memory");
+    let _end = line.pop();
+    let read = read_evidence(rt.alloc(), &line).expect(rt, "memory");
+    let same = match &read {
+        Some(read) => read == evidence,
+        None => false,
+    };
+    are_same_in(rt, same, true, case);
+}
+
 /// Of the history the evidence behind `yes` holds, and that behind `no` doesn't, in whatever order its transactions come. What stands
 /// behind `explains` explains its one finding.
 fn is_so(rt: &(impl Abort + AllocGlobal), history: &mut History, title: &str, line: &str) {
@@ -127,6 +167,7 @@ fn is_so(rt: &(impl Abort + AllocGlobal), history: &mut History, title: &str, li
         );
         return;
     }
+    is_read_back(rt, &evidence, (title, line));
     for _ in 0..2 {
         let shown = holds(rt, history, &evidence);
         are_same_in(rt, shown, wanted == "yes", (title, line));
@@ -229,7 +270,52 @@ const ROWS: &str = "a stale read misses a version, and a walk that isn't closed 
     setup x=5
     3 5 6 x=7
     4 7 8 x?null
-    | no missed 4-rw->3 3-st->4";
+    | no missed 4-rw->3 3-st->4
+    # two that read one version and overwrote it are a fork, whatever their stamps are
+    1 1 2 x?null x=1 y=1
+    2 3 4 x?null x=2 y?1
+    3 5 6 x?null
+    4 7 aborted x?null x=4
+    5 8 9 x=5 x?null
+    | yes fork x 1 2
+    yes fork x 2 1
+    no fork x 1 1
+    no fork x 1 3
+    no fork x 1 4
+    no fork x 1 5
+    no fork y 1 2
+    no fork x 1 6
+    # reads and overwrites that lead round are a knot
+    1 1 2 x=1 y?null y=7
+    2 3 4 x?1 y?null
+    | yes knot 1-wr->2/x 2-rw->1/y
+    yes knot 2-rw->1/y 1-wr->2/x
+    no knot 1-wr->2/y 2-rw->1/y
+    no knot 1-wr->2/x 2-rw->1/x
+    no knot 1-rw->2/y 2-wr->1/x
+    no knot 1-ww->2/x 2-st->1/x
+    no knot 1-wr->2/x
+    no knot
+    # a read of an own write makes no edge, and nor does an aborted one
+    1 1 aborted x=1
+    2 3 4 x?1 y=2
+    3 5 6 y=3 y?2
+    | no knot 1-wr->2/x 2-rw->1/x
+    no knot 2-wr->3/y 3-rw->2/y
+    # write skew is no knot, since its rw edges stand side by side
+    1 1 5 x?null y?null x=1
+    2 1 6 x?null y?null y=2
+    | no knot 1-rw->2/y 2-rw->1/x
+    no fork x 1 2
+    # a knot of wr edges alone, over several keys
+    1 1 5 x=1 z?3
+    2 2 6 x?1 y=2
+    3 3 7 y?2 z=3
+    | yes knot 1-wr->2/x 2-wr->3/y 3-wr->1/z
+    yes knot 2-wr->3/y 3-wr->1/z 1-wr->2/x
+    no knot 1-wr->2/y 2-wr->3/y 3-wr->1/z
+    no knot 1-wr->2/x 2-wr->3/y 3-wr->2/z
+    no knot 1-wr->2/x 2-wr->3/y";
 
 #[test]
 fn evidence_shows_what_it_shows(rt: HostRuntime) {

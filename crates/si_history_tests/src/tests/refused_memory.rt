@@ -6,6 +6,7 @@
 //! the same whatever was refused.
 
 use super::book_scripts::{accept, present_in, set_up_in};
+use super::chances::{LINES, THERE, counted};
 use super::*;
 use si_accept::{AcceptFault, Book};
 use si_model::{
@@ -253,6 +254,21 @@ fn a_set_up_is_accepted_in_the_end(rt: HostRuntime) {
         set_up: (0, 1),
     };
     accept_in_the_end(&rt, case, "setup x=1");
+}
+
+#[test]
+fn chances_are_counted_in_the_end(rt: HostRuntime) {
+    let mut book = Book::new(rt.alloc(), secret_key(&rt), MOST_EDITS);
+    for line in LINES.trim().lines() {
+        give(&rt, &mut book, line.trim());
+    }
+    let mut answer = counted(&rt, &book, secret_key(&rt));
+    if answer.is_err() {
+        println!(rt; "refused").expect(&rt, "output");
+        answer = counted(&rt, &book, secret_key(&rt));
+    }
+    are_same(&rt, answer, Ok(THERE));
+    drop(book);
 }
 
 /// What a book shows.

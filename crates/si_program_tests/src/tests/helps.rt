@@ -40,7 +40,7 @@ fn help_tells_how_to_log(rt: HostRuntime) {
         tells(&rt, &files, line, KINDS);
     }
     let usage =
-        "Usage: sicheck check [--shards K] [--every N [--new]] [--explain] [--expect N]\n                     [--progress] [FILE]...\n";
+        "Usage: sicheck check [--shards K] [--every N [--new]] [--explain] [--expect N]\n                     [--chances] [--expect-KIND N]... [--progress] [FILE]...\n";
     tells(&rt, &files, "check --help", usage);
 }
 
@@ -63,14 +63,11 @@ fn tells_the_same<H: Host, F: NamedFiles>(rt: &H, files: &F, line: &str) {
     are_same_at(rt, text_of(rt, outcome.out.as_slice()), told.as_str(), line);
 }
 
+/// Of the program's own help `clap` doesn't know `evidence`; that text is compared with a stored one, over the built program.
 #[test]
 fn own_texts_are_those_of_clap(rt: HostRuntime) {
     let files = StdFiles::<_, Any>::new(&rt);
     for line in [
-        "-h",
-        "--help",
-        "help",
-        "--help check",
         "help check",
         "check -h",
         "check --help",

@@ -10,8 +10,8 @@ use si_cli::{
     ExitStatus, NamedFiles, Options, RunFault, Settings, SettingsFault, StdFiles, main_without_key,
     settings_of,
 };
-use si_text::ByteSource;
 use si_text::memory::{FailingSink, FailingSource, MemorySink, MemorySource};
+use si_text::{Asked, ByteSource};
 use std::num::NonZeroU64;
 
 const LOST_UPDATE: &str =
@@ -112,7 +112,8 @@ fn every_told(rt: &impl Host, every: Option<NonZeroU64>) -> String {
 }
 
 /// `4 - plain`: how many shards, after how many lines a report comes, and whether its findings are `explained`; then `new`, if
-/// only what changed is told on the way, `expects 1`, if so many are expected, and `shows`, if lines of progress are shown.
+/// only what changed is told on the way, `expects 1`, if so many are expected, what is asked of what could have been found, and `shows`, if
+/// lines of progress are shown.
 fn options_told(rt: &impl Host, options: Options) -> String {
     let every = every_told(rt, options.every);
     let explained = if options.explain {
@@ -122,7 +123,11 @@ fn options_told(rt: &impl Host, options: Options) -> String {
     };
     let asked = asked_told(rt, options);
     let shows = if options.shows_progress { " shows" } else { "" };
-    let text = format!(in rt.alloc(); "{} {every} {explained}{asked}{shows}", options.shards);
+    let chances = chances_told(rt, options.asked);
+    let text = format!(in rt.alloc();
+        "{} {every} {explained}{asked}{chances}{shows}",
+        options.shards
+    );
     text.expect(rt, "memory")
 }
 
@@ -134,6 +139,28 @@ fn asked_told(rt: &impl Host, options: Options) -> String {
         Some(expected) => format!(in rt.alloc(); "{new} expects {expected}"),
     };
     told.expect(rt, "memory")
+}
+
+/// ` chances`, if these are told, and the least number of places of each kind, where one is asked for.
+fn chances_told(rt: &impl Host, asked: Asked) -> String {
+    let mut told = String::from_str(rt.alloc(), if asked.tells { " chances" } else { "" }).expect(
+        rt, "memory",
+    );
+    let expected = asked.expected;
+    add_expected(rt, &mut told, " own=", expected.own);
+    add_expected(rt, &mut told, " aborted=", expected.aborted);
+    add_expected(rt, &mut told, " intermediate=", expected.intermediate);
+    add_expected(rt, &mut told, " future=", expected.future);
+    add_expected(rt, &mut told, " stale=", expected.stale);
+    add_expected(rt, &mut told, " overlap=", expected.overlap);
+    told
+}
+
+fn add_expected(rt: &impl Host, told: &mut String, label: &str, expected: Option<u64>) {
+    if let Some(expected) = expected {
+        let text = format!(in rt.alloc(); "{label}{expected}").expect(rt, "memory");
+        told.push_str(text.as_str()).expect(rt, "memory");
+    }
 }
 
 /// What makes a line of progress go away.
@@ -225,6 +252,10 @@ const ASKED: &str = "
     check --expect 3 --every 2 --new | 4 2 plain new expects 3 |
     check --progress | 4 - plain shows |
     check --expect 3 --progress a | 4 - plain expects 3 shows | a
+    check --chances | 4 - plain chances |
+    check --expect-own 0 | 4 - plain own=0 |
+    check --expect-aborted 1 --expect-intermediate=2 a | 4 - plain aborted=1 intermediate=2 | a
+    check --expect 7 --expect-overlap 16777216 --chances --expect-stale 4 --expect-future 3 | 4 - plain expects 7 chances future=3 stale=4 overlap=16777216 |
     check -- --progress | 4 - plain | --progress
     check -- --new | 4 - plain | --new";
 

@@ -4,6 +4,7 @@ use super::orders::check_order;
 use super::{Host, PLAIN};
 use si_run::Options;
 use si_scripts::chance::Dice;
+use si_text::{Asked, ExpectedPlaces};
 use std::fmt::Display;
 use std::num::NonZeroU64;
 
@@ -122,7 +123,23 @@ fn options_by(dice: &mut Dice) -> Options {
         explain: dice.below(2) == 0,
         only_new: dice.below(2) == 0,
         expected: expected_by(dice),
+        asked: asked_by(dice),
         ..PLAIN
+    }
+}
+
+/// Something asked of what could have been found, or nothing.
+fn asked_by(dice: &mut Dice) -> Asked {
+    Asked {
+        tells: dice.below(2) == 0,
+        expected: ExpectedPlaces {
+            own: None,
+            aborted: None,
+            intermediate: None,
+            future: expected_by(dice),
+            stale: expected_by(dice),
+            overlap: None,
+        },
     }
 }
 

@@ -11,7 +11,7 @@ use Rattle.si_run.specs.Takings.{IsDecided, IsUndone}
 use Rattle.std.specs.Io.KnownBytes.{Appends}
 use Rattle.si_run.specs.Telling.{ShowsNotes}
 use Rattle.si_run.proofs.Beginnings.{decided_one, end_decided, line_decided}
-use Rattle.si_run.proofs.Shown.{shows_none, shows_on}
+use Rattle.si_run.proofs.Shown.{shows_on}
 use Rattle.si_run.proofs.accepters.decide_all.Goals.{in-Line+in_ok-decide_line-in-Line, in-End}
 use Rattle.si_run.proofs.accepters.decide_all.Goals as goal
 

@@ -7,7 +7,7 @@ use Rattle.si_model.specs.declared.parts.Access.{Access}
 use Rattle.si_model.specs.Operations.{access_of}
 use Rattle.si_shard.specs.AppliedEdits.{change_by}
 use Rattle.si_shard.specs.KeyChanges.{CanChange}
-use Rattle.si_shard.specs.KeyStates.{IsChangedAt, IsOn}
+use Rattle.si_shard.specs.KeyStates.{IsChangedAt, IsOn, KeepsNotesOf}
 use Rattle.si_shard.specs.SingleEdits.{AreHashed, IsKeyAt, KeyPlace}
 use Rattle.si_shard.proofs.EachKey.{AreMade, can_access, can_make_here, made_all, made_on, made_past, none_made, placed}
 use Rattle.si_shard.proofs.single_edits.make_many.Goals as goal
@@ -26,6 +26,7 @@ loop-index-init c = (
   c.in_ok-list.ensures,
   subst (λ ys. AreMade c.args.id c.args.ops.now c.args.head c.args.edit.now c.in_ok-list.list.items c.in_ok-list.ensures 0 ys c.args.keys.now c.args.keys.now) (sym c.new-accesses.ensures)
       (none_made c.args.id c.args.ops.now c.args.head c.args.edit.now c.in_ok-list.list.items c.in_ok-list.ensures c.args.keys.now),
+  λ found were. were,
 )
 
 pub access_at-requires : goal.access_at-requires
@@ -77,7 +78,8 @@ loop-index-preserved c =
             subst (λ ys. AreMade id ops h e list w.0 (i + 1) ys old c.if-not-is_at.keys) (sym (x.accesses-is ∙ x.replace-all.ensures.after ∙ x.new.ensures))
                 (subst (AreMade id ops h e list w.0 (i + 1) [] old) (sym x.keys-is)
                 (made_on id ops h e list w.0 i d at p c.access_at.ensures.1 hand old mid w.1 last x.make_here.new.keys
-                (subst (λ g. IsChangedAt d.1.now g mid x.make_here.new.keys) (ap (change_by h e) all) x.in_ok-make_here.ensures))),
+                (subst (λ g. IsChangedAt d.1.now g mid x.make_here.new.keys) (ap (change_by h e) all) x.in_ok-make_here.ensures.made))),
+            subst (KeepsNotesOf old) (sym x.keys-is) (λ found were. x.in_ok-make_here.ensures.noted found (w.2 found were)),
           )
       | else-not-is_at x ↦
           let next : IsKeyAt list (i + 1) d.1.now = subst (λ l. IsKeyAt l (i + 1) d.1.now) c.deref-in-loop-index.ensures.value (c.is_at.ensures.0 (let yes = x.if-not-is_at.false in cc)) in
@@ -86,11 +88,12 @@ loop-index-preserved c =
             subst (λ ys. AreMade id ops h e list w.0 (i + 1) ys old c.if-not-is_at.keys) (sym all)
                 (subst (AreMade id ops h e list w.0 (i + 1) _ old) (sym x.keys-is)
                 (made_past id ops h e list w.0 i d at p c.access_at.ensures.1 hand old mid w.1 next)),
+            subst (KeepsNotesOf old) (sym x.keys-is) w.2,
           )
     ]
 
-pub returns : goal.returns
-returns c =
+pub returns-clause-made : goal.returns-clause-made
+returns-clause-made c =
     let w = c.loop-index.invariant in
     let end : length c.in_ok-list.list.items ≤ c.loop-index.index = subst (λ n. n ≤ c.loop-index.index) (c.len-index-end.ensures ∙ c.in_ok-list.list.ok.0) c.loop-index-test.false in
     made_all c.args.id c.args.ops.now c.args.head c.in_ok-list.list.items w.0 c.args.edit.now c.requires.other c.loop-index.index end c.loop-index.accesses c.args.keys.now c.loop-index.keys w.1

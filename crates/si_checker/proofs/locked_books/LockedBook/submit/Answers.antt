@@ -1,8 +1,8 @@
-use Rattle.std.proofs.Common.{◌≡◌, [], ◌∷◌, ◌++◌, All, IfSome, arith, rules, subst}
+use Rattle.std.proofs.Common.{◌≡◌, [], ◌∷◌, ◌++◌, All, arith, rules, subst}
 use Rattle.std.proofs.lemmas.Grind.{common_steps}
 use Rattle.si_words.specs.Entries.{edits_of}
-use Rattle.si_checker.specs.Blocks.{IsBlockOf, IsPartOf}
-use Rattle.si_checker.proofs.Covering.{parts_longer, rest_longer}
+use Rattle.si_checker.specs.Blocks.{IsBlockOf}
+use Rattle.si_checker.proofs.Covering.{parts_longer}
 use Rattle.si_checker.proofs.locked_books.LockedBook.submit.Goals as goal
 
 -- the journal has one edit more, and what was a part of it is one still
@@ -23,5 +23,4 @@ invariant_of-self c = λ s.
       room = grind (arith, common_steps);
       few = kept.few;
       parts = subst (λ j. All (IsBlockOf j) inside.blocks.items) grown (parts_longer old more inside.blocks.items kept.parts);
-      rest = subst (λ j. IfSome inside.left (IsPartOf j)) grown (rest_longer old more inside.left kept.rest);
     }

@@ -2,19 +2,19 @@ use Rattle.std.proofs.Common.{rules, ◌≡◌, ◌∙◌, ◌<◌, length, refl
 use Rattle.std.proofs.lemmas.Option.{slice_get-get_or}
 use Rattle.si_core.specs.declared.steps.Reply.TheVariants as reply
 use Rattle.si_core.specs.Machine.{AppliesUntil, no_shard}
-use Rattle.si_core.specs.Worlds.{AppliesAll, IsShardOf, machine_of}
-use Rattle.si_core.proofs.AllLeft.{applies_all, idle_is_other, world_settled}
-use Rattle.si_core.proofs.Progressing.{beyond_all, own_count}
+use Rattle.si_core.specs.Worlds.{machine_of}
+use Rattle.si_core.proofs.AllLeft.{applies_all, idle_is_other}
+use Rattle.si_core.proofs.Progressing.{beyond_all, own_count, world_still}
 use Rattle.si_core.proofs.worlds.World.apply_all.Goals as goal
 
-pub apply_left-requires-clause-shard : goal.apply_left-requires-clause-shard
-apply_left-requires-clause-shard c =
+pub apply_left-requires : goal.apply_left-requires
+apply_left-requires c =
     let shards = c.self.inside.shards.items in
     let k = c.args.shard in
     let s = c.index_mut.result.now in
     let within : k < length shards = search rules in
     let at : slice_get shards k ≡ Some s = slice_get-get_or shards k s within ∙ ap Some (sym c.index_mut.ensures.value) in
-    subst (λ J. IsShardOf J s.id.shards k s) (sym c.journal.ensures.journal) (own_count c.self.inside.book.journal _ k s (c.self.invariant.each k s at))
+    own_count c.self.inside.book.journal _ k s (c.self.invariant.each k s at)
 
 pub invariant_of-self : goal.invariant_of-self
 invariant_of-self c =
@@ -23,8 +23,7 @@ invariant_of-self c =
     let s = c.index_mut.result.now in
     let within : k < length shards = search rules in
     let at : slice_get shards k ≡ Some s = slice_get-get_or shards k s within ∙ ap Some (sym c.index_mut.ensures.value) in
-    let step = subst (λ J. AppliesAll J k s c.apply_left.result c.apply_left.new.shard) c.journal.ensures.journal c.apply_left.ensures in
-    world_settled c.self.inside.book shards k s c.apply_left.new.shard at c.apply_left.result step c.self.invariant
+    world_still c.self.inside.book shards k s c.apply_left.new.shard at c.apply_left.ensures.0 c.self.invariant
 
 pub returns : goal.returns
 returns c =
@@ -33,9 +32,8 @@ returns c =
     let s = c.index_mut.result.now in
     let within : k < length shards = search rules in
     let at : slice_get shards k ≡ Some s = slice_get-get_or shards k s within ∙ ap Some (sym c.index_mut.ensures.value) in
-    let step = subst (λ J. AppliesAll J k s c.apply_left.result c.apply_left.new.shard) c.journal.ensures.journal c.apply_left.ensures in
     subst (λ M. AppliesUntil M k c.apply_left.result (machine_of c.self.inside.book (slice_set shards k c.apply_left.new.shard))) c.self.view_is
-    (applies_all c.self.inside.book shards k s c.apply_left.new.shard at c.apply_left.result step)
+    (applies_all c.self.inside.book shards k s c.apply_left.new.shard at c.apply_left.result c.apply_left.ensures)
 
 pub returns-then-shard-len : goal.returns-then-shard-len
 returns-then-shard-len c = (

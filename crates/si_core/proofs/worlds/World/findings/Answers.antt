@@ -3,10 +3,10 @@ use Rattle.std.specs.List.{Contains}
 use Rattle.si_model.specs.Findings.{findings}
 use Rattle.si_model.specs.Journals.{IsAccepted, present}
 use Rattle.si_model.proofs.PresentHistories.{present_history}
-use Rattle.si_shard.specs.Shards.{ShardState}
+use Rattle.si_shard.specs.declared.journal_shards.JournalShard.{JournalShard}
 use Rattle.si_core.specs.Machine.{IsLeastPosition, IsLeastSpoiled, IsSettled, Machine}
-use Rattle.si_core.specs.Worlds.{AreFoundOf, IsFirstSpoiled, IsLeastOf}
-use Rattle.si_core.proofs.Settled.{found_of_journal, is_settled, least_spoiled, least_unsettled}
+use Rattle.si_core.specs.Worlds.{AllFollow, AreFoundOf, IsFirstSpoiled, IsLeastOf}
+use Rattle.si_core.proofs.Settled.{all_follow, found_of_journal, is_settled, least_spoiled, least_unsettled}
 use Rattle.si_core.proofs.worlds.World.findings.Goals as goal
 
 pub returns-in-Some-clause-fault : goal.returns-in-Some-clause-fault
@@ -18,7 +18,7 @@ returns-in-Some-clause-fault c =
 pub returns-then-position-journal-clause-fault : goal.returns-then-position-journal-clause-fault
 returns-then-position-journal-clause-fault c =
     let n = c.least_position-position.result in
-    let whole = subst (λ l. (s : ShardState) → Contains l s → s.spoiled ≡ false) c.as_slice.ensures.value c.in_default.ensures in
+    let whole = subst (λ l. (s : JournalShard) → Contains l s → s.spoiled ≡ false) c.as_slice.ensures.value c.in_default.ensures in
     let least = subst (λ l. IsLeastOf l n) c.as_slice-2.ensures.value c.least_position-position.ensures in
     let left = subst (λ J. n < length J) c.journal-journal.ensures.journal c.if-position-journal.true in
     subst (λ M. IsLeastPosition M n) c.self.view_is (least_unsettled c.self.inside.book c.self.inside.shards.items n whole least left)
@@ -29,10 +29,15 @@ findings_of-requires-clause-some c = subst (λ l. 1 ≤ length l) (sym c.as_slic
 pub findings_of-requires-clause-whole : goal.findings_of-requires-clause-whole
 findings_of-requires-clause-whole c = λ s at. c.in_default.ensures s (subst (λ l. Contains l s) (c.as_slice-3.ensures.value ∙ sym c.as_slice.ensures.value) at)
 
+pub findings_of-requires-clause-follow : goal.findings_of-requires-clause-follow
+findings_of-requires-clause-follow c =
+    let book = c.self.inside.book in
+    (book.journal, c.journal-journal.ensures.accepted, subst (AllFollow book.journal) (sym c.as_slice-3.ensures.value) (all_follow book c.self.inside.shards.items c.self.invariant))
+
 pub returns-in_default-findings_of-clause-fault : goal.returns-in_default-findings_of-clause-fault
 returns-in_default-findings_of-clause-fault c =
     let n = c.least_position-position.result in
-    let whole = subst (λ l. (s : ShardState) → Contains l s → s.spoiled ≡ false) c.as_slice.ensures.value c.in_default.ensures in
+    let whole = subst (λ l. (s : JournalShard) → Contains l s → s.spoiled ≡ false) c.as_slice.ensures.value c.in_default.ensures in
     let least = subst (λ l. IsLeastOf l n) c.as_slice-2.ensures.value c.least_position-position.ensures in
     let all = subst (λ J. length J ≤ n) c.journal-journal.ensures.journal c.if-position-journal.false in
     subst IsSettled c.self.view_is (is_settled c.self.inside.book c.self.inside.shards.items c.self.invariant n least all whole)
@@ -45,8 +50,9 @@ found_is c =
     let least = subst (λ l. IsLeastOf l n) c.as_slice-2.ensures.value c.least_position-position.ensures in
     let all = subst (λ J. length J ≤ n) c.journal-journal.ensures.journal c.if-position-journal.false in
     let P = present book.journal in
-    c.in-Ok.ensures P (present_history book.journal c.journal-journal.ensures.accepted)
-    (subst (AreFoundOf P) (sym c.as_slice-3.ensures.value) (found_of_journal book shards c.self.invariant n least all))
+    c.in-Ok.ensures book.journal P c.journal-journal.ensures.accepted (subst (AllFollow book.journal) (sym c.as_slice-3.ensures.value) (all_follow book shards c.self.invariant))
+    (present_history book.journal c.journal-journal.ensures.accepted)
+    (subst (AreFoundOf book.journal P) (sym c.as_slice-3.ensures.value) (found_of_journal book shards c.self.invariant n least all))
     ∙ ap (λ (M : Machine). findings (present M.journal)) c.self.view_is
 
 pub returns-clause-found : goal.returns-clause-found
@@ -67,7 +73,7 @@ returns-clause-snapshot c =
 pub returns-clause-settled : goal.returns-clause-settled
 returns-clause-settled c =
     let n = c.least_position-position.result in
-    let whole = subst (λ l. (s : ShardState) → Contains l s → s.spoiled ≡ false) c.as_slice.ensures.value c.in_default.ensures in
+    let whole = subst (λ l. (s : JournalShard) → Contains l s → s.spoiled ≡ false) c.as_slice.ensures.value c.in_default.ensures in
     let least = subst (λ l. IsLeastOf l n) c.as_slice-2.ensures.value c.least_position-position.ensures in
     let all = subst (λ J. length J ≤ n) c.journal-journal.ensures.journal c.if-position-journal.false in
     subst IsSettled c.self.view_is (is_settled c.self.inside.book c.self.inside.shards.items c.self.invariant n least all whole)

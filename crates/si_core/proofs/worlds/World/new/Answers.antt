@@ -1,22 +1,24 @@
-use Rattle.std.proofs.Common.{◌≡◌, ◌∙◌, ◌++◌, ◌∷◌, [], sym, ap, subst, arith}
-use Rattle.si_core.specs.Worlds.{IsWorld, machine_of}
-use Rattle.si_core.proofs.Opening.{fresh, fresh_shards, none_fresh, one_more_fresh, opened_world, opens}
+use Rattle.std.proofs.Common.{◌≡◌, ◌+◌, sym, subst, arith}
+use Rattle.si_core.proofs.Opening.{AreFresh, none_fresh, one_more_fresh, opened_world, opens}
 use Rattle.si_core.proofs.worlds.World.new.Goals as goal
 
 pub loop-shard-init : goal.loop-shard-init
-loop-shard-init c = c.new-all.ensures.items ∙ sym (none_fresh c.args.shards)
+loop-shard-init c = none_fresh c.args.shards c.new-all.result.items c.new-all.ensures.items
 
 pub loop-shard-preserved : goal.loop-shard-preserved
 loop-shard-preserved c =
-    c.in_ok-push.ensures.items ∙ ap (λ s. c.loop-shard.all.items ++ s ∷ []) c.new.ensures ∙ ap (λ l. l ++ fresh c.args.shards c.loop-shard.shard ∷ []) c.loop-shard.invariant ∙ sym (one_more_fresh c.args.shards c.loop-shard.shard)
+    let n = c.args.shards in
+    let k = c.loop-shard.shard in
+    subst (AreFresh n (k + 1)) (sym c.in_ok-push.ensures.items) (one_more_fresh n k c.loop-shard.all.items c.new.result c.loop-shard.invariant (record { state = c.new.ensures.state; follows = c.new.ensures.follows }))
 
 pub invariant_of-result : goal.invariant_of-result
 invariant_of-result c =
-    let all : c.loop-shard.shard ≡ c.args.shards = (let e = c.loop-shard.auto.shard-end in let t = c.loop-shard-test.false in omega arith) in
-    subst (IsWorld c.new-2.result) (ap (fresh_shards c.args.shards) (sym all) ∙ sym c.loop-shard.invariant) (opened_world c.new-2.result c.args.shards c.requires.some_shards c.requires.most_shards)
+    let n = c.args.shards in
+    let all : c.loop-shard.shard ≡ n = (let e = c.loop-shard.auto.shard-end in let t = c.loop-shard-test.false in omega arith) in
+    opened_world n c.args.limit c.loop-shard.all.items (subst (λ k. AreFresh n k c.loop-shard.all.items) all c.loop-shard.invariant) c.new-2.result c.requires.some_shards c.requires.most_shards
 
 pub returns : goal.returns
 returns c =
-    let all : c.loop-shard.shard ≡ c.args.shards = (let e = c.loop-shard.auto.shard-end in let t = c.loop-shard-test.false in omega arith) in
-    ap (λ b. machine_of b c.loop-shard.all.items) c.new-2.ensures ∙ ap (machine_of (record { limit = c.args.limit; journal = [] })) (c.loop-shard.invariant ∙ ap (fresh_shards c.args.shards) all)
-    ∙ opens c.args.shards c.args.limit
+    let n = c.args.shards in
+    let all : c.loop-shard.shard ≡ n = (let e = c.loop-shard.auto.shard-end in let t = c.loop-shard-test.false in omega arith) in
+    opens n c.args.limit c.loop-shard.all.items (subst (λ k. AreFresh n k c.loop-shard.all.items) all c.loop-shard.invariant) c.new-2.result c.new-2.ensures

@@ -1,12 +1,12 @@
 use Rattle.std.proofs.Common.{rules, ◌≡◌, ◌∙◌, ◌<◌, ◌≤◌, ℕ, List, length, map, sym, ap, Some, Option, option_map, slice_get}
 use Rattle.std.proofs.lemmas.Option.{slice_get-get_or, slice_get-map, slice_get_past}
-use Rattle.si_shard.specs.Shards.{ShardState}
+use Rattle.si_shard.specs.declared.journal_shards.JournalShard.{JournalShard}
 use Rattle.si_core.specs.Machine.{Machine, Progress}
 use Rattle.si_core.specs.Worlds.{progress_of}
 use Rattle.si_core.proofs.worlds.World.position.Goals as goal
 
 -- what is told of a shard of a machine, by what is found in the list of its shards
-told : (M : Machine) (shards : List ShardState) (k : ℕ) (s : Option ShardState) → M.shards ≡ map progress_of shards → slice_get shards k ≡ s
+told : (M : Machine) (shards : List JournalShard) (k : ℕ) (s : Option JournalShard) → M.shards ≡ map progress_of shards → slice_get shards k ≡ s
     → option_map (λ (p : Progress). p.position) (slice_get M.shards k) ≡ option_map (λ (p : Progress). p.position) (option_map progress_of s)
 told M shards k s is at = ap (option_map (λ (p : Progress). p.position)) (ap (λ l. slice_get l k) is ∙ slice_get-map progress_of shards k ∙ ap (option_map progress_of) at)
 

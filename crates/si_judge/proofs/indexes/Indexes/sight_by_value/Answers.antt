@@ -6,8 +6,8 @@ use Rattle.si_model.specs.Reads.{missed_of, version_of}
 use Rattle.si_judge.specs.Sights.{source_in}
 use Rattle.si_judge.proofs.indexes.Indexes.sight_by_value.Goals as goal
 
-pub returns : goal.returns
-returns c = λ M is.
+pub returns-clause-seen : goal.returns-clause-seen
+returns-clause-seen c = λ M is.
     let p = c.args.read in
     let ix = c.args.self.now in
     let from : c.source_of-source.result ≡ source_in ix p.0.value = c.source_of-source.ensures

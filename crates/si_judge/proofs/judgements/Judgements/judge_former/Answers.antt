@@ -1,5 +1,5 @@
 use Rattle.std.proofs.Common.{◌∙◌, Some, ap, ap₂}
-use Rattle.std.specs.BTreeMap.{get}
+use Rattle.si_sorted.specs.Entries.{value_at}
 use Rattle.si_model.specs.Findings.{overlap_with}
 use Rattle.si_timeline.specs.Timelines.{Dated}
 use Rattle.si_judge.specs.Mending.{stamp_cmp, with_kind}
@@ -12,7 +12,7 @@ returns-in_ok-judge_neighbours-clause-overlaps g c = λ M is.
     let ix = c.args.indexes.now in
     let b : Dated = (c.in-Some.former, c.in-Some.first) in
     let d : Dated = (c.args.commit, c.args.version) in
-    let old = get stamp_cmp c.args.self.now.overlaps in
+    let old = value_at stamp_cmp c.args.self.now.overlaps in
     let near = c.in-Some.ensures in
     let next = ap Some c.installer.ensures ∙ former_then ix is b d near c.requires in (
       Some b,

@@ -23,7 +23,7 @@ returns-clause-ok g c =
     let old = found_by g.J.Judge.answers c.self.inside.judgements in
     let new = found_by g.J.Judge.answers c.add.new.judgements in
     subst (λ s. (M R : OnKey) → Shows J M s → IsOfHistory (arrived_on T M) → AreSameOnKey (arrived_on T M) R → IsOfHistory R → IsShown J (IsTouched M R T.id) R s
-    (record { key = c.self.inside.key; indexes = c.add.new.indexes; reads = m.reads.entries; overlaps = m.overlaps.entries; judged = new.answers })) c.self.view_is
+    (record { key = c.self.inside.key; indexes = c.add.new.indexes; reads = m.reads; overlaps = m.overlaps; judged = new.answers; marks = c.self.inside.marks; notes = m.notes })) c.self.view_is
     (λ M R shows arrives same history.
     let joins = joined_same T M (arrived_on T M) R (arrival_joins T M arrives) same in
     let is = c.in_ok-add.ensures.indexes M R shows.indexes joins history in

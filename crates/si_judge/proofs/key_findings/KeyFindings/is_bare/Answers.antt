@@ -1,11 +1,5 @@
-use Rattle.std.proofs.Common.{◌↔◌, IsTrue, subst}
-use Rattle.si_model.specs.declared.parts.OnKey.{OnKey}
-use Rattle.si_judge.specs.Kept.{IsBare, Shows}
-use Rattle.si_judge.proofs.Bare.{bare_from, bare_is}
+use Rattle.si_judge.proofs.Waitings.{would_show}
 use Rattle.si_judge.proofs.key_findings.KeyFindings.is_bare.Goals as goal
 
 pub returns : goal.returns
-returns g c = subst (λ s. (M : OnKey) → Shows g.J.Judge.rules M s → IsTrue c.is_empty.result ↔ IsBare M) c.self.view_is (λ M shows. (
-  (λ t. let e = c.is_empty.ensures.0 t in bare_from c.self.inside.indexes shows.indexes e.0 e.1 e.2 e.3),
-  (λ bare. c.is_empty.ensures.1 (bare_is c.self.inside.indexes shows.indexes bare)),
-))
+returns g c = λ M shows. c.has_nothing.ensures M (would_show g.J.Judge.rules M c.args.self.now shows)

@@ -41,7 +41,7 @@ returns-clause-ok g c =
     let old = found_by g.J.Judge.answers c.self.inside.judgements in
     let new = found_by g.J.Judge.answers m in
     subst (λ s. (M R : OnKey) → Shows J M s → IsInDoubt T M → AreSameOnKey (resolved_on T.id o M) R → IsOfHistory R → IsShown J (IsTouched M R T.id) R s
-    (record { key = c.self.inside.key; indexes = new_ix; reads = m.reads.entries; overlaps = m.overlaps.entries; judged = new.answers })) c.self.view_is
+    (record { key = c.self.inside.key; indexes = new_ix; reads = m.reads; overlaps = m.overlaps; judged = new.answers; marks = c.self.inside.marks; notes = m.notes })) c.self.view_is
     (λ M R shows doubt same history.
     let before = shows.indexes.history in
     let rest = withdrawn_on T.id M in

@@ -1,5 +1,5 @@
 use Rattle.std.proofs.Common.{◌≡◌, ◌∙◌, ◌++◌, None, Some, ap, length, subst}
-use Rattle.std.specs.BTreeMap.{get}
+use Rattle.si_sorted.specs.Entries.{value_at}
 use Rattle.si_model.specs.declared.numbers.Stamp.{Stamp}
 use Rattle.si_model.specs.declared.parts.OnKey.{OnKey}
 use Rattle.si_model.specs.KeyEdits.{set_up_on}
@@ -27,11 +27,11 @@ returns-clause-ok g c =
     let old = found_by g.J.Judge.answers c.self.inside.judgements in
     let new = found_by g.J.Judge.answers m in
     subst (λ s. (M : OnKey) → Shows J M s → M.initial ≡ None → IsOfHistory (set_up_on v M) → IsShown J (IsTouchedBySetUp (set_up_on v M) v) (set_up_on v M) s
-    (record { key = c.self.inside.key; indexes = set_up_in v ix; reads = m.reads.entries; overlaps = m.overlaps.entries; judged = new.answers })) c.self.view_is
+    (record { key = c.self.inside.key; indexes = set_up_in v ix; reads = m.reads; overlaps = m.overlaps; judged = new.answers; marks = c.self.inside.marks; notes = m.notes })) c.self.view_is
     (λ M shows unset history.
     let is = indexes_set_up v ix shows.indexes history in
     let judged = subst (λ l. AreReadsJudged J (set_up_on v M) (set_up_in v ix) l old.reads new.reads) (reads_are g c) (c.in_ok-judge_reads.ensures.reads (set_up_on v M) is) in
-    let same = λ (d : Stamp). ap (λ m. get stamp_cmp m d) c.in_ok-judge_reads.ensures.overlaps in
+    let same = λ (d : Stamp). ap (λ m. value_at stamp_cmp m d) c.in_ok-judge_reads.ensures.overlaps in
     let counted = subst (λ l. new.answers ≡ risen old.answers (length l)) (reads_are g c) c.in_ok-judge_reads.ensures.counted in
     record {
       shows = record { indexes = is; right = right_set_up J ix shows.indexes v unset history old new shows.right judged same counted };

@@ -25,7 +25,7 @@ returns-clause-ok g c =
     let old = found_by g.J.Judge.answers c.self.inside.judgements in
     let new = found_by g.J.Judge.answers c.drop_out.new.judgements in
     subst (λ s. (M R : OnKey) → Shows J M s → Contains M.parts T → AreSameOnKey (withdrawn_on T.id M) R → IsOfHistory R → IsShown J (IsTouched M R T.id) R s
-    (record { key = c.self.inside.key; indexes = ix; reads = m.reads.entries; overlaps = m.overlaps.entries; judged = new.answers })) c.self.view_is
+    (record { key = c.self.inside.key; indexes = ix; reads = m.reads; overlaps = m.overlaps; judged = new.answers; marks = c.self.inside.marks; notes = m.notes })) c.self.view_is
     (λ M R shows there same history.
     let joins = left_same T (withdrawn_on T.id M) R M (withdrawal_joins T M shows.indexes.history there) same in
     let is = c.in_ok-taken.ensures.indexes M R shows.indexes joins history in

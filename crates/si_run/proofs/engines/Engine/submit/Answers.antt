@@ -1,4 +1,4 @@
-use Rattle.std.proofs.Common.{rules, ◌≡◌, List, Option, Some, None, sym, ap, subst, ◌∙◌}
+use Rattle.std.proofs.Common.{rules, ◌≡◌, refl, List, Option, Some, None, sym, ap, subst, ◌∙◌}
 use Rattle.std.specs.Option.{option_map}
 use Rattle.si_model.specs.declared.refusals.Refusal.{Refusal}
 use Rattle.si_model.specs.Journals.{refusal_after}
@@ -6,7 +6,8 @@ use Rattle.si_text.specs.declared.reasons.Reason.TheVariants as reason
 use Rattle.si_words.specs.declared.views.Entry.{Entry}
 use Rattle.si_words.specs.Entries.{edits_of}
 use Rattle.si_run.specs.Engines.{EngineState}
-use Rattle.si_run.proofs.Lone.{free, journal_grown, journal_still, state_after, still}
+use Rattle.si_checker.specs.Calls.{issuing}
+use Rattle.si_run.proofs.Lone.{engine_after, free, journal_grown, journal_still, state_after, still}
 use Rattle.si_run.proofs.engines.Engine.submit.Goals.{in-Ok, in-Err-Refused, in-Err-OutOfMemory}
 use Rattle.si_run.proofs.engines.Engine.submit.Goals as goal
 
@@ -39,12 +40,23 @@ returns-clause-ok g c =
     let law = c.lone_pass_issues_all.ensures in
     let own = c.self.invariant in
     elim c.match-submit.branch [
-      | in-Ok w ↦ rw w.result-is (state_after _ old.view new.view _ _ _ c.args.self.now c.args.edit c.self.view_is
+      | in-Ok w ↦ rw w.result-is (state_after _ old.view new.view _ _ c.self.inside.told c.args.self.now c.args.edit c.self.view_is own.told.within
           (journal_grown g.N.Name.limit board c.args.edit old new c.edits_append.ensures law own.alone own.number own.own w.in-Ok.ensures.ok w.in-Ok.ensures.submitted))
       | in-Err-Refused w ↦ (
           let fault : refusal_after g.N.Name.limit (edits_of new.view.seen) c.args.edit ≡ Some w.in-Err-Refused.refusal = search rules in
-          rw w.result-is (state_after _ old.view new.view _ _ _ c.args.self.now c.args.edit c.self.view_is
+          rw w.result-is (state_after _ old.view new.view _ _ c.self.inside.told c.args.self.now c.args.edit c.self.view_is own.told.within
           (journal_still g.N.Name.limit board c.args.edit w.in-Err-Refused.refusal old new law own.alone own.number own.own w.in-Err-Refused.ensures.err fault))
           )
       | in-Err-OutOfMemory w ↦ rw w.result-is tt
+    ]
+
+pub invariant_of-self : goal.invariant_of-self
+invariant_of-self g c =
+    let old = c.self.inside.pass in
+    let new = c.submit.new.pass in
+    let law = c.lone_pass_issues_all.ensures in
+    elim c.match-submit.branch [
+      | in-Ok w ↦ engine_after g.N.Name.board old (issuing c.args.edit old) new c.self.inside.decided c.self.inside.refused c.self.inside.told law c.self.invariant refl refl refl w.in-Ok.ensures.ok
+      | in-Err-Refused w ↦ engine_after g.N.Name.board old old new c.self.inside.decided c.self.inside.refused c.self.inside.told law c.self.invariant refl refl refl w.in-Err-Refused.ensures.err
+      | in-Err-OutOfMemory w ↦ engine_after g.N.Name.board old old new c.self.inside.decided c.self.inside.refused c.self.inside.told law c.self.invariant refl refl refl w.in-Err-OutOfMemory.ensures.err
     ]

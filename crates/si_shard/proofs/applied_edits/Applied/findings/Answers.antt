@@ -4,4 +4,4 @@ use Rattle.si_shard.proofs.applied_edits.Applied.findings.Goals as goal
 
 pub returns : goal.returns
 returns c = λ id edits accepted sound.
-    c.in_ok-found.ensures.found (on_shard id edits) (shard_on id edits c.args.self.now sound) ∙ shard_findings id edits c.args.self.now accepted sound c.in_ok-found.ensures.ordered
+    c.in_ok-found.ensures.found (on_shard id edits) (shard_on id edits c.args.self.now sound.applied) ∙ shard_findings id edits c.args.self.now accepted sound c.in_ok-found.ensures.ordered

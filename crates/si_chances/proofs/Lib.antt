@@ -1,0 +1,10 @@
+pub mod InOrder
+pub mod Walking
+pub mod Sums
+pub mod Returned
+pub mod Spanning
+pub mod Beside
+pub mod EachKind
+pub mod ByKey
+pub mod Regrouped
+pub mod Totals

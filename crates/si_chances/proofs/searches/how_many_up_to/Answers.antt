@@ -1,0 +1,11 @@
+use Rattle.std.proofs.Common.{leb, rules}
+use Rattle.std.proofs.lemmas.List.Sorted.{IsNonDecreasingBy-from_sort, IsPartitionPoint-from_clause, IsPartitionedBy-leb}
+use Rattle.si_chances.proofs.InOrder.{count_point}
+use Rattle.si_chances.proofs.searches.how_many_up_to.Goals as goal
+
+pub returns : goal.returns
+returns c =
+    let xs = c.args.sorted.now in
+    count_point (λ m. leb m c.args.n) xs c.partition_point.result c.partition_point.ensures.bound
+    (IsPartitionPoint-from_clause (λ m. leb m c.args.n) xs c.partition_point.result c.partition_point.ensures.partitioned
+    (IsPartitionedBy-leb (λ m. m) xs c.args.n (IsNonDecreasingBy-from_sort (λ m. m) xs c.requires)) (λ a r f h. search rules))

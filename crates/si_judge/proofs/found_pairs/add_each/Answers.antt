@@ -1,0 +1,9 @@
+use Rattle.std.proofs.Common.{Some, ap}
+use Rattle.si_model.specs.Findings.{finding_at}
+use Rattle.si_judge.specs.Found.{overlap_in}
+use Rattle.si_judge.proofs.FoundLists.{told_added}
+use Rattle.si_judge.proofs.found_pairs.add_each.Goals as goal
+
+pub loop-entry-preserved : goal.loop-entry-preserved
+loop-entry-preserved c = told_added overlap_in (finding_at c.args.key.now) c.args.entries.now c.loop-entry.entry-index _ c.loop-entry-test.true c.args.found.now.items c.loop-entry.found.items c.add_one.new.found.items
+    (Some c.overlap_of.result) c.loop-entry.invariant (ap Some c.overlap_of.ensures) c.in_ok-add_one.ensures

@@ -1,0 +1,33 @@
+use Rattle.std.proofs.Common.{subst, sym}
+use Rattle.std.specs.List.{Contains}
+use Rattle.si_model.specs.declared.parts.OnKey.{OnKey}
+use Rattle.si_model.specs.KeyEdits.{withdrawn_on}
+use Rattle.si_model.specs.History.{IsOfHistory}
+use Rattle.si_judge.specs.Kept.{WouldShow}
+use Rattle.si_judge.specs.Mending.{found_by}
+use Rattle.si_judge.specs.States.{AreSameOnKey}
+use Rattle.si_judge.proofs.Asked.{left_same, withdrawal_joins}
+use Rattle.si_judge.proofs.Waitings.{withdrawn_later}
+use Rattle.si_judge.proofs.key_findings.KeyFindings.withdraw_later.Goals as goal
+
+pub take_out-requires : goal.take_out-requires
+take_out-requires g c =
+    let asked = subst (λ s. (M : OnKey) × WouldShow g.J.Judge.rules M s × Contains M.parts c.args.part.now) (sym c.self.view_is) c.requires in
+    (asked.0, asked.1.indexes, asked.2)
+
+pub returns-clause-ok : goal.returns-clause-ok
+returns-clause-ok g c =
+    let J = g.J.Judge.rules in
+    let T = c.args.part.now in
+    let ix = c.take_out.new.self in
+    let m = c.drop_later.new.judgements in
+    let more = c.drop_later.new.marks in
+    let old = found_by g.J.Judge.answers c.self.inside.judgements in
+    let new = found_by g.J.Judge.answers m in
+    subst (λ s. (M R : OnKey) → WouldShow J M s → Contains M.parts T → AreSameOnKey (withdrawn_on T.id M) R → IsOfHistory R → WouldShow J R
+    (record { key = c.self.inside.key; indexes = ix; reads = m.reads; overlaps = m.overlaps; judged = new.answers; marks = more; notes = m.notes })) c.self.view_is
+    (λ M R would there same history.
+    let joins = left_same T (withdrawn_on T.id M) R M (withdrawal_joins T M would.indexes.history there) same in
+    let is = c.in_ok-gone.ensures.indexes M R would.indexes joins history in
+    let waits = withdrawn_later J ix T M old new c.self.inside.marks more is would.indexes.history joins would.reads would.overlaps (c.in_ok-drop_later.ensures.judged R is) in
+    record { indexes = is; reads = waits.reads; overlaps = waits.overlaps })
