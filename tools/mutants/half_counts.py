@@ -10,6 +10,9 @@ from . import edits
 NEED_WHOLE = {
     "si_checker::checkers::Checker::shard_report",
     "si_cli::command_lines::parse",
+    "si_shard::applied_edits::Applied::apply_between",
+    "si_shard::shards::store",
+    "si_text::endings::put_few_lines",
 }
 # Which crates were as they are when --halves passed.
 STAMP = "tools/halves"
