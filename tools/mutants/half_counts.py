@@ -10,6 +10,8 @@ from . import edits
 NEED_WHOLE = {
     "si_checker::checkers::Checker::shard_report",
     "si_cli::command_lines::parse",
+    "si_evidence::judges::judge_answer",
+    "si_evidence::logs::read_log",
     "si_shard::applied_edits::Applied::apply_between",
     "si_shard::shards::store",
     "si_text::endings::put_few_lines",
