@@ -1,6 +1,6 @@
 """Tests what the built program does at its ends: help, the version, each fault with its line and status but 'options out of
-range', which no command line leads to, names and lines at their limits, and a refused line that is written before the
-next one comes."""
+range', which no command line leads to, names and lines at their limits, what horizons forget, and a refused line that is
+written before the next one comes."""
 
 import os
 import select
@@ -319,6 +319,141 @@ class Lines(ProgramTest):
             program.stdin.close()
             self.assertEqual(self.read_line(program), summary(refused=2), "after the last line")
             self.assertEqual(program.wait(60), 10)
+
+
+def txn(id, start, outcome, ops=""):
+    """The line of a transaction, which committed at a stamp or has that status."""
+    ended = f'"committed","commit":{outcome}' if isinstance(outcome, int) else f'"{outcome}"'
+    return f'{{"do":"txn","id":{id},"start":{start},"status":{ended},"ops":[{ops}]}}'
+
+
+def forget(before):
+    return f'{{"do":"forget","before":{before}}}'
+
+
+SETUP = '{"do":"setup","key":"y","value":7}'
+
+
+class Horizons(ProgramTest):
+    """What is forgotten, what is final, and what a horizon refuses: each answer is worked out from docs/FORMAT.md."""
+
+    def assert_tells(self, lines, status, *told, words=("--horizons",)):
+        (self.work / "log").write_text("".join(f"{it}\n" for it in lines))
+        self.assert_ends(["check", *words, self.work / "log"], status, "".join(f"{it}\n" for it in told))
+
+    def test_aborted_read_stays_a_violation(self):
+        """The writer is gone, so the reader's value is unknown; it can't be withdrawn, and when it is gone too, nothing is found at the end."""
+        lines = [txn(1, 1, "aborted", '["w","x",1]'), txn(4, 6, 6, '["r","x",1]'), forget(6), '{"do":"withdraw","id":4}', forget(7), '{"do":"withdraw","id":4}']
+        self.assert_tells(
+            lines, 20,
+            'final aborted key="x" txn=4 op=0 read=1 writer=1',
+            "  G1a reader=4 op=0 writer=1",
+            "forgot before=6 transactions=1 findings=1",
+            "transactions=2 findings=2 refused=0 verdict=violation",
+            "refused source=0 line=4 code=23 reason=settled horizon=6",
+            'final unknown key="x" txn=4 op=0 read=1',
+            "forgot before=7 transactions=2 findings=2",
+            "transactions=2 findings=2 refused=1 verdict=violation",
+            "refused source=0 line=6 code=13 reason=no-such",
+            "forgot before=7 transactions=2 findings=2",
+            "transactions=2 findings=2 refused=2 verdict=violation",
+            words=["--horizons", "--explain"])
+
+    def test_settled_reader_keeps_what_is_unknown(self):
+        self.assert_tells(
+            [txn(1, 1, "aborted", '["w","x",1]'), txn(4, 6, 6, '["r","x",1]'), forget(6), '{"do":"withdraw","id":4}'], 20,
+            'final aborted key="x" txn=4 op=0 read=1 writer=1',
+            "forgot before=6 transactions=1 findings=1",
+            "transactions=2 findings=2 refused=0 verdict=violation",
+            "refused source=0 line=4 code=23 reason=settled horizon=6",
+            'unknown key="x" txn=4 op=0 read=1',
+            "forgot before=6 transactions=1 findings=1",
+            "transactions=2 findings=2 refused=1 verdict=violation")
+
+    def test_reads_over_the_horizon_are_gone(self):
+        """1 started below it and committed there: it read null before 2 committed, and x now has 2's value from before the run."""
+        self.assert_tells(
+            [txn(1, 0, 5, '["r","x",null]'), txn(2, 0, 1, '["w","x",1]'), forget(5), txn(3, 6, 6, '["r","x",1]')], 0,
+            "forgot before=5 transactions=1 findings=0",
+            summary(2).rstrip(),
+            "forgot before=5 transactions=1 findings=0",
+            summary(3).rstrip())
+
+    def test_set_up_comes_late(self):
+        self.assert_tells(
+            [txn(1, 0, 1, '["r","y",null]'), forget(5), SETUP], 10,
+            "forgot before=5 transactions=1 findings=0",
+            summary(1).rstrip(),
+            "refused source=0 line=3 code=24 reason=set-up-late horizon=5",
+            "forgot before=5 transactions=1 findings=0",
+            summary(1, refused=1).rstrip())
+
+    def test_commit_at_the_horizon_stays(self):
+        """Its stamp is taken, and so are its id and its value."""
+        lines = [txn(1, 2, 5, '["w","x",1]'), forget(5), txn(2, 5, 6), txn(1, 6, 6), txn(3, 6, 7, '["w","x",1]')]
+        self.assert_tells(
+            lines, 10,
+            "forgot before=5 transactions=0 findings=0",
+            summary(1).rstrip(),
+            "refused source=0 line=3 code=16 reason=stamp-taken stamp=5 holder=1",
+            "refused source=0 line=4 code=12 reason=id-present",
+            "refused source=0 line=5 code=18 reason=value-taken op=0 holder=1",
+            "forgot before=5 transactions=0 findings=0",
+            summary(1, refused=3).rstrip())
+
+    def test_reader_over_the_horizon_keeps_its_stamps(self):
+        self.assert_tells(
+            [txn(1, 2, 7, '["r","x",null]'), forget(5), txn(2, 6, 7, '["w","x",2]'), txn(3, 6, 8, '["w","x",2]')], 10,
+            "forgot before=5 transactions=0 findings=0",
+            summary(1).rstrip(),
+            "refused source=0 line=3 code=16 reason=stamp-taken stamp=7 holder=1",
+            "forgot before=5 transactions=0 findings=0",
+            summary(2, refused=1).rstrip())
+
+    def test_arrival_below_the_horizon(self):
+        """An aborted one too, before its id is looked at; at the horizon it is taken."""
+        lines = [txn(1, 6, "aborted"), forget(5), txn(2, 4, "aborted", '["w","x",1]'), txn(1, 4, 8), txn(2, 5, "aborted", '["w","x",1]')]
+        self.assert_tells(
+            lines, 10,
+            "forgot before=5 transactions=0 findings=0",
+            summary(1).rstrip(),
+            "refused source=0 line=3 code=22 reason=start-forgotten horizon=5",
+            "refused source=0 line=4 code=22 reason=start-forgotten horizon=5",
+            "forgot before=5 transactions=0 findings=0",
+            summary(2, refused=2).rstrip())
+
+    def test_horizons_that_are_refused(self):
+        """3 and 2 are in doubt from 4 and 6 on; the second horizon is the first one again."""
+        lines = [txn(3, 4, "indoubt"), txn(2, 6, "indoubt"), forget(7), forget(5), forget(4), forget(4), forget(3), '{"do":"forget","before":"4"}']
+        self.assert_tells(
+            lines, 10,
+            "refused source=0 line=3 code=26 reason=doubt-before holder=2",
+            "refused source=0 line=4 code=26 reason=doubt-before holder=3",
+            *["forgot before=4 transactions=0 findings=0", summary(2, refused=2).rstrip()] * 2,
+            "refused source=0 line=7 code=25 reason=horizon-back horizon=4",
+            "refused source=0 line=8 code=5 reason=bad-field field=before",
+            "forgot before=4 transactions=0 findings=0",
+            summary(2, refused=4).rstrip())
+
+    def test_without_the_option(self):
+        self.assert_tells(
+            [forget(5), '{"do":"forget"}'], 10,
+            "refused source=0 line=1 code=4 reason=bad-kind", "refused source=0 line=2 code=4 reason=bad-kind", summary(refused=2).rstrip(), words=())
+
+    def test_what_is_gone_counts(self):
+        """With --new a final finding isn't gone; a version that the set-up value stands for is read; the committed are two, and one is in doubt."""
+        lines = [txn(1, 2, 3, '["w","x",1]'), txn(2, 2, 5, '["w","x",2]'), forget(8), txn(3, 8, "indoubt", '["r","x",2]')]
+        self.assert_tells(
+            lines, 20,
+            'overlap key="x" first=1 second=2',
+            summary(2, 1, verdict="violation").rstrip(),
+            'final overlap key="x" first=1 second=2',
+            *["forgot before=8 transactions=2 findings=1", summary(2, 1, verdict="violation").rstrip()],
+            *["forgot before=8 transactions=2 findings=1", summary(3, 1, verdict="violation").rstrip()],
+            "forgot before=8 transactions=2 findings=1",
+            "short committed=2 expected=3 indoubt=1 ids=3",
+            summary(3, 1, verdict="violation").rstrip(),
+            words=["--horizons", "--every", "2", "--new", "--expect", "3"])
 
 
 class RefusedCalls(ProgramTest):

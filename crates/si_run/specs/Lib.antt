@@ -10,3 +10,5 @@ pub mod Engines
 pub mod Laws
 pub mod GateLaws
 pub mod Tolds
+pub mod Overs
+pub mod Epochs

@@ -1,0 +1,40 @@
+use Rattle.std.proofs.Common.{◌≡◌, ◌∙◌, ◌++◌, List, [], sym, ap, ap₂, subst}
+use Rattle.std.specs.List.Sorted.{IsStrictlySortedBy}
+use Rattle.std.specs.declared.vec.Vec.{Vec}
+use Rattle.si_model.specs.declared.edits.Edit.{Edit}
+use Rattle.si_model.specs.declared.findings.Finding.{Finding}
+use Rattle.si_model.specs.Findings.{findings}
+use Rattle.si_model.specs.Journals.{present}
+use Rattle.si_model.specs.Order.{finding_cmp, in_order}
+use Rattle.si_model.proofs.FindingOrder.{findings_order}
+use Rattle.si_text.specs.Texts.{not_among, violations_of}
+use Rattle.si_words.specs.Entries.{edits_of}
+use Rattle.si_run.specs.Engines.{EngineState}
+use Rattle.si_run.proofs.Differences.{change_in, found_sorted, not_among_sorted}
+use Rattle.si_run.proofs.Lone.{none_found}
+use Rattle.si_run.proofs.Restored.{restored, unlisted, untold}
+use Rattle.si_run.proofs.engines.Engine.take_told.Goals as goal
+
+pub returns-then-at-eq0-clause-told : goal.returns-then-at-eq0-clause-told
+returns-then-at-eq0-clause-told g c =
+    let J = edits_of c.self.inside.pass.view.seen in
+    let none = sym c.take.ensures.value ∙ c.in_default.is in
+    c.new.ensures.items ∙ sym (ap violations_of none_found) ∙ sym (untold J c.self.inside.told.at c.if-at-eq0.true) ∙ sym (unlisted c.self.inside.listed J c.self.inside.told none)
+    ∙ ap (λ (s : EngineState). s.progress.told) c.self.view_is
+
+pub copies_missing-requires : goal.copies_missing-requires
+copies_missing-requires g c = subst (IsStrictlySortedBy finding_cmp) (sym (c.deref.ensures.value ∙ c.in_ok-came.ensures.came)) (not_among_sorted _ _ (found_sorted _))
+
+pub put_in_order-requires : goal.put_in_order-requires
+put_in_order-requires g c = record { exact = findings_order.1 }
+
+pub returns-clause-told : goal.returns-clause-told
+returns-clause-told g c =
+    let J = edits_of c.self.inside.pass.view.seen in
+    let at = c.self.inside.told.at in
+    let none = sym c.take.ensures.value ∙ c.in_default.is in
+    let change = change_in J at _ _ c.in_ok-came.ensures.came c.in_ok-came.ensures.went in
+    let found : c.args.found.now ≡ findings (present J) = c.requires ∙ ap (λ (s : EngineState). findings (present s.progress.journal)) (sym c.self.view_is) in
+    let all = c.in_ok-append.ensures.items ∙ ap₂ (λ (a b : List Finding). a ++ b) (c.in_ok-told.ensures ∙ ap₂ not_among (c.deref.ensures.value ∙ ap (λ (v : Vec Finding _). v.items) c.in_ok-came.came-is) found) (ap (λ (v : Vec Finding _). v.items) c.in_ok-came.went-is) in
+    c.keep_violations.ensures ∙ ap violations_of (c.put_in_order.ensures ∙ ap (in_order finding_cmp) all ∙ restored _ _ _ _ change)
+    ∙ sym (unlisted c.self.inside.listed J c.self.inside.told none) ∙ ap (λ (s : EngineState). s.progress.told) c.self.view_is
