@@ -5,7 +5,7 @@ if TYPE_CHECKING:
     from .reports import Finding, Report
 
 MOST_TOLD = 10  # findings, and refused lines
-HOW_TO_PROVE = "`./sicheck prove` at the top of its checkout makes the proved one, in some 25 minutes on four processors, 45 on two"
+HOW_TO_PROVE = "`./sicheck prove` at the top of its checkout makes the proved one, in half an hour to an hour, by the processors"
 
 
 def message_of(head: str, report: "Report", findings: Sequence["Finding"]) -> str:
