@@ -12,6 +12,7 @@ mod histories;
 mod inputs;
 mod known_keys;
 mod large;
+mod partitions;
 mod readings;
 mod refusals;
 mod refused_memory;
