@@ -4,6 +4,9 @@ import re
 
 from .half_counts import NEED_WHOLE
 
+# At most so many edits stand in one check, which keeps all that it proves in memory: 60 of large functions took 7 GB.
+MOST = 32
+
 
 class Batches:
     def __init__(self, paths, copies):
@@ -39,7 +42,7 @@ class Batches:
 
 def put(edit, batches, has_room):
     """Puts the edit into the first of the batches that has room for it, or into one of its own."""
-    batch = next((it for it in batches if has_room(it)), None)
+    batch = next((it for it in batches if len(it) < MOST and has_room(it)), None)
     if batch is None:
         batches.append([edit])
     else:

@@ -1,5 +1,5 @@
-"""Keeps what is proved with half counts: the functions that need whole ones, and a sum over the sources and the edits of
-each crate, kept in tools/halves, with which that passed."""
+"""Keeps what is proved with half counts, and what was tried: the functions that need whole counts, and sums over the
+sources and the edits of each crate, kept in tools/halves and in tools/tried, with which that passed."""
 
 import hashlib
 import os
@@ -22,6 +22,13 @@ HEAD = """\
 # Says of which crates all that their wrong bodies edit was proved with half counts: a sum for each over its sources and
 # its edits, and over the sources of the crates below it; and the kit on which it was. `tools/wrong_bodies
 # --stamp` tries each crate whose sum is another now, and writes it here.
+"""
+# Of which crates all wrong bodies were refused as they were.
+TRIED = "tools/tried"
+TRIED_HEAD = """\
+# Says of which crates each wrong body was refused: a sum for each over its sources and its edits, and over the sources of
+# the crates below it; and the kit on which it was. `tools/wrong_bodies --tried` tries those of each crate whose sum is
+# another now, and writes it here.
 """
 SOURCES = {"src": ".rt", "specs": ".antt", "proofs": ".antt"}
 
@@ -65,8 +72,8 @@ def logic_of(kit):
 class Stamp:
     """The sums that stand in the file, by crate, and the kit; where there is no file, none."""
 
-    def __init__(self, path):
-        self.path, self.sums = path, {}
+    def __init__(self, path, head=HEAD):
+        self.path, self.head, self.sums = path, head, {}
         if os.path.isfile(path):
             with open(path, encoding="utf-8") as file:
                 rows = [row.split(maxsplit=1) for row in file.read().split("\n") if not row.startswith("#")]
@@ -77,9 +84,9 @@ class Stamp:
 
     def keep(self, sums, crates, kit):
         """Writes these sums beside those of the file that are of these crates and of this kit's logic. (Another command may have written it meanwhile.)"""
-        now = Stamp(self.path).sums
+        now = Stamp(self.path, self.head).sums
         old = now if logic_of(now.get("kit", "")) == logic_of(kit) else {}
         kept = {name: it for name, it in {**old, **sums}.items() if name in crates}
         with open(self.path, "w", encoding="utf-8") as file:
-            file.write(HEAD + f"kit {kit}\n" + "".join(f"{name} {kept[name]}\n" for name in sorted(kept)))
+            file.write(self.head + f"kit {kit}\n" + "".join(f"{name} {kept[name]}\n" for name in sorted(kept)))
         self.sums = {"kit": kit, **kept}
