@@ -1,6 +1,6 @@
 """Tests what the built program does at its ends: help, the version, each fault with its line and status but 'options out of
-range', which no command line leads to, names and lines at their limits, and a refused line that is written before the
-next one comes."""
+range', which no command line leads to, names and lines at their limits, what horizons forget, and a refused line that is
+written before the next one comes."""
 
 import os
 import select
@@ -319,6 +319,298 @@ class Lines(ProgramTest):
             program.stdin.close()
             self.assertEqual(self.read_line(program), summary(refused=2), "after the last line")
             self.assertEqual(program.wait(60), 10)
+
+
+def txn(id, start, outcome, ops=""):
+    """The line of a transaction, which committed at a stamp or has that status."""
+    ended = f'"committed","commit":{outcome}' if isinstance(outcome, int) else f'"{outcome}"'
+    return f'{{"do":"txn","id":{id},"start":{start},"status":{ended},"ops":[{ops}]}}'
+
+
+def forget(before):
+    return f'{{"do":"forget","before":{before}}}'
+
+
+SETUP = '{"do":"setup","key":"y","value":7}'
+
+
+class Horizons(ProgramTest):
+    """What is forgotten, what is final, and what a horizon refuses: each answer is worked out from docs/FORMAT.md."""
+
+    def assert_tells(self, lines, status, *told, words=("--horizons",)):
+        (self.work / "log").write_text("".join(f"{it}\n" for it in lines))
+        self.assert_ends(["check", *words, self.work / "log"], status, "".join(f"{it}\n" for it in told))
+
+    def assert_whole_tells(self, lines, status, *told):
+        """The same log without its horizons."""
+        self.assert_tells([it for it in lines if "forget" not in it], status, *told, words=())
+
+    def test_aborted_read_stays_a_violation(self):
+        """The writer is gone, so the reader's value is unknown; it can't be withdrawn, and when it is gone too, nothing is found at the end."""
+        lines = [txn(1, 1, "aborted", '["w","x",1]'), txn(4, 6, 6, '["r","x",1]'), forget(6), '{"do":"withdraw","id":4}', forget(7), '{"do":"withdraw","id":4}']
+        self.assert_tells(
+            lines, 20,
+            'final aborted key="x" txn=4 op=0 read=1 writer=1',
+            "  G1a reader=4 op=0 writer=1",
+            "forgot before=6 transactions=1 findings=1",
+            "transactions=2 findings=2 refused=0 verdict=violation",
+            "refused source=0 line=4 code=23 reason=settled horizon=6",
+            'final unknown key="x" txn=4 op=0 read=1',
+            "forgot before=7 transactions=2 findings=2",
+            "transactions=2 findings=2 refused=1 verdict=violation",
+            "refused source=0 line=6 code=13 reason=no-such",
+            "forgot before=7 transactions=2 findings=2",
+            "transactions=2 findings=2 refused=2 verdict=violation",
+            words=["--horizons", "--explain"])
+
+    def test_settled_reader_keeps_what_is_unknown(self):
+        """It starts at the horizon, and yet can't be withdrawn; in the whole it is, and nothing is found."""
+        lines = [txn(1, 1, "aborted", '["w","x",1]'), txn(4, 6, 6, '["r","x",1]'), forget(6), '{"do":"withdraw","id":4}']
+        self.assert_whole_tells(lines, 0, summary(1).rstrip())
+        self.assert_tells(
+            lines, 20,
+            'final aborted key="x" txn=4 op=0 read=1 writer=1',
+            "forgot before=6 transactions=1 findings=1",
+            "transactions=2 findings=2 refused=0 verdict=violation",
+            "refused source=0 line=4 code=23 reason=settled horizon=6",
+            'unknown key="x" txn=4 op=0 read=1',
+            "forgot before=6 transactions=1 findings=1",
+            "transactions=2 findings=2 refused=1 verdict=violation")
+
+    def test_reads_over_the_horizon_are_gone(self):
+        """1 started below it and committed there: it read null before 2 committed, and x now has 2's value from before the run."""
+        lines = [txn(1, 0, 5, '["r","x",null]'), txn(2, 0, 1, '["w","x",1]'), forget(5), txn(3, 6, 6, '["r","x",1]')]
+        self.assert_whole_tells(lines, 0, summary(3).rstrip())
+        self.assert_tells(
+            lines, 0,
+            "forgot before=5 transactions=1 findings=0",
+            summary(2).rstrip(),
+            "forgot before=5 transactions=1 findings=0",
+            summary(3).rstrip())
+
+    def test_what_a_horizon_leaves_is_read(self):
+        """x has the value of the last one that committed below it, though 2, which stays, wrote another one; y has that of its set-up."""
+        lines = [SETUP, txn(1, 0, 1, '["w","x",1]'), txn(2, 2, 6, '["w","x",2]'), forget(5), txn(3, 5, 5, '["r","x",1],["r","y",7]')]
+        self.assert_whole_tells(lines, 0, summary(3).rstrip())
+        self.assert_tells(
+            lines, 0,
+            "forgot before=5 transactions=1 findings=0",
+            summary(2).rstrip(),
+            "forgot before=5 transactions=1 findings=0",
+            summary(3).rstrip())
+
+    def test_set_up_comes_late(self):
+        """In the whole the read that is gone was wrong."""
+        lines = [txn(1, 0, 1, '["r","y",null]'), forget(5), SETUP]
+        self.assert_whole_tells(lines, 10, 'unknown key="y" txn=1 op=0 read=initial', summary(1, 1, verdict="open").rstrip())
+        self.assert_tells(
+            lines, 10,
+            "forgot before=5 transactions=1 findings=0",
+            summary(1).rstrip(),
+            "refused source=0 line=3 code=24 reason=set-up-late horizon=5",
+            "forgot before=5 transactions=1 findings=0",
+            summary(1, refused=1).rstrip())
+
+    def test_commit_at_the_horizon_stays(self):
+        """Its stamp is taken, and so are its id and its value."""
+        lines = [txn(1, 2, 5, '["w","x",1]'), forget(5), txn(2, 5, 6), txn(1, 6, 6), txn(3, 6, 7, '["w","x",1]')]
+        self.assert_tells(
+            lines, 10,
+            "forgot before=5 transactions=0 findings=0",
+            summary(1).rstrip(),
+            "refused source=0 line=3 code=16 reason=stamp-taken stamp=5 holder=1",
+            "refused source=0 line=4 code=12 reason=id-present",
+            "refused source=0 line=5 code=18 reason=value-taken op=0 holder=1",
+            "forgot before=5 transactions=0 findings=0",
+            summary(1, refused=3).rstrip())
+
+    def test_reader_over_the_horizon_keeps_its_stamps(self):
+        self.assert_tells(
+            [txn(1, 2, 7, '["r","x",null]'), forget(5), txn(2, 6, 7, '["w","x",2]'), txn(3, 6, 8, '["w","x",2]')], 10,
+            "forgot before=5 transactions=0 findings=0",
+            summary(1).rstrip(),
+            "refused source=0 line=3 code=16 reason=stamp-taken stamp=7 holder=1",
+            "forgot before=5 transactions=0 findings=0",
+            summary(2, refused=1).rstrip())
+
+    def test_arrival_below_the_horizon(self):
+        """An aborted one too, before its id is looked at; at the horizon it is taken."""
+        lines = [txn(1, 6, "aborted"), forget(5), txn(2, 4, "aborted", '["w","x",1]'), txn(1, 4, 8), txn(2, 5, "aborted", '["w","x",1]')]
+        self.assert_tells(
+            lines, 10,
+            "forgot before=5 transactions=0 findings=0",
+            summary(1).rstrip(),
+            "refused source=0 line=3 code=22 reason=start-forgotten horizon=5",
+            "refused source=0 line=4 code=22 reason=start-forgotten horizon=5",
+            "forgot before=5 transactions=0 findings=0",
+            summary(2, refused=2).rstrip())
+
+    def test_arrival_that_overlaps_what_is_gone(self):
+        """3 starts before 2 commits, and what 4 reads is right: nobody could tell, so neither is taken."""
+        lines = [txn(1, 0, 2, '["w","x",1]'), txn(2, 3, 4, '["w","x",2]'), forget(5), txn(3, 1, 6, '["w","x",3]'), txn(4, 3, 3, '["r","x",1]')]
+        self.assert_whole_tells(lines, 20, 'overlap key="x" first=2 second=3', summary(4, 1, verdict="violation").rstrip())
+        self.assert_tells(
+            lines, 10,
+            "forgot before=5 transactions=2 findings=0",
+            summary(2).rstrip(),
+            "refused source=0 line=4 code=22 reason=start-forgotten horizon=5",
+            "refused source=0 line=5 code=22 reason=start-forgotten horizon=5",
+            "forgot before=5 transactions=2 findings=0",
+            summary(2, refused=2).rstrip())
+
+    def test_late_aborted_one_has_a_stamp_that_is_gone(self):
+        lines = [txn(1, 0, 3, '["w","x",1]'), forget(5), txn(2, 3, "aborted")]
+        self.assert_whole_tells(lines, 10, "refused source=0 line=2 code=16 reason=stamp-taken stamp=3 holder=1", summary(1, refused=1).rstrip())
+        self.assert_tells(
+            lines, 10,
+            "forgot before=5 transactions=1 findings=0",
+            summary(1).rstrip(),
+            "refused source=0 line=3 code=22 reason=start-forgotten horizon=5",
+            "forgot before=5 transactions=1 findings=0",
+            summary(1, refused=1).rstrip())
+
+    def test_doubt_below_the_horizon_is_of_a_read(self):
+        """Were 1 forgotten, 2 and 3 would have read what nobody wrote."""
+        lines = [
+            txn(1, 0, "indoubt", '["w","x",1]'), txn(2, 3, 3, '["r","x",1]'), forget(5), '{"do":"resolve","id":1,"status":"committed","commit":1}',
+            forget(5), txn(3, 5, 5, '["r","x",1]')]
+        self.assert_whole_tells(lines, 0, summary(3).rstrip())
+        self.assert_tells(
+            lines, 10,
+            "refused source=0 line=3 code=26 reason=doubt-before holder=1",
+            "forgot before=5 transactions=2 findings=0",
+            summary(2, refused=1).rstrip(),
+            "forgot before=5 transactions=2 findings=0",
+            summary(3, refused=1).rstrip())
+
+    def test_doubt_below_the_horizon_is_of_an_overlap(self):
+        """Were 2 forgotten, nobody would know that 1 started before it committed."""
+        lines = [
+            txn(1, 0, "indoubt", '["w","x",1]'), txn(2, 2, 3, '["w","x",2]'), forget(5), '{"do":"resolve","id":1,"status":"committed","commit":6}']
+        self.assert_whole_tells(lines, 20, 'overlap key="x" first=2 second=1', summary(2, 1, verdict="violation").rstrip())
+        self.assert_tells(
+            lines, 20,
+            "refused source=0 line=3 code=26 reason=doubt-before holder=1",
+            'overlap key="x" first=2 second=1',
+            summary(2, 1, 1, "violation").rstrip())
+
+    def test_reader_that_stays_has_a_final(self):
+        """3 starts at the horizon, and what it read is gone: so both findings are final, and its reads are unknown from then on."""
+        lines = [
+            txn(1, 0, 1, '["w","x",1],["w","z",1],["w","z",2]'), txn(2, 2, 3, '["w","x",2]'), txn(3, 5, 5, '["r","x",1],["r","z",1]'), forget(5)]
+        findings = ['stale key="x" txn=3 op=0 read=1 missed=2', 'intermediate key="z" txn=3 op=1 read=1 writer=1']
+        self.assert_whole_tells(lines, 20, *findings, summary(3, 2, verdict="violation").rstrip())
+        self.assert_tells(
+            lines, 20,
+            *[f"final {it}" for it in findings],
+            "forgot before=5 transactions=2 findings=2",
+            summary(3, 4, verdict="violation").rstrip(),
+            'unknown key="x" txn=3 op=0 read=1',
+            'unknown key="z" txn=3 op=1 read=1',
+            "forgot before=5 transactions=2 findings=2",
+            summary(3, 4, verdict="violation").rstrip())
+
+    def test_pair_is_final_once_its_first_is_gone(self):
+        """Both span the first horizon, and are found there; at the second 1 is gone, and 2 spans it."""
+        lines = [txn(1, 0, 6, '["w","x",1]'), txn(2, 2, 7, '["w","x",2]'), forget(5), forget(7)]
+        finding = 'overlap key="x" first=1 second=2'
+        self.assert_whole_tells(lines, 20, finding, summary(2, 1, verdict="violation").rstrip())
+        self.assert_tells(
+            lines, 20,
+            "forgot before=5 transactions=0 findings=0",
+            summary(2, 1, verdict="violation").rstrip(),
+            f"final {finding}",
+            *["forgot before=7 transactions=1 findings=1", summary(2, 1, verdict="violation").rstrip()] * 2)
+
+    def test_later_reads_of_what_is_gone(self):
+        """They are open, and in the whole each is a violation."""
+        lines = [
+            txn(1, 0, 1, '["w","x",1]'), txn(2, 2, 3, '["w","x",2],["w","z",5],["w","z",6]'), txn(3, 2, "aborted", '["w","y",3]'), forget(5),
+            txn(4, 6, 6, '["r","x",1],["r","y",3],["r","z",5]')]
+        self.assert_whole_tells(
+            lines, 20,
+            'stale key="x" txn=4 op=0 read=1 missed=2',
+            'aborted key="y" txn=4 op=1 read=3 writer=3',
+            'intermediate key="z" txn=4 op=2 read=5 writer=2',
+            summary(4, 3, verdict="violation").rstrip())
+        self.assert_tells(
+            lines, 10,
+            "forgot before=5 transactions=3 findings=0",
+            summary(3).rstrip(),
+            'unknown key="x" txn=4 op=0 read=1',
+            'unknown key="y" txn=4 op=1 read=3',
+            'unknown key="z" txn=4 op=2 read=5',
+            "forgot before=5 transactions=3 findings=0",
+            summary(4, 3, verdict="open").rstrip())
+
+    def test_final_is_not_judged_again(self):
+        """The writer of what 1 read comes, and that of what 2 read aborts."""
+        lines = [
+            txn(3, 6, "indoubt", '["w","y",7]'), txn(1, 1, 1, '["r","x",9]'), txn(2, 3, 3, '["r","y",7]'), forget(5), txn(4, 5, 7, '["w","x",9]'),
+            '{"do":"resolve","id":3,"status":"aborted"}']
+        self.assert_whole_tells(
+            lines, 20,
+            'future key="x" txn=1 op=0 read=9 writer=4',
+            'aborted key="y" txn=2 op=0 read=7 writer=3',
+            summary(4, 2, verdict="violation").rstrip())
+        self.assert_tells(
+            lines, 10,
+            'final unknown key="x" txn=1 op=0 read=9',
+            'final doubt key="y" txn=2 op=0 read=7 writer=3',
+            "forgot before=5 transactions=2 findings=2",
+            summary(3, 2, verdict="open").rstrip(),
+            "forgot before=5 transactions=2 findings=2",
+            summary(4, 2, verdict="open").rstrip())
+
+    def test_what_is_gone_comes_again(self):
+        """An id and a value that are gone aren't refused, but the value that x was left with is that of a set-up."""
+        lines = [
+            txn(1, 0, 1, '["w","x",1]'), txn(2, 2, 3, '["w","x",2]'), forget(5), txn(1, 6, 7, '["w","x",1]'), txn(3, 8, 9, '["w","x",2]')]
+        self.assert_whole_tells(
+            lines, 10,
+            "refused source=0 line=3 code=12 reason=id-present",
+            "refused source=0 line=4 code=18 reason=value-taken op=0 holder=2",
+            summary(2, refused=2).rstrip())
+        self.assert_tells(
+            lines, 10,
+            "forgot before=5 transactions=2 findings=0",
+            summary(2).rstrip(),
+            "refused source=0 line=5 code=21 reason=value-set-up op=0",
+            "forgot before=5 transactions=2 findings=0",
+            summary(3, refused=1).rstrip())
+
+    def test_horizons_that_are_refused(self):
+        """3 and 2 are in doubt from 4 and 6 on; the second horizon is the first one again."""
+        lines = [txn(3, 4, "indoubt"), txn(2, 6, "indoubt"), forget(7), forget(5), forget(4), forget(4), forget(3), '{"do":"forget","before":"4"}']
+        self.assert_tells(
+            lines, 10,
+            "refused source=0 line=3 code=26 reason=doubt-before holder=2",
+            "refused source=0 line=4 code=26 reason=doubt-before holder=3",
+            *["forgot before=4 transactions=0 findings=0", summary(2, refused=2).rstrip()] * 2,
+            "refused source=0 line=7 code=25 reason=horizon-back horizon=4",
+            "refused source=0 line=8 code=5 reason=bad-field field=before",
+            "forgot before=4 transactions=0 findings=0",
+            summary(2, refused=4).rstrip())
+
+    def test_without_the_option(self):
+        self.assert_tells(
+            [forget(5), '{"do":"forget"}'], 10,
+            "refused source=0 line=1 code=4 reason=bad-kind", "refused source=0 line=2 code=4 reason=bad-kind", summary(refused=2).rstrip(), words=())
+
+    def test_what_is_gone_counts(self):
+        """With --new a final finding isn't gone; a version that the set-up value stands for is read; the committed are two, and one is in doubt."""
+        lines = [txn(1, 2, 3, '["w","x",1]'), txn(2, 2, 5, '["w","x",2]'), forget(8), txn(3, 8, "indoubt", '["r","x",2]')]
+        self.assert_tells(
+            lines, 20,
+            'overlap key="x" first=1 second=2',
+            summary(2, 1, verdict="violation").rstrip(),
+            'final overlap key="x" first=1 second=2',
+            *["forgot before=8 transactions=2 findings=1", summary(2, 1, verdict="violation").rstrip()],
+            *["forgot before=8 transactions=2 findings=1", summary(3, 1, verdict="violation").rstrip()],
+            "forgot before=8 transactions=2 findings=1",
+            "short committed=2 expected=3 indoubt=1 ids=3",
+            summary(3, 1, verdict="violation").rstrip(),
+            words=["--horizons", "--every", "2", "--new", "--expect", "3"])
 
 
 class RefusedCalls(ProgramTest):

@@ -299,6 +299,53 @@ class StopAtAViolation(RecipeTest):
         self.assert_interrupted("stop_at_a_violation")
 
 
+class Soak(RecipeTest):
+    """Clients that keep marks, so that the checker forgets each second what lies below them."""
+
+    def assert_soaks(self, status, *test, **variables):
+        """The recipe with these variables ends with this status. Returns what it said, and its complaint."""
+        fixed = {"CLIENTS": 2, "FORGET": 1, "PAUSE": 0.01, "DONE": self.done, "LOGS": self.work / "logs"}
+        env = {**os.environ, **{key: str(it) for key, it in {**fixed, **variables}.items()}}
+        ran = run(["timeout", "60", RECIPES / "soak", *(test or [RECIPES / "small_soak"])], 90, env=env)
+        self.assertEqual(ran.status, status, f"{variables}: {ran.text[-300:]}{ran.complaint[-300:]}")
+        return ran.text.decode(), ran.complaint
+
+    def test_clean(self):
+        said, complaint = self.assert_soaks(0, COUNT=200, EXPECT=400)
+        self.assertEqual((last_line(said), complaint), (summary(400), ""))
+        self.assertRegex(said, "\nforgot before=[0-9]+ transactions=[1-9][0-9]* findings=0\ntransactions=400 ")
+
+    def test_violation_is_told_at_once(self):
+        """At the next horizon, though no report is due; the test would go on as long again."""
+        said, complaint = self.assert_soaks(20, FAULT=1, COUNT=600, EVERY=100000)
+        self.assertEqual(complaint, "")
+        self.assertRegex(said, '^(forgot .*\ntransactions=.*\n)*(final )?stale key="counter-1" txn=1000300 op=0 ')
+        self.assertFalse(self.done.exists(), "the test went on to its end")
+
+    def test_mark_that_does_not_move(self):
+        """Nothing is forgotten, which is told; the run is judged all the same."""
+        test = "import os, sicheck, time\nlog = sicheck.Log(client=1, low=os.environ['LOGS'])\nlog.transaction(4).commit()\ntime.sleep(4)"
+        _, complaint = self.assert_soaks(0, sys.executable, "-c", test, STUCK=1, LAG=100, PYTHONPATH=ROOT / "python")
+        first, second = sorted(complaint.splitlines())
+        self.assertIn("nothing was forgotten in 1 seconds", first)
+        self.assertIn("the mark of client 1 hasn't moved for 1 seconds", second)
+
+    def test_client_that_writes_elsewhere(self):
+        test = "import os, sicheck, time\nwith sicheck.Log(os.environ['ELSEWHERE'], client=1, low=os.environ['LOGS']): time.sleep(30)"
+        _, complaint = self.assert_soaks(2, sys.executable, "-c", test, ELSEWHERE=self.work / "elsewhere", PYTHONPATH=ROOT / "python")
+        self.assertIn("client 1 doesn't write to the pipe that the horizons go to", complaint)
+
+    def test_client_too_many(self):
+        self.assert_unread("soak")
+
+    def test_checkers_that_judge_nothing(self):
+        self.assert_bears_checker("soak", GONE_AT_ONCE)
+        self.assert_bears_checker("soak", SILENT, STALL=2)
+
+    def test_interrupted(self):
+        self.assert_interrupted("soak")
+
+
 # A log of snapshots: all outcomes, resolutions and withdrawals, and lines that are refused in it and in the one in
 # commit order.
 SNAPSHOTS = r"""{"do":"setup","key":"x","value":9}
@@ -403,6 +450,11 @@ class InCommitOrder(ProgramTest):
         """It is in commit order, through doubt and rollbacks."""
         text = self.ordered("", ROOT / "examples/sqlite/clean.jsonl")
         self.assertEqual(self.checked(text)[1], (ROOT / "examples/sqlite/clean.out").read_text())
+
+    def test_horizons(self):
+        """What committed below 5 commits below 10; a number that has no double of 64 bits stays, as what is no number does."""
+        rest = '{"do":"forget","before":9223372036854775808}\n{"do":"forget","before":5.0}\n{"do":"forget"}\n'
+        self.assertEqual(self.ordered('{"do": "forget", "before": 5}\n' + rest), '{"do":"forget","before":10}\n' + rest)
 
     def test_sample_in_commit_order(self):
         made = self.ordered("", ROOT / "samples/write_skew.jsonl")

@@ -68,13 +68,13 @@ def status_of_all(status, room, is_read):
 class Judging:
     """A test and the checker beside it."""
 
-    def __init__(self, test, answer=1, stops_at_a_violation=False):
-        """`answer` is the descriptor to which the checker's answer goes; standard output where none is named."""
+    def __init__(self, test, answer=1, stops_at_a_violation=False, options=()):
+        """`answer` is the descriptor to which the checker's answer goes; standard output where none is named. The options are the checker's."""
         if not test:
             end("name the test, as in: CLIENTS=2 .. ./my_test")
         self.every, self.stall = number_of("EVERY", 100), number_of("STALL", 30)
         self.stops_at_a_violation = stops_at_a_violation
-        self._words, self._answer = test, answer
+        self._words, self._answer, self._options = test, answer, options
         self.test = self.checker = None
         self._news = threading.Event()  # something came that the next look shouldn't wait for
         self._fault = None  # why nobody judges the test any more
@@ -93,7 +93,7 @@ class Judging:
             program = sicheck.program_path()
             subprocess.run([program, "--version"], stdin=subprocess.DEVNULL, stdout=subprocess.DEVNULL, check=True)
             words = [program, "check", "--every", str(self.every), "--expect", str(number_of("EXPECT", 1))]
-            words += ["--progress"] * os.isatty(2)
+            words += [*self._options, *["--progress"] * os.isatty(2)]
             self.checker = subprocess.Popen([*words, *(f"/dev/fd/{it}" for it in sources)], pass_fds=sources, start_new_session=True,
                                             stdin=subprocess.DEVNULL if sources else subprocess.PIPE,
                                             stdout=subprocess.PIPE, stderr=subprocess.PIPE)
@@ -305,10 +305,45 @@ class Pipes:
         self._held = []
 
 
-def judge_one_pipe(test, answer=1, stops_at_a_violation=False):
-    """Judges a test whose clients all write to one pipe, under the names client-1.jsonl to client-N.jsonl, and returns the status."""
+class Horizons:
+    """Lets the checker forget what lies below the marks that the clients keep beside the pipe, every so many seconds."""
+
+    def __init__(self, room, pipe, seconds, lag):
+        self._forgetting = sicheck.forget_every(room, pipe, seconds, lag)
+        self._seconds, self._stuck, self._over = seconds, number_of("STUCK", 60), threading.Event()
+        self._since, self._told = {}, set()
+
+    def run(self):
+        """Goes on until the test is over. A mark that stays where it is holds all horizons back, and that is told once."""
+        began = time.monotonic()
+        try:
+            while not self._over.wait(self._seconds):
+                before, now = self._forgetting.forget(), time.monotonic()
+                self._since = {client: self._since.get(client, now) for client in self._forgetting.stuck}
+                for client in [it for it, since in self._since.items() if now - since > self._stuck]:
+                    self._tell(client, f"the mark of client {client} hasn't moved for {self._stuck} seconds, and nothing behind it is forgotten: "
+                                       "where the client has died, `sicheck.gone` takes the mark away")
+                if before == 0 and now - began > self._stuck:
+                    self._tell(None, f"nothing was forgotten in {self._stuck} seconds: each client has to keep its mark in the folder LOGS")
+        except BrokenPipeError:
+            pass  # the checker is gone, which the next look finds
+        finally:
+            self._forgetting.close()
+
+    def end(self):
+        self._over.set()
+
+    def _tell(self, what, words):
+        if what not in self._told:
+            self._told.add(what)
+            sys.stderr.write(f"{Path(sys.argv[0]).name}: {words}\n")
+
+
+def judge_one_pipe(test, answer=1, stops_at_a_violation=False, forget=None):
+    """Judges a test whose clients all write to one pipe, under the names client-1.jsonl to client-N.jsonl, and returns the status. Every so many
+    seconds, where `forget` says how many, the checker forgets what lies below the clients' marks, less the lag that stands behind it."""
     clients = number_of("CLIENTS")
-    judging = Judging(test, answer, stops_at_a_violation)
+    judging = Judging(test, answer, stops_at_a_violation, ("--horizons", "--new") if forget else ())
     with tempfile.TemporaryDirectory() as room:
         pipes = Pipes(room, ["all"])
         for number in range(1, clients + 1):
@@ -317,5 +352,13 @@ def judge_one_pipe(test, answer=1, stops_at_a_violation=False):
         to = os.dup(judging.checker.stdin.fileno())
         judging.checker.stdin.close()
         judging.feed(lambda: judging.copy(pipes.ends[0], to))
+        horizons = Horizons(room, pipes.paths[0], *forget) if forget else None
+        if horizons:
+            judging.feed(horizons.run)
         judging.start_test(room)
-        return pipes.status(judging.wait(pipes.let_go))
+
+        def let_go():
+            if horizons:
+                horizons.end()
+            pipes.let_go()
+        return pipes.status(judging.wait(let_go))

@@ -18,13 +18,15 @@ docs/LOGGING.md tells what to log, and docs/FINDINGS.md what each finding means.
 from .checking import check, program_path, watch
 from .faults import CheckFailed, LogError, NotPassed, Undecided, Unproved, Violation
 from .logs import Log, path_of_client
+from .marks import Forgetting, forget_every, gone
 from .numbering import Origin, client_of, origin_of
 from .places import FilePlace
-from .reports import Chance, Chances, Few, Finding, Refusal, Report, Short
+from .reports import Chance, Chances, Few, Finding, Forgot, Refusal, Report, Short
 from .snapshots import Fork, Numbers, numbers_by_snapshots
 from .stamping import AFTER, AT, COMMIT_ORDER, Stamps
 from .transactions import VERSION, Savepoint, Transaction
 
-__all__ = ["AFTER", "AT", "COMMIT_ORDER", "VERSION", "Chance", "Chances", "CheckFailed", "Few", "FilePlace", "Finding", "Fork", "Log", "LogError",
-           "NotPassed", "Numbers", "Origin", "Refusal", "Report", "Savepoint", "Short", "Stamps", "Transaction", "Undecided", "Unproved",
-           "Violation", "check", "client_of", "numbers_by_snapshots", "origin_of", "path_of_client", "program_path", "watch"]
+__all__ = ["AFTER", "AT", "COMMIT_ORDER", "VERSION", "Chance", "Chances", "CheckFailed", "Few", "FilePlace", "Finding", "Forgetting", "Forgot",
+           "Fork", "Log", "LogError", "NotPassed", "Numbers", "Origin", "Refusal", "Report", "Savepoint", "Short", "Stamps", "Transaction",
+           "Undecided", "Unproved", "Violation", "check", "client_of", "forget_every", "gone", "numbers_by_snapshots", "origin_of",
+           "path_of_client", "program_path", "watch"]

@@ -96,6 +96,13 @@ class FewPlaces(NamedTuple):
     expected: int
 
 
+class Forgot(NamedTuple):
+    """What all horizons so far have forgotten: what lies below the stamp, so many transactions. So many findings were final."""
+    before: int
+    transactions: int
+    findings: int
+
+
 class Ending(NamedTuple):
     """What the last report tells beside its findings and its summary: what could have been found, of each kind or of none, and what the run
     is short of."""
@@ -106,7 +113,7 @@ class Ending(NamedTuple):
 
 class Answer(NamedTuple):
     """What an answer says at its end. `lines` are the numbers of the findings' lines in it. `circuits` has the steps of each fork and
-    knot that `seal` told before it."""
+    knot that `seal` told before it. `finals` were told at horizons, in the lines `final_lines`; without a horizon `forgot` is None."""
     refusals: dict
     findings: list
     lines: list
@@ -114,6 +121,13 @@ class Answer(NamedTuple):
     is_explained: bool
     ending: Ending = Ending()
     circuits: tuple = ()
+    finals: tuple = ()
+    final_lines: tuple = ()
+    forgot: Optional[Forgot] = None
+
+    def all_findings(self):
+        """The final ones, and those of the last report."""
+        return [*self.finals, *self.findings]
 
 
 NUMBER = "[0-9]{1,20}"  # Python takes no more than 4,300 digits for a number
@@ -125,6 +139,9 @@ CHANCE = re.compile(f"chances kind=({WORDS}) places=({NUMBER}) keys=({NUMBER})")
 FEW = re.compile(f"short kind=({WORDS}) places=({NUMBER}) expected=({NUMBER})")
 # What a report on the way says is there no more.
 GONE = "gone "
+# What a horizon says of a finding that what stays doesn't have.
+FINAL = "final "
+FORGOT = re.compile(f"forgot before=({NUMBER}) transactions=({NUMBER}) findings=({NUMBER})")
 REFUSAL = re.compile(f"refused source=({NUMBER}) line=({NUMBER}) code=({NUMBER}) reason=(.+)")
 HEAD = re.compile(r"(\w+) key=")
 FIELD = re.compile(r" (\w+)=(\w+)")
@@ -181,6 +198,11 @@ def few_of(line):
     return parts and FewPlaces(NUMBERS[parts[1]], int(parts[2]), int(parts[3]))
 
 
+def forgot_of(line):
+    parts = FORGOT.fullmatch(line)
+    return parts and Forgot(int(parts[1]), int(parts[2]), int(parts[3]))
+
+
 def is_of_ending(line):
     """Whether the line may stand between the findings and the summary of the last report."""
     return bool(CHANCE.fullmatch(line) or SHORT.fullmatch(line) or FEW.fullmatch(line))
@@ -207,6 +229,75 @@ def summary_of(line):
     return parts and Summary(int(parts[1]), int(parts[2]), int(parts[3]), parts[4])
 
 
+class Horizons:
+    """Follows the horizons of an answer. At each stand what is final, what was forgotten, and a summary, which are no report; and from the
+    first one on each report has what was forgotten."""
+
+    def __init__(self):
+        self.forgot = None
+        self.finals = 0  # so many were told
+
+    def is_one(self, forgot, finals, others):
+        """Whether a summary is a horizon's, behind what was forgotten, so many final findings, and so many lines that a report alone has.
+        (A horizon that comes again has nothing new, and reads like a report without findings.)"""
+        last, self.forgot = self.forgot, forgot
+        self.finals += finals
+        is_new = finals > 0 or forgot != last
+        if forgot is None:
+            if is_new:
+                raise AnswerFault("follows a horizon, and what was forgotten doesn't stand before it: lines are missing")
+            return False
+        if forgot.findings != self.finals:
+            raise AnswerFault(f"follows {self.finals} final findings, and the line before it counts {forgot.findings}: lines are missing")
+        if last and (forgot.before < last.before or forgot.transactions < last.transactions):
+            raise AnswerFault("follows a horizon that is before another one")
+        if is_new and others:
+            raise AnswerFault("is that of a horizon, and lines of a report stand before it")
+        return is_new
+
+
+class Finals(NamedTuple):
+    """What an answer told as final: the findings, the numbers of their lines, how many of them are explained; and what was forgotten."""
+    findings: list
+    lines: list
+    explained: int
+    forgot: Optional[Forgot]
+
+
+def finals_in(lines, before):
+    """What was told as final, in the whole answer, before which so many lines stand."""
+    if not any(line.startswith((FINAL, "forgot ")) for line in lines):
+        return Finals([], [], 0, None)
+    horizons, finals, numbers, explained = Horizons(), [], [], 0
+    forgot, others, told = None, 0, 0  # since the last summary
+    is_horizon = False
+    for number, line in enumerate(lines, before + 1):
+        if summary_of(line):
+            try:
+                is_horizon = horizons.is_one(forgot, told, others)
+            except AnswerFault as fault:
+                raise AnswerFault(f"line {number} of the answer {fault}") from None
+            forgot, others, told = None, 0, 0
+        elif line.startswith(FINAL):
+            finding = finding_of(line.removeprefix(FINAL))
+            if finding is None or told and finding.order() <= finals[-1].order():
+                raise AnswerFault(f"line {number} of the answer is no finding" if finding is None else "what is final isn't in its order")
+            finals.append(finding)
+            numbers.append(number)
+            told += 1
+        elif forgot_of(line):
+            if forgot:
+                raise AnswerFault(f"line {number} of the answer says again what was forgotten")
+            forgot = forgot_of(line)
+        elif told and not others and line == finals[-1].evidence() and numbers[-1] == number - 1:
+            explained += 1
+        elif told or not refusal_of(line):
+            others += 1
+    if is_horizon:
+        raise AnswerFault("the answer has no report at its end: the run broke off, or its text was cut")
+    return Finals(finals, numbers, explained, horizons.forgot)
+
+
 def refusals_in(lines, before):
     """The refused lines by their places, of the whole answer, before which so many lines stand; reports before the last one are passed
     over."""
@@ -217,7 +308,8 @@ def refusals_in(lines, before):
             if refusal.place in refusals:
                 raise AnswerFault(f"line {number} of the answer refuses a line that was refused before it")
             refusals[refusal.place] = refusal
-        elif not (line.startswith("  G") or HEAD.match(line.removeprefix(GONE)) or SUMMARY.fullmatch(line) or is_of_ending(line)):
+        elif not (line.startswith("  G") or HEAD.match(line.removeprefix(GONE).removeprefix(FINAL)) or SUMMARY.fullmatch(line)
+                  or FORGOT.fullmatch(line) or is_of_ending(line)):
             raise AnswerFault(f"line {number} of the answer is none that `sicheck check` writes")
     return refusals
 
@@ -258,14 +350,14 @@ def check_report(answer, explained):
     """Whether the summary counts what stands before it. An answer that lost lines doesn't keep this."""
     summary = answer.summary
     told = summary.findings, summary.refused, summary.verdict
-    counted = len(answer.findings), len(answer.refusals), verdict_of(answer.findings)
+    counted = len(answer.all_findings()), len(answer.refusals), verdict_of(answer.all_findings())
     if told != counted:
         raise AnswerFault("the last line of the answer says findings={} refused={} verdict={}, and the lines before it "
                           "are findings={} refused={} verdict={}: lines are missing".format(*told, *counted))
     orders = [finding.order() for finding in answer.findings]
     if any(next_one <= one for one, next_one in zip(orders, orders[1:])):
         raise AnswerFault("the findings of the last report aren't in their order: the answer was changed")
-    if explained not in (0, sum(finding.kind not in FORM for finding in answer.findings)):
+    if explained not in (0, sum(finding.kind not in FORM for finding in answer.all_findings())):
         raise AnswerFault("some findings of the last report have their evidence and some don't: lines are missing")
 
 
@@ -288,9 +380,14 @@ def answer_of(data):
     if ending is None:
         raise AnswerFault("the lines before the last summary that tell what could have been found, or what the run is short of, aren't whole, "
                           "or others stand among them")
+    if begins and forgot_of(lines[begins - 1]):
+        begins -= 1
     report = lines[:begins] + lines[-1:]
+    finals = finals_in(lines, before)
     findings, numbers, explained = report_of(report, last_report(report), before)
+    explained += finals.explained
     circuits = tuple(steps for steps in map(steps_of, told) if steps)
-    answer = Answer(refusals_in(lines, before), findings, numbers, summary, explained > 0, ending, circuits)
+    answer = Answer(refusals_in(lines, before), findings, numbers, summary, explained > 0, ending, circuits, tuple(finals.findings),
+                    tuple(finals.lines), finals.forgot)
     check_report(answer, explained)
     return answer

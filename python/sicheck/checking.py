@@ -49,7 +49,7 @@ def check(paths: Paths = (), *, lines: Optional[Iterable[Line]] = None, every: O
           expect: Optional[int] = 1, shards: Optional[int] = None, program: Optional[OnePath] = None,
           progress: Optional[bool] = None, chances: bool = False, expect_own: Optional[int] = None, expect_aborted: Optional[int] = None,
           expect_intermediate: Optional[int] = None, expect_future: Optional[int] = None, expect_stale: Optional[int] = None,
-          expect_overlap: Optional[int] = None) -> Report:
+          expect_overlap: Optional[int] = None, horizons: bool = False) -> Report:
     """Judges a whole log, and returns the report of its end: `sicheck.check(paths).assert_passed()` in a test.
 
     The log is in files, of which there may be any number, or comes as `lines`: texts, bytes or objects. `explain` asks for the evidence of
@@ -59,10 +59,11 @@ def check(paths: Paths = (), *, lines: Optional[Iterable[Line]] = None, every: O
     made on the way, which `watch` gives; here they only are read. `progress` has the program show on standard error how far it is; where it
     isn't given, it does so if that is a terminal. `chances` asks for the report's `chances`: at how many places a likely fault of the database
     would have been found. With `expect_future=20` and so on there have to be so many of that kind, or the report has `few`, and doesn't pass.
-    Raises `CheckFailed` where the check couldn't be made.
+    `horizons` lets lines ask to forget what lies below a stamp: then the report has `forgot`, and as `finals` what was found there. Raises
+    `CheckFailed` where the check couldn't be made.
     """
     last = None
-    asked = Asked(chances, expect_own, expect_aborted, expect_intermediate, expect_future, expect_stale, expect_overlap)
+    asked = Asked(chances, expect_own, expect_aborted, expect_intermediate, expect_future, expect_stale, expect_overlap, horizons)
     for last in _reports(_names(paths), lines, None, every, explain, expect, False, shards, program, 0.0, progress, asked):
         pass
     assert last is not None  # or the reading of the answer would have raised
@@ -73,7 +74,8 @@ def watch(paths: Paths = (), *, lines: Optional[Iterable[Line]] = None, until: O
           explain: bool = False, expect: Optional[int] = 1, new: bool = False, shards: Optional[int] = None,
           program: Optional[OnePath] = None, pause: float = 0.1, progress: Optional[bool] = None, chances: bool = False,
           expect_own: Optional[int] = None, expect_aborted: Optional[int] = None, expect_intermediate: Optional[int] = None,
-          expect_future: Optional[int] = None, expect_stale: Optional[int] = None, expect_overlap: Optional[int] = None) -> Iterator[Report]:
+          expect_future: Optional[int] = None, expect_stale: Optional[int] = None, expect_overlap: Optional[int] = None,
+          horizons: bool = False) -> Iterator[Report]:
     """Gives a report after each `every` lines, and one at the end, while a test runs:
 
         for report in sicheck.watch(logs, until=test):
@@ -86,16 +88,17 @@ def watch(paths: Paths = (), *, lines: Optional[Iterable[Line]] = None, until: O
     are followed while they grow, and needn't be there at first; one that isn't there at the end, or was replaced or emptied meanwhile, is a
     `CheckFailed`. Without it files are read to their end, and named pipes until nobody writes to them; of these at most 8. Whoever leaves
     the loop ends the check. The last report alone is one of the whole run, and `expect`, `chances` and `expect_future` with its like, as `check`
-    has them, speak of that one: a report on the way may be clean too early, or find `unknown` and `doubt` whose lines are still to come. Whether the test itself ended well is for
-    the caller to ask. With `new` the program tells less on the way: of the violations those that came and those that are gone, and how many
-    findings there are; the findings of such a report are the violations of that moment. `progress` is that of `check`.
+    has them, speak of that one: a report on the way may be clean too early, or find `unknown` and `doubt` whose lines are still to come.
+    Whether the test itself ended well is for the caller to ask. With `new` the program tells less on the way: of the violations those that
+    came and those that are gone, and how many findings there are; the findings of such a report are the violations of that moment.
+    `progress` and `horizons` are those of `check`; what is told at a horizon is no report.
     """
-    asked = Asked(chances, expect_own, expect_aborted, expect_intermediate, expect_future, expect_stale, expect_overlap)
+    asked = Asked(chances, expect_own, expect_aborted, expect_intermediate, expect_future, expect_stale, expect_overlap, horizons)
     return _reports(_names(paths), lines, until, every, explain, expect, new, shards, program, pause, progress, asked)
 
 
 class Asked(NamedTuple):
-    """What is asked of the places at which something could have been found."""
+    """What is asked of the places at which something could have been found, and whether lines may ask to forget."""
     tells: bool = False
     own: Optional[int] = None
     aborted: Optional[int] = None
@@ -103,11 +106,13 @@ class Asked(NamedTuple):
     future: Optional[int] = None
     stale: Optional[int] = None
     overlap: Optional[int] = None
+    forgets: bool = False
 
     def words(self) -> List[str]:
         """The options of the command line."""
-        expected = [(kind, number) for kind, number in zip(self._fields[1:], self[1:]) if number is not None]
-        return ["--chances"] * bool(self.tells) + [word for kind, number in expected for word in (f"--expect-{kind}", str(number))]
+        expected = [(kind, number) for kind, number in zip(self._fields[1:-1], self[1:-1]) if number is not None]
+        places = [word for kind, number in expected for word in (f"--expect-{kind}", str(number))]
+        return ["--chances"] * bool(self.tells) + places + ["--horizons"] * bool(self.forgets)
 
 
 def _names(paths: Paths) -> List[str]:
@@ -197,7 +202,7 @@ def _reports(names: List[str], lines: Optional[Iterable[Line]], until: Optional[
         try:
             if feeding:
                 feeding.start()
-            for report in _read(run, ReportReader(files), given, said):
+            for report in _read(run, ReportReader(files, new), given, said):
                 # (it is told before the program runs, and so before any report)
                 is_unproved = is_unproved or os.fstat(told.fileno()).st_size > 0
                 yield report._replace(proved=False) if is_unproved else report

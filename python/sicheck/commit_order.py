@@ -2,7 +2,8 @@
 the checker judges it against the serial run of the transactions in the order of their commits.
 
 A commit c comes to be the start 2c and the commit 2c + 1. Who committed without a write comes to stand at its commit, with 2c twice: that
-sees the commits below c, as a snapshot that was logged with one stamp does. The start of any other transaction s comes to be 2s.
+sees the commits below c, as a snapshot that was logged with one stamp does. The start of any other transaction s comes to be 2s, and so does a
+horizon.
 
 A transaction in doubt has no start in this order before its commit is known. So once it is resolved as committed it is withdrawn, and
 logged again; one that stays in doubt stays so. Its line alone is kept, and until then: memory goes by what is in doubt.
@@ -98,6 +99,8 @@ def resolved(it: Line, line: bytes, doubts: Dict[int, Line]) -> List[bytes]:
 def lines_for(line: bytes, doubts: Dict[int, Line]) -> List[bytes]:
     """The lines that stand for this one. `doubts` has the transactions in doubt by their ids."""
     it = line_as_read(line)
+    if it is not None and it.get("do") == "forget" and is_number(it.get("before")) and is_number(2 * it["before"]):
+        return [b'{"do":"forget","before":%d}' % (2 * it["before"])]
     if it is None or it.get("do") not in ("txn", "resolve", "withdraw") or not is_number(it.get("id")):
         return [line]
     try:

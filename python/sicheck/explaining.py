@@ -1,6 +1,7 @@
 """An answer beside its log in the database's own numbers: 2c + 1 and 2s + 2 undone, for the findings and for the refused lines."""
 from typing import Any, Dict, Iterable, Iterator, List, NamedTuple, Optional, Tuple
 
+from .answers import FINAL
 from .log_lines import ABORTED, COMMITTED, IN_DOUBT
 from .places import Files, id_in, object_in
 from .reports import Refusal, Report, last_report_in
@@ -22,8 +23,8 @@ def explained(answer: Iterable[bytes], names: List[str], stamps: Stamps) -> Iter
     for refusal in report.refusals:
         yield _text_of(refusal)
         yield from _about_refusal(refusal, refused, known, stamps)
-    for finding in report.findings:
-        yield str(finding)
+    for finding in report.all_findings:
+        yield f"{FINAL if finding.is_final else ''}{finding}"
         for number in dict.fromkeys(finding.ids):
             yield f"  {_told(number, known.get(number), stamps)}"
     yield f"transactions={report.transactions} findings={report.found} refused={report.refused} verdict={report.verdict}"
@@ -75,7 +76,7 @@ def _about_refusal(refusal: Refusal, refused: Dict[Tuple[str, int], bytes], know
 
 def _known(names: List[str], report: Report) -> Tuple[Dict[int, Known], Dict[Tuple[str, int], bytes]]:
     """What is asked for of the log: the transactions that the report names, and the refused lines. A refused line says nothing of them."""
-    ids = {number for finding in report.findings for number in finding.ids}
+    ids = {number for finding in report.all_findings for number in finding.ids}
     ids |= {it for refusal in report.refusals for it in refusal.details.values() if type(it) is int}
     places = {(refusal.place.file, refusal.place.line) for refusal in report.refusals}
     known: Dict[int, Known] = {}

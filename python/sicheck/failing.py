@@ -1,6 +1,8 @@
 """What a failed assertion says of a report: the earliest findings with their evidence and lines, and how many there are besides."""
 from typing import TYPE_CHECKING, Dict, List, Sequence, Tuple
 
+from .answers import FINAL
+
 if TYPE_CHECKING:
     from .reports import Finding, Report
 
@@ -10,12 +12,12 @@ HOW_TO_PROVE = "`./sicheck prove` at the top of its checkout makes the proved on
 
 def message_of(head: str, report: "Report", findings: Sequence["Finding"]) -> str:
     """The message. Of the findings those are told that come first in the run, at least one of each kind."""
-    totals = ", ".join(f"{count} {kind}" for kind, count in _by_kind(report.findings).items()) or "no findings"
+    totals = ", ".join(f"{count} {kind}" for kind, count in _by_kind(report.all_findings).items()) or "no findings"
     lines = [f"{head}: {totals} in {report.transactions} transactions, {report.refused} lines refused"]
     told = _earliest(findings)
     _look_up(told)
     for finding in told:
-        lines.append(f"  {finding}" + _where(finding))
+        lines.append(f"  {FINAL if finding.is_final else ''}{finding}" + _where(finding))
         if finding.evidence:
             lines.append(f"    {finding.evidence}")
     left = {kind: count - _by_kind(told)[kind] for kind, count in _by_kind(findings).items()}

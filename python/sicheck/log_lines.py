@@ -60,7 +60,13 @@ class SetUp(NamedTuple):
     value: int
 
 
-Edit = Union[Arrival, Resolution, Withdrawal, SetUp]
+class Forget(NamedTuple):
+    """What lies below the stamp may be forgotten; it is a line only where the check takes horizons."""
+    place: Place
+    before: int
+
+
+Edit = Union[Arrival, Resolution, Withdrawal, SetUp, Forget]
 Keys = Dict[str, str]  # the keys so far, each kept once
 
 
@@ -198,18 +204,27 @@ def set_up(value: Dict[str, Any], place: Place, keys: Keys) -> SetUp:
     return SetUp(place, key, member(value, "value", int))
 
 
+def horizon(value: Dict[str, Any], place: Place, _keys: Keys) -> Forget:
+    return Forget(place, member(value, "before", int))
+
+
 EDITS: Dict[str, Callable[[Dict[str, Any], Place, Keys], Edit]] = {
     "txn": arrival, "resolve": resolution, "withdraw": withdrawal, "setup": set_up}
 
 
-def edit_of(line: bytes, place: Place, keys: Keys) -> Edit:
-    """The edit that the line is, without its line feed; raises the fault of least code where it is none."""
+EDITS_WITH_HORIZONS = {**EDITS, "forget": horizon}
+
+
+def edit_of(line: bytes, place: Place, keys: Keys, horizons: bool = False) -> Edit:
+    """The edit that the line is, without its line feed, or where horizons are taken one of these; raises the fault of least code where it is
+    none."""
     if len(line) > LONGEST_LINE:
         raise LineFault(TOO_LONG)
     value = json_value(line)
     if type(value) is not dict:
         raise LineFault(NOT_OBJECT)
     word = value.get("do")
-    if type(word) is not str or word not in EDITS:
+    edits = EDITS_WITH_HORIZONS if horizons else EDITS
+    if type(word) is not str or word not in edits:
         raise LineFault(BAD_KIND)
-    return EDITS[word](value, place, keys)
+    return edits[word](value, place, keys)

@@ -10,9 +10,10 @@ from typing import Any, Dict, List, Mapping, Optional, Tuple, Type, Union
 from .faults import LogError, shown
 from .lives import Life, counts_of
 from .log_lines import ABORTED, COMMITTED, IN_DOUBT
+from .marks import Folder, LowMark
 from .numbering import IDS, MOST_CLIENT, PLACES
 from .remembering import AGAIN, HAS_LINE, IS_WITHDRAWN, Line, Memory, aborted_line, doubt_of
-from .stamping import (AFTER, COMMIT_ORDER, NO_START, Stamps, checked_number, checked_rule, checked_start, checked_value, checked_versions,
+from .stamping import (AFTER, COMMIT_ORDER, Stamps, checked_number, checked_rule, checked_start, checked_value, checked_versions,
                        commit_stamp, stamps_of, start_stamp, with_versions)
 from .transactions import Transaction, has_written, key_length, text_of
 from .turns import StillWriting, Turns
@@ -59,9 +60,16 @@ class Log:
     empty or gone, and so does whoever has used up a block: 1,000 openings or 999,999 transactions are the most, and behind them `LogError`
     asks for another client number. So keep that file beside the log. Without it a log can't go on, nor can a pipe or an open file, of
     which nobody knows what was written.
+
+    With `low` the log keeps the file client-N.low in that folder: the least start of its transactions that are under way or in doubt, or else
+    the last number that it knows, put there as a whole after each line. Below the least of all clients' marks nothing comes any more, so
+    `forget_every` makes horizons of them. A start that isn't known is then logged as the last number that was known when the transaction
+    began: where threads share a log, or ask the database for a snapshot ahead, begin the transaction here before the database does. A log
+    that is closed, and has nothing in doubt, takes its mark away.
     """
 
-    def __init__(self, target: Optional[Target] = None, *, client: int, stamps: Stamps = AFTER, resume: bool = False) -> None:
+    def __init__(self, target: Optional[Target] = None, *, client: int, stamps: Stamps = AFTER, resume: bool = False,
+                 low: Optional[Folder] = None) -> None:
         if type(client) is not int or not 1 <= client <= MOST_CLIENT:
             raise LogError(f"a client's number is from 1 to {MOST_CLIENT}, and {shown(client)} isn't")
         if type(resume) is not bool:
@@ -70,6 +78,7 @@ class Log:
         self._last = IDS - 1
         self._counts = iter(range(1, IDS))  # of the ids that aren't handed out yet, up to the last one that may be
         self._life: Optional[Life] = None
+        self._mark: Optional[LowMark] = None
         self._memory = Memory(client)
         self._process = os.getpid()
         self._turns = Turns()
@@ -77,6 +86,8 @@ class Log:
         self._claim()
         try:
             self._writer = self._opened(path_of_client(client) if target is None else target, resume)
+            if low is not None:
+                self._keep_mark(low)
         except BaseException:
             self._give_back()
             raise
@@ -89,7 +100,10 @@ class Log:
         rule = self.stamps if stamps is None else checked_rule(stamps)
         if start is not None:
             checked_start(rule, start)
-        return Transaction(self, self._next_id(), start, rule)
+        txn = Transaction(self, self._next_id(), start, rule)
+        if self._mark is not None:
+            self._mark.begin(txn)
+        return txn
 
     def set_up(self, key: str, value: int) -> None:
         """The key had that value before the run."""
@@ -125,7 +139,7 @@ class Log:
         """Ends the log. All its lines are written by then, whether it is closed or not."""
         try:
             if os.getpid() == self._process and not self._writer.is_closed:
-                self._turns.take(self._writer.close)
+                self._turns.take(self._end)
         except StillWriting:  # an interrupted call writes still, and its file stays open
             return
         self._turns.end()
@@ -136,6 +150,11 @@ class Log:
 
     def __exit__(self, kind: Optional[Type[BaseException]], error: Optional[BaseException], trace: Optional[TracebackType]) -> None:
         self.close()
+
+    def _end(self) -> None:
+        self._writer.close()
+        if self._mark is not None:
+            self._mark.end()
 
     # ---- opening
 
@@ -180,6 +199,15 @@ class Log:
             raise
         return writer
 
+    def _keep_mark(self, low: Folder) -> None:
+        try:
+            self._mark = LowMark(low, self.client, self._memory, self._writer)
+        except BaseException as fault:
+            self._writer.close()
+            if isinstance(fault, (OSError, TypeError)):
+                raise LogError(f"cannot keep the mark of client {self.client} in the folder {shown(low)}: {fault}") from fault
+            raise
+
     def _recall(self, path: str, writer: LineWriter) -> None:
         """Reads what the file holds. Whether other ids were handed out than those that it has, its file of lives alone can tell."""
         life: Any = self._life
@@ -212,7 +240,14 @@ class Log:
     def _turn(self, call: Any, *arguments: Any) -> Any:
         """Makes the call whole, and beside no other one on this log."""
         self._check_open()
-        return self._turns.take(call, *arguments)
+        return self._turns.take(call, *arguments) if self._mark is None else self._turns.take(self._marked, call, arguments)
+
+    def _marked(self, call: Any, arguments: Any) -> Any:
+        """Makes the call, and then the mark, since a line stands before the mark that lets it be forgotten."""
+        answer = call(*arguments)
+        assert self._mark is not None
+        self._mark.write()
+        return answer
 
     def _next_id(self) -> int:
         """An id that no transaction has. (Threads that ask at once are given different ones.)"""
@@ -282,8 +317,7 @@ class Log:
         self._write_txn(_committed_line(txn.id, txn._start, txn.stamps, with_versions(txn._ops, txn._versions, stamp, versions), stamp))
 
     def _write_unfinished(self, txn: Transaction, status: str) -> None:
-        begin = NO_START if txn._start is None else start_stamp(txn.stamps, txn._start)
-        line = {"do": "txn", "id": txn.id, "start": begin, "status": status, "ops": txn._ops}
+        line = {"do": "txn", "id": txn.id, "start": _unfinished_start(txn), "status": status, "ops": txn._ops}
         if status == IN_DOUBT:
             # What the line that it has once it is committed needs, and the checker ignores.
             if txn.stamps is COMMIT_ORDER:
@@ -296,9 +330,8 @@ class Log:
 
     def _write_rolled_back(self, txn: Transaction, ops: List[List[Any]]) -> None:
         """What was done since a savepoint, as an aborted transaction of its own."""
-        begin = NO_START if txn._start is None else start_stamp(txn.stamps, txn._start)
         number = self._next_id()
-        self._write_txn({"do": "txn", "id": number, "start": begin, "status": ABORTED, "ops": ops})
+        self._write_txn({"do": "txn", "id": number, "start": _unfinished_start(txn), "status": ABORTED, "ops": ops})
         self._memory.move(ops, number)
 
     def _resolve(self, number: int, commit: Optional[int], aborted: bool, start: Optional[int], versions: Mapping[str, int],
@@ -327,7 +360,7 @@ class Log:
             end = commit_stamp(number, line["start"], has_written(ops), commit)
             if not places:
                 self._write({"do": "resolve", "id": number, "status": COMMITTED, "commit": end})
-                self._memory.resolved(number)
+                self._memory.resolved(number, end)
                 return
             told = with_versions(ops, places, commit, versions)
             again = {"do": "txn", "id": number, "start": line["start"], "status": COMMITTED, "commit": end, "ops": told}
@@ -349,6 +382,12 @@ class Log:
             raise
         self._memory.withdrawn(number, comes_again=True)
         self._memory.arrived(line)
+
+
+def _unfinished_start(txn: Transaction) -> int:
+    """The start of an aborted transaction, or of one in doubt: where it isn't known, the last number known when it began, if the log keeps a
+    mark, and else 0."""
+    return txn._low if txn._start is None else start_stamp(txn.stamps, txn._start)
 
 
 def _is_regular_or_new(path: Target) -> bool:

@@ -2,7 +2,7 @@
 from typing import Any, Dict, List, Optional, Set, Tuple
 
 from .faults import LogError
-from .log_lines import ABORTED, IN_DOUBT, LineFault, Place, edit_of, json_value
+from .log_lines import ABORTED, COMMITTED, IN_DOUBT, LineFault, Place, edit_of, json_value
 from .numbering import IDS, PLACES
 from .stamping import Stamps
 
@@ -28,6 +28,8 @@ class Memory:
         self.set_up: Dict[str, int] = {}
         self.count = 0
         """The greatest count of an id that has a line."""
+        self.last = 0
+        """The greatest stamp of a line."""
 
     def is_own_id(self, number: int) -> bool:
         return number // IDS == self._client and number % IDS > 0
@@ -62,9 +64,12 @@ class Memory:
         self.doubts.pop(number, None)
         if line["status"] == IN_DOUBT:
             self.doubts[number] = line
+        self.last = max(self.last, line["start"], line.get("commit", 0))
 
-    def resolved(self, number: int) -> None:
+    def resolved(self, number: int, commit: int = 0) -> None:
+        """The transaction in doubt committed with that stamp, or was aborted."""
         self.doubts.pop(number, None)
+        self.last = max(self.last, commit)
 
     def withdrawn(self, number: int, comes_again: bool = False) -> None:
         """The line of a transaction is withdrawn: its values are free, unless its new line is to come."""
@@ -99,7 +104,7 @@ class Memory:
         elif it["do"] == "txn":
             self._recall_arrival(it)
         elif it["do"] == "resolve":
-            self.resolved(it["id"])
+            self.resolved(it["id"], it["commit"] if it["status"] == COMMITTED else 0)
         else:
             self.withdrawn(it["id"], it.get(AGAIN) is True)
 

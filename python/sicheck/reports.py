@@ -3,7 +3,8 @@ import re
 from typing import Dict, Iterable, Iterator, List, NamedTuple, Optional, Tuple, Union
 
 from . import answers
-from .answers import GONE, HEAD, KINDS, LATER, NUMBER, OVERLAP, OWN, ending_of, finding_of, is_of_ending, refusal_of, summary_of
+from .answers import (FINAL, GONE, HEAD, KINDS, LATER, NUMBER, OVERLAP, OWN, AnswerFault, Forgot, Horizons, ending_of, finding_of, forgot_of,
+                      is_of_ending, refusal_of, summary_of)
 from .failing import HOW_TO_PROVE, message_of
 from .faults import CheckFailed, Undecided, Unproved, Violation
 from .places import FilePlace, Files, Places
@@ -14,12 +15,14 @@ WHOLE_NUMBER = re.compile(NUMBER)
 
 class Finding:
     """One finding. What its kind doesn't have is None."""
-    __slots__ = ("told", "evidence", "_files", "_names")
+    __slots__ = ("told", "evidence", "is_final", "_files", "_names")
 
     def __init__(self, told: answers.Finding, files: Optional[Files] = None) -> None:
         self.told = told
         self.evidence: Optional[str] = None
         """The evidence in the terms of Adya's thesis, as `G-SI(a) 1-ww->2`, where the answer has it."""
+        self.is_final = False
+        """Whether a horizon told it as final."""
         self._files = files
         self._names: Optional[Tuple[int, ...]] = None
 
@@ -154,11 +157,12 @@ class Report(NamedTuple):
     verdict: str
     """`clean`, `open` or `violation`."""
     transactions: int
-    """How many are present, of every status."""
+    """How many are present, of every status, or were forgotten."""
     found: int
-    """How many findings there are. Before the end of a run with `new` some of them, `unknown` and `doubt`, aren't told."""
+    """How many findings there are, final ones too. Before the end of a run with `new` some of them, `unknown` and `doubt`, aren't told."""
     refused: int
     findings: Tuple[Finding, ...]
+    """Those in what is present."""
     refusals: Tuple[Refusal, ...]
     """The lines refused so far in the run."""
     new: Tuple[Finding, ...]
@@ -173,6 +177,10 @@ class Report(NamedTuple):
     """What could have been found, at the end of a run with `chances`."""
     few: Tuple[Few, ...] = ()
     """The kinds with fewer places than were expected."""
+    finals: Tuple[Finding, ...] = ()
+    """The findings that the horizons so far told as final: they stand for good, and what they rest on is forgotten."""
+    forgot: Optional[Forgot] = None
+    """What the horizons so far have forgotten; None before the first."""
 
     @property
     def status(self) -> int:
@@ -191,7 +199,13 @@ class Report(NamedTuple):
 
     @property
     def violations(self) -> Tuple[Finding, ...]:
-        return tuple(finding for finding in self.findings if finding.is_violation)
+        """The final ones first."""
+        return tuple(finding for finding in self.all_findings if finding.is_violation)
+
+    @property
+    def all_findings(self) -> Tuple[Finding, ...]:
+        """The final ones, and those in what is present."""
+        return (*self.finals, *self.findings)
 
     def since(self, earlier: "Report") -> Tuple[Tuple[Finding, ...], Tuple[Finding, ...]]:
         """What is new against another report, and what of that one is gone."""
@@ -199,9 +213,9 @@ class Report(NamedTuple):
         return tuple(it for it in self.findings if it not in had), tuple(it for it in earlier.findings if it not in has)
 
     def counts(self) -> Dict[str, Dict[str, int]]:
-        """How many findings there are by kind, and of each kind by key."""
+        """How many findings there are by kind, and of each kind by key, final ones too."""
         counts: Dict[str, Dict[str, int]] = {}
-        for finding in self.findings:
+        for finding in self.all_findings:
             by_key = counts.setdefault(finding.kind, {})
             by_key[finding.key] = by_key.get(finding.key, 0) + 1
         return counts
@@ -213,7 +227,8 @@ class Report(NamedTuple):
             raise Violation(message_of("snapshot isolation is violated", self, self.violations), self)
         if self.status == 10:
             is_short = self.verdict == "clean" and not self.refused
-            raise Undecided(message_of("less is there than was expected" if is_short else "not everything could be judged", self, self.findings), self)
+            head = "less is there than was expected" if is_short else "not everything could be judged"
+            raise Undecided(message_of(head, self, self.all_findings), self)
         if not (self.proved or unproved):
             raise Unproved(f"nothing was found, but this build of sicheck isn't proved: {HOW_TO_PROVE}; assert_passed(unproved=True) takes "
                            "its word", self)
@@ -236,6 +251,9 @@ class Told(NamedTuple):
     gone: Tuple[Finding, ...]
     refusals: Tuple[Refusal, ...]
     """The lines refused since the report before."""
+    finals: Tuple[Finding, ...]
+    """What became final since the report before."""
+    forgot: Optional[Forgot]
     short: Optional[Short]
     chances: Optional[Chances]
     few: Tuple[Few, ...]
@@ -251,14 +269,23 @@ class ReportReader:
     A report tells all findings, unless the run was asked to tell only what is new (`--new`): then one on the way has the new violations,
     and those that are gone as lines that begin with `gone `. It is known by having fewer findings than its summary counts; of such a
     report `findings` are the violations of that moment.
+
+    What is told at a horizon is no report: what is final no longer stands in the reports behind it, and isn't gone either. `tells_new`
+    says whether the run was asked to tell only what is new, where that is known.
     """
 
-    def __init__(self, files: Optional[Files] = None) -> None:
-        self._files = files
+    def __init__(self, files: Optional[Files] = None, tells_new: Optional[bool] = None) -> None:
+        self._files, self._tells_new = files, tells_new
         self._refusals: List[Refusal] = []
         self._refused_before = 0
         self._told: List[Finding] = []
         self._gone: List[Finding] = []
+        self._finals: List[Finding] = []
+        self._has_final_violation = False
+        self._finals_told = 0  # so many stood in the report before
+        self._finals_before = 0  # so many stand before the last summary
+        self._horizons = Horizons()
+        self._forgot: Optional[Forgot] = None  # what this report, or this horizon, says
         self._ending: List[str] = []
         self._has_ended = False  # whether a report had lines that the last one alone may have
         self._standing: Dict[Finding, Finding] = {}
@@ -276,7 +303,7 @@ class ReportReader:
         findings = told.findings if self._is_whole else tuple(sorted(self._standing.values(), key=_order))
         summary = told.summary
         return Report(summary.verdict, summary.transactions, summary.findings, summary.refused, findings, tuple(self._refusals), told.new,
-                      told.gone, told.short, chances=told.chances, few=told.few)
+                      told.gone, told.short, chances=told.chances, few=told.few, finals=tuple(self._finals), forgot=told.forgot)
 
     def read(self, line: str) -> Optional[Told]:
         """The same, but returns what the report tells alone, which costs nothing for what stands as it stood."""
@@ -288,8 +315,10 @@ class ReportReader:
         if summary:
             return self._report(summary)
         self._is_open = True
-        if self._ending and not is_of_ending(line):
+        if (self._ending or self._forgot) and not is_of_ending(line):
             raise self._fault("stands behind lines that only a summary follows")
+        if len(self._finals) > self._finals_before and not (line.startswith((FINAL, "  ")) or forgot_of(line)):
+            raise self._fault("stands between what is final and what was forgotten")
         refusal = refusal_of(line)
         if refusal:
             self._refusals.append(self._refusal(refusal))
@@ -297,8 +326,14 @@ class ReportReader:
             self._explain(line)
         elif line.startswith(GONE):
             self._gone.append(self._finding(line[len(GONE):]))
+        elif line.startswith(FINAL):
+            self._finals.append(self._finding(line[len(FINAL):]))
+            self._finals[-1].is_final = True
+            self._has_final_violation = self._has_final_violation or self._finals[-1].is_violation
         elif HEAD.match(line):
             self._told.append(self._finding(line))
+        elif forgot_of(line):
+            self._forgot = forgot_of(line)
         elif is_of_ending(line):
             self._ending.append(line)
         else:
@@ -330,9 +365,10 @@ class ReportReader:
         return Refusal(refusal.code, word, details, where)
 
     def _explain(self, line: str) -> None:
-        if not self._told or line != self._told[-1].told.evidence():
+        told = self._finals if len(self._finals) > self._finals_before else self._told
+        if not told or line != told[-1].told.evidence():
             raise self._fault("isn't the evidence of the finding before it")
-        self._told[-1].evidence = line.strip()
+        told[-1].evidence = line.strip()
 
     def _ended(self) -> Tuple[Optional[Short], Optional[Chances], Tuple[Few, ...]]:
         """What stands between the findings and the summary."""
@@ -344,9 +380,39 @@ class ReportReader:
         chances = Chances(*(Chance(it.places, it.keys) for it in told.chances)) if told.chances else None
         return short, chances, tuple(Few(KINDS[it.kind], it.places, it.expected) for it in told.few)
 
-    def _report(self, summary: answers.Summary) -> Told:
+    def _is_horizon(self, summary: answers.Summary) -> bool:
+        """Whether the summary is that of a horizon. One that comes again, with findings in what is present, is known by them: a report would
+        tell them, or, where only what is new is told, have none but those that stand."""
+        final, others = len(self._finals) - self._finals_before, len(self._told) + len(self._gone) + len(self._ending)
+        try:
+            if self._horizons.is_one(self._forgot, final, others):
+                return True
+        except AnswerFault as fault:
+            raise self._fault(str(fault)) from None
+        if self._forgot is None or others or len(self._finals) == summary.findings:
+            return False
+        return self._tells_new is False or self._is_violated() != (summary.verdict == "violation")
+
+    def _is_violated(self) -> bool:
+        """Whether one of the final findings, or of those that stand, is a violation. (Where only what is new is told, all that stand are.)"""
+        return self._has_final_violation or any(it.is_violation for it in self._standing)
+
+    def _pass_horizon(self, summary: answers.Summary) -> None:
+        """What is final stands no more, and isn't gone."""
+        for it in self._finals[self._finals_before:]:
+            self._standing.pop(it, None)
+        verdicts = ("violation",) if self._has_final_violation else ("open", "violation") if summary.findings else ("clean",)
+        if summary.verdict not in verdicts or summary.refused != len(self._refusals) or summary.findings < len(self._finals):
+            raise self._fault(f"counts findings={summary.findings} refused={summary.refused} verdict={summary.verdict}, and the lines "
+                              f"before it are {len(self._finals)} final findings, {len(self._refusals)} refused: lines are missing")
+        self._finals_before, self._forgot = len(self._finals), None
+
+    def _report(self, summary: answers.Summary) -> Optional[Told]:
+        if self._is_horizon(summary):
+            self._pass_horizon(summary)
+            return None
         findings, gone = tuple(self._told), tuple(self._gone)
-        was_whole, self._is_whole = self._is_whole, len(findings) == summary.findings
+        was_whole, self._is_whole = self._is_whole, len(findings) + len(self._finals) == summary.findings
         if self._is_whole:
             now = {it: it for it in findings}
             new = tuple(it for it in findings if it not in self._standing)
@@ -361,19 +427,19 @@ class ReportReader:
             self._standing.update((it, it) for it in findings)
         self._check(summary)
         refusals, self._refused_before = tuple(self._refusals[self._refused_before:]), len(self._refusals)
-        told = Told(summary, findings, new, gone, refusals, *self._ended())
+        finals, self._finals_told = tuple(self._finals[self._finals_told:]), len(self._finals)
+        told = Told(summary, findings, new, gone, refusals, finals, self._forgot, *self._ended())
         self._has_ended = bool(self._ending)
-        self._told, self._gone, self._ending, self._is_open = [], [], [], False
+        self._told, self._gone, self._ending, self._forgot, self._is_open = [], [], [], None, False
         return told
 
     def _check(self, summary: answers.Summary) -> None:
         """The summary counts what stands before it; an answer that lost lines doesn't keep this."""
-        standing = self._standing
-        is_violated = any(it.is_violation for it in standing) if self._is_whole else bool(standing)
-        verdict = "violation" if is_violated else "open" if summary.findings else "clean"
-        if (summary.verdict, summary.refused) != (verdict, len(self._refusals)) or summary.findings < len(standing):
+        count = len(self._finals) + len(self._standing)
+        verdict = "violation" if self._is_violated() else "open" if summary.findings else "clean"
+        if (summary.verdict, summary.refused) != (verdict, len(self._refusals)) or summary.findings < count:
             raise self._fault(f"counts findings={summary.findings} refused={summary.refused} verdict={summary.verdict}, and the lines "
-                              f"before it are {len(standing)} findings, {len(self._refusals)} refused, {verdict}: lines are missing")
+                              f"before it are {count} findings, {len(self._refusals)} refused, {verdict}: lines are missing")
 
 
 def lines_in(answer: Iterable[bytes]) -> Iterator[str]:

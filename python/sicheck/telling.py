@@ -2,6 +2,7 @@
 import json
 from typing import Any, Dict, Iterable, Iterator, List, Optional
 
+from .answers import Forgot
 from .places import Files
 from .reports import Chances, Few, Finding, Refusal, Report, ReportReader, Short, Told, lines_in, status_of
 
@@ -10,30 +11,36 @@ def json_reports(answer: Iterable[bytes], files: Optional[Files], only_last: boo
     """An answer as lines of JSON. A report on the way is told by what came since the one before and what is gone, and the last one by
     everything. It is told once the line behind it is there, or none: before, nobody knows whether it is the last."""
     reader = ReportReader(files)
-    told, number, refusals = None, 0, []
+    told, number, refusals, finals = None, 0, [], []
     for line in lines_in(answer):
         if told is not None and not only_last:
-            yield from json_lines(number, told, told.new, told.refusals, files, False)
+            yield from json_lines(number, told, told.new, told.finals, told.refusals, files, False)
         told = reader.read(line)
         if told is not None:
             number += 1
             last = told
             refusals += told.refusals
+            finals += told.finals
     reader.end()
-    yield from json_lines(number, last, last.findings, refusals if only_last else last.refusals, files, True)
+    passed = (finals, refusals) if only_last else (last.finals, last.refusals)
+    yield from json_lines(number, last, last.findings, *passed, files, True)
 
 
-def json_lines(number: int, told: Told, findings: Iterable[Finding], refusals: Iterable[Refusal], files: Optional[Files],
-               is_last: bool) -> Iterator[str]:
-    """The lines of one report: of each refusal, each of the findings, each that is gone, what could have been found, what is short, and the
-    summary."""
+def json_lines(number: int, told: Told, findings: Iterable[Finding], finals: Iterable[Finding], refusals: Iterable[Refusal],
+               files: Optional[Files], is_last: bool) -> Iterator[str]:
+    """The lines of one report: of each refusal, each that became final, each of the findings, each that is gone, what was forgotten, what
+    could have been found, what is short, and the summary."""
     head = {"report": number}
     for refusal in refusals:
         yield _text({"is": "refusal", **head, **_refusal(refusal)})
+    for finding in finals:
+        yield _text({"is": "final", **head, **_finding(finding, files)})
     for finding in findings:
         yield _text({"is": "finding", **head, **_finding(finding, files)})
     for finding in told.gone:
         yield _text({"is": "gone", **head, **_finding(finding, files)})
+    if told.forgot:
+        yield _text({"is": "forgot", **head, **_forgot(told.forgot)})
     for kind, chance in zip(Chances._fields, told.chances or ()):
         yield _text({"is": "chances", **head, "kind": kind, "places": chance.places, "keys": chance.keys})
     if told.short:
@@ -74,6 +81,10 @@ def _refusal(refusal: Refusal) -> Dict[str, Any]:
 
 def _short(short: Short) -> Dict[str, Any]:
     return {"committed": short.committed, "expected": short.expected, "indoubt": short.indoubt, "ids": list(short.ids)}
+
+
+def _forgot(forgot: Forgot) -> Dict[str, Any]:
+    return {"before": forgot.before, "transactions": forgot.transactions, "findings": forgot.findings}
 
 
 def _few(few: Few) -> Dict[str, Any]:

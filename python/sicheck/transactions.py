@@ -8,7 +8,7 @@ from typing import TYPE_CHECKING, Any, Dict, List, Mapping, Optional, Type, Unio
 from .faults import LogError, shown
 from .log_lines import ABORTED, COMMITTED, IN_DOUBT, LONGEST_KEY, LONGEST_LINE, MOST_OPERATIONS
 from .numbering import PLACES
-from .stamping import COMMIT_ORDER, Stamps, checked_start, checked_value, checked_versions
+from .stamping import COMMIT_ORDER, NO_START, Stamps, checked_start, checked_value, checked_versions
 from .turns import StillWriting
 
 if TYPE_CHECKING:
@@ -212,6 +212,7 @@ class Transaction(Operations):
         self.id = number
         self.stamps = stamps
         self._start: Optional[int] = None
+        self._low = NO_START  # the stamp that stands for a start that isn't known
         self._place = 0  # which operation comes next, those of rolled-back savepoints counted
         self._status: Optional[str] = None
         self._is_committing = False

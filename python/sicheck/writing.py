@@ -5,7 +5,7 @@ import os
 import select
 import stat
 import threading
-from typing import Any, Dict, Set, Tuple, Union
+from typing import Any, Dict, Optional, Set, Tuple, Union
 
 from .faults import LogError, shown
 
@@ -58,6 +58,11 @@ class LineWriter:
                 if self._key not in _open_files and self._is_regular and found.st_size:
                     _begun_before.add(self._key)
                 _open_files[self._key] = _open_files.get(self._key, 0) + 1
+
+    @property
+    def target(self) -> Optional[Tuple[int, int]]:
+        """The device and the number of the file; None of what has no descriptor."""
+        return self._key if self._fd >= 0 else None
 
     @property
     def began_before(self) -> bool:

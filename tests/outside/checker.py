@@ -6,13 +6,15 @@ comment quotes a page, it is FORMAT's, unless it names the other one. What the p
 import json
 from dataclasses import dataclass, field, replace
 
-MOST_BYTES, MOST_OPS, MOST_KEY, MOST_DEPTH = 1_048_576, 4_096, 128, 127
+MOST_BYTES, MOST_OPS, MOST_KEY, MOST_DEPTH, MOST_IDS = 1_048_576, 4_096, 128, 127, 20
 NUMBERS = {"unknown": 1, "doubt": 2, "own": 3, "aborted": 4, "intermediate": 5, "future": 6, "stale": 7, "overlap": 8}
 CHANCES = ("own", "aborted", "intermediate", "future", "stale", "overlap")
-FIELDS = {"txn": ("id", "start", "status", "commit", "ops"), "resolve": ("id", "status", "commit"), "withdraw": ("id",), "setup": ("key", "value")}
+FIELDS = {"txn": ("id", "start", "status", "commit", "ops"), "resolve": ("id", "status", "commit"), "withdraw": ("id",), "setup": ("key", "value"),
+          "forget": ("before",)}  # fmt: skip
 CODES = {"too-long": 1, "not-json": 2, "not-object": 3, "bad-kind": 4, "bad-field": 5, "bad-status": 6, "too-many-ops": 7, "bad-op": 8,
          "id-present": 12, "no-such": 13, "not-in-doubt": 14, "stamp-order": 15, "stamp-taken": 16, "value-twice": 17, "value-taken": 18,
-         "set-up-twice": 19, "set-up-taken": 20, "value-set-up": 21}  # fmt: skip
+         "set-up-twice": 19, "set-up-taken": 20, "value-set-up": 21, "start-forgotten": 22, "settled": 23, "set-up-late": 24, "horizon-back": 25,
+         "doubt-before": 26}  # fmt: skip
 
 
 class Refused(Exception):
@@ -42,10 +44,13 @@ class Txn:
 
 @dataclass
 class Present:
-    """What the accepted edits leave: transactions in the order of arrival, and the values that keys were set up with."""
+    """What the accepted edits leave: transactions in the order of arrival, the values that keys were set up with, and the horizon with the ids that it
+    settled."""
 
     txns: list = field(default_factory=list)
     initial: list = field(default_factory=list)
+    horizon: int = None
+    settled: frozenset = frozenset()
 
     def set_up(self, key):
         return next((value for other, value in self.initial if other == key), None)
@@ -107,11 +112,11 @@ def is_op(it):
     return it[0] == "r" and (it[2] is None or is_number(it[2])) or it[0] == "w" and is_number(it[2])
 
 
-HOLDS = {"id": is_number, "start": is_number, "commit": is_number, "value": is_number, "key": is_key,
+HOLDS = {"id": is_number, "start": is_number, "commit": is_number, "value": is_number, "before": is_number, "key": is_key,
          "status": lambda it: isinstance(it, str), "ops": lambda it: isinstance(it, list)}  # fmt: skip
 
 
-def edit_of(line):
+def edit_of(line, horizons=False):
     """The members of a line, or the least of the codes 1 to 8 that applies."""
     if len(line) > MOST_BYTES:
         raise Refused("too-long")
@@ -122,7 +127,7 @@ def edit_of(line):
     if not isinstance(value, dict):
         raise Refused("not-object")
     kind = value.get("do")
-    if not isinstance(kind, str) or kind not in FIELDS:
+    if not isinstance(kind, str) or kind not in FIELDS or kind == "forget" and not horizons:
         raise Refused("bad-kind")
     for name in FIELDS[kind]:
         if (name != "commit" or value.get("status") == "committed") and not (name in value and HOLDS[name](value[name])):
@@ -169,8 +174,46 @@ def may_write(present, txn):
             raise Refused("value-set-up", f"op={number}")
 
 
+def is_below(txn, horizon):
+    """Whether a horizon takes it away: "Gone are the transactions that committed below it, and those that aborted and started below it"."""
+    return txn.status == "committed" and txn.commit < horizon or txn.status == "aborted" and txn.start < horizon
+
+
+def forget(present, before):
+    """What stays over a horizon; or 25 or 26."""
+    if present.horizon is not None and before < present.horizon:
+        raise Refused("horizon-back", f"horizon={present.horizon}")
+    holders = [it.id for it in present.txns if it.status == "indoubt" and it.start < before]
+    if holders:
+        raise Refused("doubt-before", f"holder={min(holders)}")
+    stay = [it for it in present.txns if not is_below(it, before)]
+    stay = [it if it.start >= before else replace(it, ops=[op for op in it.ops if op[0] == "w"]) for it in stay]
+    initial = dict(present.initial)
+    for key in {key for txn in present.txns for key, _ in txn.writes()}:
+        for it in present.versions(key):
+            if it.commit < before:
+                initial[key] = it.last_write(key)
+    return Present(stay, list(initial.items()), before, frozenset(it.id for it in stay if it.status != "indoubt"))
+
+
+def refuse_behind(present, edit):
+    """Refuses what a horizon forbids, before what is present does: 22, 23 and 24."""
+    horizon = f"horizon={present.horizon}"
+    if present.horizon is None:
+        return
+    if edit["do"] == "txn" and edit["start"] < present.horizon:
+        raise Refused("start-forgotten", horizon)
+    if edit["do"] == "withdraw" and edit["id"] in present.settled:
+        raise Refused("settled", horizon)
+    if edit["do"] == "setup":
+        raise Refused("set-up-late", horizon)
+
+
 def accept(present, edit):
-    """What is present after the edit; or the first of the codes 12 to 21 that applies. (Nothing here can have 16,777,216 edits, so none is 11.)"""
+    """What is present after the edit; or the first of the codes 12 to 26 that applies. (Nothing here can have 16,777,216 edits, so none is 11.)"""
+    if edit["do"] == "forget":
+        return forget(present, edit["before"])
+    refuse_behind(present, edit)
     if edit["do"] == "setup":
         pair = edit["key"], edit["value"]
         if present.set_up(edit["key"]) is not None:
@@ -178,7 +221,7 @@ def accept(present, edit):
         holders = [it.id for it in present.txns if pair in it.writes()]
         if holders:
             raise Refused("set-up-taken", f"holder={min(holders)}")
-        return Present(present.txns, [*present.initial, pair])
+        return replace(present, initial=[*present.initial, pair])
     found = [it for it in present.txns if it.id == edit["id"]]
     commit = edit["commit"] if edit.get("status") == "committed" else None
     if edit["do"] == "txn":
@@ -187,16 +230,16 @@ def accept(present, edit):
         txn = Txn(edit["id"], edit["start"], edit["status"], commit, [tuple(op) for op in edit["ops"]])
         may_commit(present, txn)
         may_write(present, txn)
-        return Present([*present.txns, txn], present.initial)
+        return replace(present, txns=[*present.txns, txn])
     if not found:
         raise Refused("no-such")
     if edit["do"] == "withdraw":
-        return Present([it for it in present.txns if it.id != edit["id"]], present.initial)
+        return replace(present, txns=[it for it in present.txns if it.id != edit["id"]])
     if found[0].status != "indoubt":
         raise Refused("not-in-doubt")
     txn = replace(found[0], status=edit["status"], commit=commit)
     may_commit(present, txn)
-    return Present([txn if it.id == txn.id else it for it in present.txns], present.initial)
+    return replace(present, txns=[txn if it.id == txn.id else it for it in present.txns])
 
 
 # ---- findings
@@ -308,18 +351,25 @@ def chances(present):
 
 
 class Run:
-    """A run over lines in the order in which they are taken: what it writes, and its status."""
+    """A run over lines in the order in which they are taken, by the words of its command line: what it writes, and its status."""
 
-    def __init__(self, every=None, explain=False, chances=False, expected=None):
-        self.every, self.explain, self.chances, self.expected = every, explain, chances, expected or {}
+    def __init__(self, words=()):
+        number = lambda name: int(words[words.index(name) + 1]) if name in words else None
+        self.new, self.explain, self.chances, self.horizons = (f"--{it}" in words for it in ("new", "explain", "chances", "horizons"))
+        self.every, self.expected = number("--every"), number("--expect")
+        self.places = {kind: number(f"--expect-{kind}") for kind in CHANCES if f"--expect-{kind}" in words}
         self.present, self.decided, self.refused, self.text, self.verdict = Present(), 0, 0, [], None
+        self.gone, self.final, self.reported = [], [], []
 
     def take(self, source, number, line):
         """Takes a line, by its number in its source; a blank one is left out."""
         if len(line) <= MOST_BYTES and not line.strip(b" \t\r"):
             return
         try:
-            self.present = accept(self.present, edit_of(line))
+            edit, before = edit_of(line, self.horizons), self.present
+            self.present = accept(before, edit)
+            if edit["do"] == "forget":
+                self.tell_final(before)
         except Refused as it:
             self.refused += 1
             self.text.append(" ".join((f"refused source={source} line={number} code={CODES[it.args[0]]} reason={it.args[0]}", *it.args[1:])))
@@ -327,20 +377,53 @@ class Run:
         if self.every and self.decided % self.every == 0:
             self.report()
 
-    def report(self, ending=()):
-        found = findings(self.present)
+    def tell(self, found, before=""):
         for _, line, shown in found:
-            self.text += [line, shown] if self.explain and shown else [line]
+            self.text += [before + line, shown] if self.explain and shown else [before + line]
+
+    def tell_final(self, before):
+        """What the line of a horizon writes: the findings that don't stay, and a summary. What is final is told as gone by no report."""
+        found = findings(self.present)
+        final = [it for it in findings(before) if it not in found]
+        self.tell(final, "final ")
+        self.final += final
+        self.gone += [it for it in before.txns if is_below(it, self.present.horizon)]
+        self.reported = [it for it in self.reported if it not in final]
+        self.sum_up(found)
+
+    def sum_up(self, found, ending=()):
+        """The lines behind findings: what is forgotten, where a horizon was, what the last report has, and the summary of all."""
+        if self.present.horizon is not None:
+            self.text.append(f"forgot before={self.present.horizon} transactions={len(self.gone)} findings={len(self.final)}")
         self.text += ending
-        self.verdict = "clean" if not found else "violation" if any(kind >= 3 for kind, _, _ in found) else "open"
-        self.text.append(f"transactions={len(self.present.txns)} findings={len(found)} refused={self.refused} verdict={self.verdict}")
+        kinds = [kind for kind, _, _ in self.final + found]
+        self.verdict = "clean" if not kinds else "violation" if max(kinds) >= 3 else "open"
+        count = len(self.present.txns) + len(self.gone)
+        self.text.append(f"transactions={count} findings={len(kinds)} refused={self.refused} verdict={self.verdict}")
+
+    def report(self, ending=None):
+        """A report on the way, with --new of what changed; or the last one, with its ending."""
+        found = findings(self.present)
+        before, self.reported = self.reported, [it for it in found if it[0] >= 3]
+        if self.new and ending is None:
+            self.tell(it for it in self.reported if it not in before)
+            self.text += [f"gone {line}" for kind, line, shown in before if (kind, line, shown) not in self.reported]
+        else:
+            self.tell(found)
+        self.sum_up(found, ending or [])
 
     def end(self):
         """The last report: the whole text, and the exit status."""
-        there = chances(self.present) if self.chances or self.expected else {}
+        there = chances(self.present) if self.chances or self.places else {}
         told = [f"chances kind={kind} places={there[kind][0]} keys={there[kind][1]}" for kind in CHANCES if self.chances]
-        short = [f"short kind={kind} places={there[kind][0]} expected={self.expected[kind]}"
-                 for kind in CHANCES if there.get(kind, (0,))[0] < self.expected.get(kind, 0)]  # fmt: skip
+        committed = len([it for it in self.gone + self.present.txns if it.status == "committed"])
+        doubt = sorted(it.id for it in self.present.txns if it.status == "indoubt")
+        short = []
+        if self.expected is not None and (committed < self.expected or doubt):
+            ids = f" ids={','.join(map(str, doubt[:MOST_IDS]))}" if doubt else ""
+            short.append(f"short committed={committed} expected={self.expected} indoubt={len(doubt)}{ids}")
+        short += [f"short kind={kind} places={there[kind][0]} expected={self.places[kind]}"
+                  for kind in CHANCES if there.get(kind, (0,))[0] < self.places.get(kind, 0)]  # fmt: skip
         self.report(told + short)
         return ("".join(it + "\n" for it in self.text),
                 20 if self.verdict == "violation" else 10 if self.verdict == "open" or self.refused or short else 0)  # fmt: skip

@@ -15,7 +15,7 @@ BROKEN = [
      b'{"do":"withdraw","id":true}', b'{"do":"withdraw","id":1e1}', b'{"do":"resolve","id":1,"commit":3}', b'{"do":"resolve","id":1,"status":"committed"}',
      b'{"do":"txn","id":1,"start":2,"status":"done"}', b'{"do":"txn","id":1,"start":2,"status":"committed","ops":[]}',
      b'{"do":"txn","id":1,"status":"aborted","ops":[]}', b'{"do":"txn","id":1,"start":1,"status":"aborted","ops":{}}',
-     b'{"do":"setup","key":"","value":1}', b'{"do":"setup","key":"x"}', b'{"do":"setup","key":"' + b"k" * 129 + b'","value":1}'),
+     b'{"do":"setup","key":"","value":1}', b'{"do":"setup","key":"x"}', b'{"do":"setup","key":"' + b"k" * 129 + b'","value":1}', b'{"do":"forget"}'),
     (b'{"do":"resolve","id":1,"status":"indoubt"}', b'{"do":"txn","id":1,"start":2,"status":"done","ops":[7]}', b'{"do":"resolve","id":1,"status":""}'),
     (b'{"do":"txn","id":1,"start":2,"status":"aborted","ops":[' + b",".join([b"7"] * 4097) + b"]}",),
     tuple(b'{"do":"txn","id":1,"start":2,"status":"aborted","ops":[["r","x",null],%s]}' % it for it in (
@@ -27,8 +27,8 @@ BLANK = [b"", b"  ", b"\t\r"]
 class Drawn:
     """A log that is drawn: its lines, as members or as bytes."""
 
-    def __init__(self, chance):
-        self.chance = chance
+    def __init__(self, chance, forgets):
+        self.chance, self.forgets = chance, forgets
         self.keys = chance.sample(KEYS, chance.choice([1, 1, 2, 3]))
         self.faulty = chance.choice([0.0, 0.1, 0.4])  # how often something goes wrong
         self.values, self.stamp, self.number = {}, 0, 0
@@ -62,9 +62,11 @@ class Drawn:
         for number in range(1, chance.randint(2, 14)):
             self.stamp += 2
             start = max(0, self.stamp - chance.choice([0, 0, 2, 4, 6, 12]) - self.goes_wrong())
-            status = chance.choice(["committed"] * 6 + ["aborted", "indoubt", "resolved"])
+            status = chance.choice(["committed"] * 6 + ["aborted", "resolved" if self.forgets and chance.random() < 0.8 else "indoubt", "resolved"])
             self.rows += self.transaction(number, start, status, committed)
         self.disturb()
+        if self.forgets:
+            self.forget()
         return [self.written(it) for it in self.rows]
 
     def transaction(self, number, start, status, committed):
@@ -100,7 +102,7 @@ class Drawn:
         for _ in range(chance.choice([0, 0, 1, 3, len(rows)])):
             rows.insert(chance.randrange(len(rows) + 1), rows.pop(chance.randrange(len(rows)))) if rows else None
         for _ in range(chance.choice([0, 0, 0, 1, 1, 2, 4])):
-            number = chance.randint(1, 14)
+            number = chance.choice([chance.randint(1, 14), *(it["id"] for it in rows if isinstance(it, dict) and "id" in it)])
             outcome = chance.choice([{"status": "aborted"}, {"status": "committed", "commit": chance.randint(0, self.stamp + 2)}])
             key = chance.choice(self.keys)
             row = chance.choice([
@@ -115,6 +117,27 @@ class Drawn:
             rows.insert(chance.randrange(len(rows) + 1), row)
         if chance.random() < 0.004:
             rows.append(chance.choice([b" " * 1_048_577, b'{"do":"withdraw","id":1}' + b" " * chance.choice([1_048_552, 1_048_553])]))
+
+    def forget(self):
+        """Lines that ask to forget: mostly what no later line speaks of, up to what is in doubt, else more or less; and lines that a horizon may refuse."""
+        chance, rows = self.chance, self.rows
+        for _ in range(chance.choice([1, 1, 2, 2, 3, 5])):
+            place = chance.randint(chance.randint(0, len(rows)), len(rows))
+            done = {it.get("id") for it in rows[:place] if isinstance(it, dict) and it["do"] in ("resolve", "withdraw")}
+            counted = rows[place:] + [it for it in rows[:place] if isinstance(it, dict) and it.get("status") == "indoubt" and it["id"] not in done]
+            before = min((it["start"] for it in counted if isinstance(it, dict) and "start" in it), default=self.stamp + 2)
+            if chance.random() < 0.35:
+                before = max(0, before + chance.choice([-9, -4, -2, -1, 1, 1, 2, 3, 4, 6, 9]))
+            rows.insert(place, {"do": "forget", **chance.choice([{"before": before}] * 60 + [{}, {"before": None}, {"before": -1}, {"before": str(before)}])})
+            for _ in range(chance.choice([0, 1, 2]) if self.goes_wrong() else 0):
+                place = chance.randint(place + 1, len(rows))
+                number = chance.choice([it["id"] for it in rows[:place] if isinstance(it, dict) and it["do"] == "txn"] or [1])
+                rows.insert(place, chance.choice([
+                    {"do": "withdraw", "id": number},
+                    {"do": "withdraw", "id": number},
+                    {"do": "setup", "key": chance.choice(self.keys), "value": self.number + 1},
+                    {"do": "txn", "id": chance.choice([number, 20]), "start": max(0, before - chance.choice([0, 0, 1, 2])), "status": "aborted", "ops": []},
+                ]))  # fmt: skip
 
     def written(self, row):
         """A line as bytes: its members in some order, some of them twice, with spaces, escapes and members that mean nothing."""
@@ -135,6 +158,6 @@ class Drawn:
         return ("{" + text + space + "}").encode()
 
 
-def draw(chance):
-    """The lines of a log."""
-    return Drawn(chance).draw()
+def draw(chance, forgets=False):
+    """The lines of a log, and among them some that ask to forget."""
+    return Drawn(chance, forgets).draw()

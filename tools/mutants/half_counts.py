@@ -12,6 +12,8 @@ NEED_WHOLE = {
     "si_cli::command_lines::parse",
     "si_evidence::judges::judge_answer",
     "si_evidence::logs::read_log",
+    "si_run::sources::read_all",
+    "si_run::sources::read_both",
     "si_shard::applied_edits::Applied::apply_between",
     "si_shard::shards::store",
     "si_text::endings::put_few_lines",

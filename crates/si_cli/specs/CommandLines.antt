@@ -54,6 +54,10 @@ expect_rule = number_rule (codes "expect") 0 MOST_EDITS
 abbrev pub chances_rule : Rule
 chances_rule = flag_rule (codes "chances")
 
+-- `--horizons`
+abbrev pub horizons_rule : Rule
+horizons_rule = flag_rule (codes "horizons")
+
 -- `--progress`
 abbrev pub progress_rule : Rule
 progress_rule = flag_rule (codes "progress")
@@ -72,8 +76,8 @@ file_rule = record (new_rule (codes "FILE")) { action = Some Append }
 -- the subcommand
 abbrev pub check_app : App
 check_app =
-    with_rule (with_places (with_rule (with_rule (with_rule (with_rule (with_rule (with_rule (with_rule (new_app (codes "check")) shards_rule) every_rule) only_new_rule) explain_rule)
-    expect_rule) chances_rule) progress_rule)) file_rule
+    with_rule (with_places (with_rule (with_rule (with_rule (with_rule (with_rule (with_rule (with_rule (with_rule (new_app (codes "check")) shards_rule) every_rule) only_new_rule) explain_rule)
+    expect_rule) chances_rule) horizons_rule) progress_rule)) file_rule
 
 -- the program before its subcommand is added, which has to be given
 abbrev pub top_app : App
@@ -129,6 +133,10 @@ explain_given rows = flag_given (codes "explain") rows
 abbrev pub chances_given : List Row → Bool
 chances_given rows = flag_given (codes "chances") rows
 
+-- whether `--horizons` is there
+abbrev pub horizons_given : List Row → Bool
+horizons_given rows = flag_given (codes "horizons") rows
+
 -- the N of `--expect-own N`, and so on
 abbrev pub places_given : List Row → ExpectedPlaces
 places_given rows = record {
@@ -157,6 +165,7 @@ terms_of rows = record {
   explain = explain_given rows;
   expected = expected_given rows;
   asked = record { tells = chances_given rows; expected = places_given rows };
+  horizons = horizons_given rows;
   shows = progress_given rows;
 }
 

@@ -3,7 +3,7 @@
 ghost use Rattle.std.specs.Prelude.{◌≡◌, IfOk, map, false};
 ghost use Rattle.clap.specs.declared.builder.command.Command.{Command};
 ghost use Rattle.clap.specs.Words.{AddsSubcommand, FailsBy, app_of, fault_of, rule_of, subcommand_of, subcommand_rows_of, with_subcommand};
-ghost use Rattle.si_cli.specs.CommandLines.{chances_rule, check_app, every_rule, expect_rule, explain_rule, file_rule, number_rule, only_new_rule, progress_rule, shards_rule, sicheck_app};
+ghost use Rattle.si_cli.specs.CommandLines.{chances_rule, check_app, every_rule, expect_rule, explain_rule, file_rule, horizons_rule, number_rule, only_new_rule, progress_rule, shards_rule, sicheck_app};
 
 use crate::helps::MANUAL;
 use clap::builder::ValueParser;
@@ -30,6 +30,9 @@ pub const EXPECT: &str = "expect";
 
 /// The id of the flag that asks at how many places something could have been found.
 pub const CHANCES: &str = "chances";
+
+/// The id of the flag that lets lines ask for a horizon.
+pub const HORIZONS: &str = "horizons";
 
 /// The greatest number of places that may be expected.
 pub const MOST_PLACES: u64 = 16_777_216;
@@ -68,7 +71,8 @@ const ABOUT: &str = "Checks a history of transactions against snapshot isolation
 
 const USAGE: &str = "\
 sicheck check [--shards K] [--every N [--new]] [--explain] [--expect N]
-                     [--chances] [--expect-KIND N]... [--progress] [FILE]...";
+                     [--chances] [--expect-KIND N]... [--horizons]
+                     [--progress] [FILE]...";
 
 /// Reads the words of a command line, of which the first is the program's name.
 ///
@@ -109,6 +113,7 @@ fn check<'a>(alloc: Global) -> Result<Command<'a>, AllocError>
         .arg(explain(alloc))?
         .arg(expect(alloc))?
         .arg(chances(alloc))?
+        .arg(horizons(alloc))?
         .arg(progress(alloc))?
         .arg(places(alloc, EXPECT_OWN))?
         .arg(places(alloc, EXPECT_ABORTED))?
@@ -184,6 +189,17 @@ fn chances<'a>(alloc: Global) -> Arg<'a>
         .long("chances")
         .action(ArgAction::SetTrue)
         .help("Tells at how many places a fault would have shown")
+}
+
+/// The flag that lets lines ask for a horizon, below which all is forgotten.
+fn horizons<'a>(alloc: Global) -> Arg<'a>
+    ensures rule { rule_of result ≡ horizons_rule }
+    ensures local { result.global ≡ false }
+{
+    Arg::new(alloc, HORIZONS)
+        .long("horizons")
+        .action(ArgAction::SetTrue)
+        .help("Takes lines that let it forget what lies below a stamp")
 }
 
 /// An option of that name which says how many places of a kind are expected at least. The usage line of help shows them, and the manual.

@@ -31,7 +31,8 @@ pub const CHECK_HEAD: &str = "\
 Checks the history in FILEs, or on standard input if none is named
 
 Usage: sicheck check [--shards K] [--every N [--new]] [--explain] [--expect N]
-                     [--chances] [--expect-KIND N]... [--progress] [FILE]...
+                     [--chances] [--expect-KIND N]... [--horizons]
+                     [--progress] [FILE]...
 
 Options:
       --shards <K>  Uses K shards, 1 to 16 (else 4), with the same output
@@ -40,6 +41,7 @@ Options:
       --explain     Follows each violation but own with its evidence
       --expect <N>  Expects N committed transactions, and none in doubt
       --chances     Tells at how many places a fault would have shown
+      --horizons    Takes lines that let it forget what lies below a stamp
       --progress    Shows on standard error how far it is, in one line
   -h, --help        Print help
 

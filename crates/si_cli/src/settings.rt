@@ -8,7 +8,7 @@ ghost use Rattle.si_run.specs.Runs.{every_by, terms_by};
 use crate::Options;
 use crate::command_lines::{
     CHANCES, EVERY, EXPECT, EXPECT_ABORTED, EXPECT_FUTURE, EXPECT_INTERMEDIATE, EXPECT_OVERLAP,
-    EXPECT_OWN, EXPECT_STALE, EXPLAIN, FILE, NEW, PROGRESS, SHARDS, parse,
+    EXPECT_OWN, EXPECT_STALE, EXPLAIN, FILE, HORIZONS, NEW, PROGRESS, SHARDS, parse,
 };
 use clap::ArgMatches;
 use si_model::MOST_EDITS;
@@ -31,6 +31,7 @@ const USUAL: Options = Options {
     explain: false,
     expected: None,
     asked: NOTHING_ASKED,
+    horizons: false,
     shows_progress: false,
     limit: MOST_EDITS,
 };
@@ -80,7 +81,8 @@ impl std::error::Error for SettingsFault {}
 
 /// What the words of a command line ask for, of which the first is the program's name.
 ///
-/// They are `sicheck check [--shards K] [--every N [--new]] [--explain] [--expect N] [--chances] [--expect-KIND N]... [--progress] [FILE]...`,
+/// They are `sicheck check [--shards K] [--every N [--new]] [--explain] [--expect N] [--chances] [--expect-KIND N]... [--horizons] [--progress]
+/// [FILE]...`,
 /// with K from 1 to `MOST_SHARDS`, `USUAL_SHARDS` where it isn't given, N of `--every` from 1 to `MOST_EVERY`, N of `--expect` and of each
 /// `--expect-KIND` from 0 to `MOST_EDITS`, and KIND `own`, `aborted`, `intermediate`, `future`, `stale` or `overlap`. A fault is one that
 /// `clap`'s definition of the command tells of the words, or that memory was refused, or that `--new` comes without `--every`, or that they name
@@ -220,6 +222,7 @@ fn options_of(check: &ArgMatches<'_>) -> Options
         explain: has_flag(check, EXPLAIN),
         expected: expected_of(check),
         asked: asked_of(check),
+        horizons: has_flag(check, HORIZONS),
         shows_progress: has_flag(check, PROGRESS),
         limit: MOST_EDITS,
     }

@@ -8,7 +8,8 @@ use Rattle.si_model.specs.Journals.{present}
 use Rattle.si_text.specs.Inputs.{Item, items_of, lines_of}
 use Rattle.si_text.specs.Texts.{shown_text, failure_text}
 use Rattle.si_graph.specs.Shown.{Shows}
-use Rattle.si_run.specs.Outputs.{counted, journal_after, reason_after, refusal_line}
+use Rattle.si_run.specs.Laws.{journal_after, reason_plainly}
+use Rattle.si_run.specs.Outputs.{counted, refusal_line}
 use Rattle.si_evidence.specs.declared.judges.Judged.{Judged}
 use Rattle.si_evidence.specs.declared.judges.Judged.TheVariants as judged
 
@@ -28,8 +29,8 @@ unread = record { journal = []; text = []; refused = 0 }
 abbrev pub logged_after : Logged → Item → Logged
 logged_after l item = record {
   journal = journal_after MOST_EDITS l.journal item.1;
-  text = l.text ++ refusal_line 0 item.0 (reason_after MOST_EDITS l.journal item.1);
-  refused = counted l.refused (reason_after MOST_EDITS l.journal item.1);
+  text = l.text ++ refusal_line 0 item.0 (reason_plainly MOST_EDITS l.journal item.1);
+  refused = counted l.refused (reason_plainly MOST_EDITS l.journal item.1);
 }
 
 -- after these items

@@ -4,7 +4,7 @@ ghost use Rattle.std.specs.Prelude.{◌≡◌, ◌<◌, ◌≤◌, ◌+◌, ◌-
 ghost use Rattle.si_model.specs.Journals.{present};
 ghost use Rattle.si_model.specs.declared.edits.TheConstants.{MOST_EDITS};
 ghost use Rattle.si_text.specs.Inputs.{item_of, items_of};
-ghost use Rattle.si_run.specs.Outputs.{journal_after, reason_after};
+ghost use Rattle.si_run.specs.Laws.{journal_after, reason_plainly};
 ghost use Rattle.si_evidence.specs.Judging.{logged_after, logged_through, unread};
 
 use si_accept::{AcceptFault, Book};
@@ -105,7 +105,7 @@ impl Log {
 
     /// Accepts the edit of an item, or tells why the item is refused.
     fn accept(&mut self, answer: Result<Edit, LineFault>) -> Result<Option<Reason>, OutOfMemory>
-        ensures reason { IfOk result (λ reason. reason ≡ reason_after MOST_EDITS self.old.journal answer) }
+        ensures reason { IfOk result (λ reason. reason ≡ reason_plainly MOST_EDITS self.old.journal answer) }
         ensures ok { OnOk result (self.new ≡ record self.old { journal = journal_after MOST_EDITS self.old.journal answer }) }
     {
         match answer {
@@ -116,7 +116,7 @@ impl Log {
 
     /// Accepts the edit, or tells the first reason against it.
     fn submit(&mut self, edit: Edit) -> Result<Option<Reason>, OutOfMemory>
-        ensures reason { IfOk result (λ reason. reason ≡ reason_after MOST_EDITS self.old.journal (TheOk edit)) }
+        ensures reason { IfOk result (λ reason. reason ≡ reason_plainly MOST_EDITS self.old.journal (TheOk edit)) }
         ensures ok { OnOk result (self.new ≡ record self.old { journal = journal_after MOST_EDITS self.old.journal (TheOk edit) }) }
     {
         match self.book.accept(edit) {

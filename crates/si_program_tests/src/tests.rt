@@ -40,6 +40,7 @@ const PLAIN: Options = Options {
     explain: false,
     expected: None,
     asked: NOTHING_ASKED,
+    horizons: false,
     shows_progress: false,
     limit: 16_777_216,
 };

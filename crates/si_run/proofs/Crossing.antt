@@ -7,16 +7,14 @@ use denote.Struct.Declared.{shape}
 use Rattle.std.proofs.Crossing.{crosses}
 use Rattle.std.proofs.alloc.Global.TheSendSync as global
 use Rattle.std.proofs.random_state.RandomState.TheSendSync as secret
-use Rattle.si_checker.specs.declared.names.Name.{Ghosts}
-use Rattle.si_checker.proofs.Crossing.{checker_sync}
 use Rattle.si_run.specs.contracts.sessions.Session as Session
 
-pub session_sync : (ℓ : NamedLft) (N G : RattleType) (names : Ghosts N.Denot) → IsSync G → IsSync (Session.the_row ℓ N G names)
-session_sync ℓ N G names gate =
-    recorded_sync (Session.the_field ℓ N G names).row _ _ (Session.the_type ℓ N G names).to_one (struct_sync (shape (Session.the_type ℓ N G names)) (
+pub session_sync : (ℓ : NamedLft) (G : RattleType) → IsSync G → IsSync (Session.the_row ℓ G)
+session_sync ℓ G gate =
+    recorded_sync (Session.the_field ℓ G).row _ _ (Session.the_type ℓ G).to_one (struct_sync (shape (Session.the_type ℓ G)) (
       global.the_field_sync,
       (
         secret.the_field_sync,
-        (shr_sync _ _ _ (checker_sync N names), (shr_sync _ _ _ gate, (search (crosses, sendable) depth 20, (search (crosses, sendable) depth 20, (search (crosses, sendable) depth 20, tt))))),
+        (shr_sync _ _ _ gate, (search (crosses, sendable) depth 20, (search (crosses, sendable) depth 20, (search (crosses, sendable) depth 20, tt)))),
       ),
     ))

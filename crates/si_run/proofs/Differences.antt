@@ -1,5 +1,5 @@
 -- What came and what went between two lists in order, and how many are in each.
-use Rattle.std.proofs.Common.{◌≡◌, ◌∙◌, ◌||◌, ℕ, suc, ◌+◌, ◌<◌, ◌≤◌, Bool, true, false, cond, not, length, List, [], ◌∷◌, ◌++◌, take, refl, sym, ap, subst, arith, true≢false, if◌then◌else◌}
+use Rattle.std.proofs.Common.{◌≡◌, ◌∙◌, ◌||◌, ℕ, suc, ◌+◌, ◌<◌, ◌≤◌, Bool, true, false, cond, not, length, List, [], ◌∷◌, ◌++◌, take, Option, None, refl, sym, ap, subst, arith, true≢false, if◌then◌else◌}
 use Rattle.std.specs.List.{Contains, filter, flat_map, list_any}
 use Rattle.std.proofs.lemmas.List.{take_all}
 use Rattle.std.specs.List.Sorted.{IsStrictlySortedBy}
@@ -19,8 +19,8 @@ use Rattle.si_words.specs.declared.views.PassView.{PassView}
 use Rattle.si_words.specs.Entries.{edits_of}
 use Rattle.si_run.specs.declared.tolds.Told.{Told}
 use Rattle.si_run.specs.Engines.{EngineState, engine_state}
-use Rattle.si_run.specs.Outputs.{Terms, violations_at}
-use Rattle.si_run.specs.Tolds.{IsChange, IsTold, IsToldIn}
+use Rattle.si_run.specs.Outputs.{Forgotten, Terms, violations_at}
+use Rattle.si_run.specs.Tolds.{IsChange, IsTold, IsToldIn, found_then}
 use Rattle.si_run.proofs.Changed.{equals, exact, in_not_among, not_in}
 
 -- ---- parts of a list in order
@@ -34,10 +34,10 @@ parts p (x ∷ xs) = by (p x) (parts p xs)
     by true rest = omega (arith, rest)
     by false rest = omega (arith, rest)
 
-not_among_sorted : (others found : List Finding) → IsStrictlySortedBy finding_cmp found → IsStrictlySortedBy finding_cmp (not_among others found)
+pub not_among_sorted : (others found : List Finding) → IsStrictlySortedBy finding_cmp found → IsStrictlySortedBy finding_cmp (not_among others found)
 not_among_sorted others found s = IsStrictlySortedBy-filter finding_cmp (λ f. not (list_any (finding_eq f) others)) found s
 
-violations_sorted : (found : List Finding) → IsStrictlySortedBy finding_cmp found → IsStrictlySortedBy finding_cmp (violations_of found)
+pub violations_sorted : (found : List Finding) → IsStrictlySortedBy finding_cmp found → IsStrictlySortedBy finding_cmp (violations_of found)
 violations_sorted found s = IsStrictlySortedBy-filter finding_cmp (λ f. is_violation f.kind) found s
 
 same_list : (fs gs : List Finding) → IsStrictlySortedBy finding_cmp fs → IsStrictlySortedBy finding_cmp gs → ((f : Finding) → Contains fs f → Contains gs f) → ((f : Finding) → Contains gs f → Contains fs f) → fs ≡ gs
@@ -168,12 +168,30 @@ told_now J t end told = record {
   told = subst (λ l. IsTold (findings (present l)) t) (sym (all_told J t.at end)) told;
 }
 
+-- what came and what went since a place of the journal
+pub change_in : (J : List Edit) (n : ℕ) (more less : List Finding) → more ≡ not_among (found_then J n) (findings (present J)) → less ≡ not_among (findings (present J)) (found_then J n)
+    → IsChange (found_then J n) (findings (present J)) more less
+change_in J n more less came went = record { rose = found_sorted (take n J); rises = found_sorted J; came = came; went = went }
+
+-- the same of the violations
+pub violations_in : (J : List Edit) (n : ℕ) (more less more_left less_left : List Finding) → IsChange (found_then J n) (findings (present J)) more less → more_left ≡ violations_of more → less_left ≡ violations_of less
+    → IsChange (violations_of (found_then J n)) (violations_of (findings (present J))) more_left less_left
+violations_in J n more less more_left less_left change came went =
+    let left = violations_change (found_then J n) (findings (present J)) more less change in
+    record { rose = left.rose; rises = left.rises; came = came ∙ left.came; went = went ∙ left.went }
+
+-- what is told now is counted
+pub now_told : (J : List Edit) (before now : Told) (more less : List Finding) → IsTold (found_then J before.at) before → IsChange (found_then J before.at) (findings (present J)) more less
+    → ((was is : List Finding) → IsChange was is more less → IsTold was before → IsTold is now) → IsTold (findings (present J)) now
+now_told J before now more less was change after = after (found_then J before.at) (findings (present J)) change was
+
 -- the engine is as it was but for what was told
-pub told_state : (terms : Terms) (pass : PassView) (decided refused : ℕ) (before t : Told) (s : EngineState) → engine_state terms pass decided refused before ≡ s → t.at ≡ length s.progress.journal
-    → engine_state terms pass decided refused t ≡ record s { progress = record s.progress { told = violations_at s.progress } }
-told_state terms pass decided refused before t s is end =
-    subst (λ (x : EngineState). t.at ≡ length x.progress.journal → engine_state terms pass decided refused t ≡ record x { progress = record x.progress { told = violations_at x.progress } }) is
+pub told_state : (terms : Terms) (pass : PassView) (decided refused : ℕ) (before t : Told) (listed : Option (List Finding)) (forgotten : Option Forgotten) (s : EngineState)
+    → engine_state terms pass decided refused before listed forgotten ≡ s → t.at ≡ length s.progress.journal
+    → engine_state terms pass decided refused t None forgotten ≡ record s { progress = record s.progress { told = violations_at s.progress } }
+told_state terms pass decided refused before t listed forgotten s is end =
+    subst (λ (x : EngineState). t.at ≡ length x.progress.journal → engine_state terms pass decided refused t None forgotten ≡ record x { progress = record x.progress { told = violations_at x.progress } }) is
     (λ far.
     (let all : take t.at (edits_of pass.seen) ≡ edits_of pass.seen = all_told (edits_of pass.seen) t.at far in
-    λ i. record { terms = terms; progress = record { journal = edits_of pass.seen; decided = decided; refused = refused; told = violations_of (findings (present (all i))) } }))
+    λ i. record { terms = terms; progress = record { journal = edits_of pass.seen; decided = decided; refused = refused; told = violations_of (findings (present (all i))); forgotten = forgotten } }))
     end

@@ -1,72 +1,40 @@
 -- What the exit status says.
-use Rattle.std.proofs.Common.{◌≡◌, ◌⊎◌, inl, inr, ℕ, ◌+◌, ◌≤◌, ◌==◌, ◌&&◌, ◌||◌, Bool, true, false, not, nat_lt, length, List, [], ◌∷◌, ◌++◌, Option, Some, None, refl, sym, ap, ap₂, subst, ◌∙◌, append_assoc, arith}
-use Rattle.std.specs.Prelude.{◌↔◌, Result, Ok, Err, if◌then◌else◌, nat_le, is_none}
-use Rattle.std.specs.List.{flat_map, list_any}
+use Rattle.std.proofs.Common.{◌≡◌, ◌⊎◌, ⊎_elim, inl, inr, ℕ, ◌+◌, ◌<◌, ◌≤◌, ◌==◌, ◌&&◌, ◌||◌, Bool, true, false, not, cond, nat_lt, length, List, [], ◌∷◌, ◌++◌, Option, Some, None, refl, sym, ap, ap₂, subst, ◌∙◌, append_assoc, arith}
+use Rattle.std.specs.Prelude.{◌↔◌, Result, Ok, Err, if◌then◌else◌, nat_le, ⊤}
+use Rattle.std.specs.List.{Contains, flat_map, list_any}
+use Rattle.std.specs.Option.{option_map, option_or}
 use Rattle.std.proofs.lemmas.Bool.{eqb-true, ltb-false, ltb-true}
 use Rattle.std.proofs.lemmas.List.{nil_from_length}
 use Rattle.si_lists.proofs.Tests.{any_from, any_is}
 use Rattle.si_model.specs.declared.edits.Edit.{Edit}
+use Rattle.si_model.specs.declared.numbers.Stamp.{Stamp}
 use Rattle.si_model.specs.declared.refusals.Refusal.{Refusal}
 use Rattle.si_model.specs.declared.refusals.Refusal.TheVariants as refusal
-use Rattle.si_model.specs.declared.transactions.Txn.{Txn}
 use Rattle.si_model.specs.declared.findings.Finding.{Finding}
 use Rattle.si_model.specs.Edits.{IsAcceptable, refusal_on}
 use Rattle.si_model.specs.declared.chances.Chances.{Chances}
 use Rattle.si_model.specs.Chances.{chances}
 use Rattle.si_model.specs.Findings.{findings}
-use Rattle.si_model.specs.Parts.{Present}
+use Rattle.si_model.specs.Horizons.{carried}
+use Rattle.si_model.specs.HorizonLaws.{CarriedIsHistory, HistoriesAreMade}
 use Rattle.si_model.specs.Journals.{IsAccepted, present, refusal_after}
 use Rattle.si_model.specs.Laws.{AcceptedGrows, PresentIsHistory}
 use Rattle.si_graph.specs.SnapshotLaws.{SnapshotsAreClean}
 use Rattle.si_graph.specs.Snapshots.{IsSnapshot}
-use Rattle.si_accept.specs.Statuses.{committed_among, doubtful_among}
 use Rattle.si_text.specs.declared.faults.LineFault.{LineFault}
+use Rattle.si_text.specs.declared.faults.LineFault.TheVariants as fault
+use Rattle.si_text.specs.declared.horizon_refusals.HorizonRefusal.{HorizonRefusal}
 use Rattle.si_text.specs.declared.reasons.Reason.{Reason}
+use Rattle.si_text.specs.declared.reasons.Reason.TheVariants.{Refused, Horizon}
 use Rattle.si_text.specs.declared.verdicts.Verdict.{Verdict}
 use Rattle.si_text.specs.declared.verdicts.Verdict.TheVariants as verdict
 use Rattle.si_text.specs.declared.endings.ExpectedPlaces.{ExpectedPlaces}
-use Rattle.si_text.specs.Texts.{are_few, few_lines, finding_lines, is_few, is_violation, told_chances, verdict_of}
+use Rattle.si_text.specs.Texts.{are_few, few_lines, finding_lines, forgot_lines, is_few, is_violation, told_chances, verdict_of, verdict_with, violations_of}
 use Rattle.si_run.specs.declared.statuses.ExitStatus.TheVariants as exit
-use Rattle.si_run.specs.Outputs.{Progress, SourcedItem, Terms, behind_report, counted, decided_after, ending_lines, falls_short, is_due, is_short_of, item_text, items_text, journal_after, journal_with, output_of, progress_after, progress_through, reason_after, report_at, short_line, start, status_at, status_by, status_of, summary_at, violations_at, whole_report_at, changes_at}
-use Rattle.si_run.specs.Laws.{accepted_after, refused_among}
-use Rattle.si_run.specs.GateLaws.{AreEnough, ExpectAdds, GateIsExact, HasEnough, IsEnough, ViolationIsExact, unasked}
-
--- ---- what the decisions come to
-
-module _ (terms : Terms) where
-  behind_journal : (p : Progress) → (behind_report terms p).journal ≡ p.journal
-  unfolding behind_report
-  behind_journal p = by (is_due terms.every p.decided && terms.only_new)
-    where
-      by : (b : Bool) → (if b then record p { told = violations_at p } else p).journal ≡ p.journal
-      by true = refl
-      by false = refl
-
-  behind_refused : (p : Progress) → (behind_report terms p).refused ≡ p.refused
-  unfolding behind_report
-  behind_refused p = by (is_due terms.every p.decided && terms.only_new)
-    where
-      by : (b : Bool) → (if b then record p { told = violations_at p } else p).refused ≡ p.refused
-      by true = refl
-      by false = refl
-
-  journals : (p : Progress) (items : List SourcedItem) → (progress_through terms p items).journal ≡ accepted_after terms.limit p.journal items
-  unfolding progress_after decided_after
-  journals p [] = refl
-  journals p (item ∷ items) =
-      journals (progress_after terms p item) items ∙ ap (λ J. accepted_after terms.limit J items) (behind_journal (decided_after terms p item))
-
-  counted-plus : (n m : ℕ) (reason : Option Reason) → counted n reason + m ≡ n + counted m reason
-  counted-plus n m None = refl
-  counted-plus n m (Some reason) = omega arith
-
-  counts : (p : Progress) (items : List SourcedItem) → (progress_through terms p items).refused ≡ p.refused + refused_among terms.limit p.journal items
-  unfolding progress_after decided_after
-  counts p [] = omega arith
-  counts p (item ∷ items) =
-      counts (progress_after terms p item) items
-      ∙ ap₂ (λ n J. n + refused_among terms.limit J items) (behind_refused (decided_after terms p item)) (behind_journal (decided_after terms p item))
-      ∙ counted-plus p.refused (refused_among terms.limit (journal_after terms.limit p.journal item.1.1) items) (reason_after terms.limit p.journal item.1.1)
+use Rattle.si_run.specs.Outputs.{Forgotten, Progress, SourcedItem, Terms, answer_told, behind_report, changes_at, committed_in, counted, decided_after, doubtful_in, falls_short, fault_taken, finals_at, forgot_in, forgotten_at, horizon_text, is_short_of, item_text, items_text, late_by, output_of, over, progress_after, progress_through, reason_after, report_at, report_due, short_line, start, status_at, status_by, status_of, sum_with, summary_at, taken_by, told_of, told_text, verdict_at, whole_report_at}
+use Rattle.si_run.specs.Laws.{refused_among}
+use Rattle.si_run.specs.GateLaws.{AreEnough, ExpectAdds, GateIsExact, HasEnough, HasFinalViolation, HasNoFinals, IsEnough, ViolationIsExact, WithoutHorizons, unasked}
+use Rattle.si_run.proofs.PlainRuns.{behind_forgotten, behind_journal, counts, journals, never_forgotten}
 
 -- ---- what is accepted is an accepted journal
 
@@ -82,18 +50,78 @@ none_accepted : IsAccepted []
 none_accepted [] e rest is = cc
 none_accepted (x ∷ before) e rest is = cc
 
-module _ (grows : AcceptedGrows) (limit : ℕ) where
-  one_more : (J : List Edit) → IsAccepted J → (r : Result Edit LineFault) → IsAccepted (journal_after limit J r)
-  one_more J a (Err fault) = a
-  one_more J a (Ok e) = by (refusal_after limit J e) refl
-    where
-      by : (o : Option Refusal) → refusal_after limit J e ≡ o → IsAccepted (journal_with J e (is_none o))
-      by None is = (grows J e).1 (a, acceptable limit J e is)
-      by (Some reason) is = a
+-- a reason against an edit may be one of a horizon
+no_reason : (late : Option HorizonRefusal) (refused : Option Refusal) → option_or (option_map (λ h. Horizon h) late) (option_map (λ r. Refused r) refused) ≡ None → refused ≡ None
+no_reason None None is = refl
+no_reason None (Some r) is = cc
+no_reason (Some h) refused is = cc
 
-  all_accepted : (J : List Edit) → IsAccepted J → (items : List SourcedItem) → IsAccepted (accepted_after limit J items)
-  all_accepted J a [] = a
-  all_accepted J a (item ∷ items) = all_accepted (journal_after limit J item.1.1) (one_more J a item.1.1) items
+-- violations that were told as final are findings that were
+abbrev CountsFinals : Option Forgotten → Type 0
+CountsFinals None = ⊤
+CountsFinals (Some f) = f.violations ≤ f.findings
+
+-- what is decided is accepted and counted
+record IsSound (p : Progress) : Type 0 where
+  accepted : IsAccepted p.journal
+  counts : CountsFinals p.forgotten
+
+sums : (o : Option Forgotten) (n m : ℕ) → CountsFinals o → n ≤ m → sum_with (λ f. f.violations) o n ≤ sum_with (λ f. f.findings) o m
+sums None n m c le = le
+sums (Some f) n m c le = omega (arith, c, le)
+
+fewer : (fs : List Finding) → length (violations_of fs) ≤ length fs
+fewer [] = omega arith
+fewer (f ∷ fs) = by (is_violation f.kind) (fewer fs)
+  where
+    by : (b : Bool) → length (violations_of fs) ≤ length fs → length (cond b (f ∷ violations_of fs) (violations_of fs)) ≤ length (f ∷ fs)
+    by true rest = omega (arith, rest)
+    by false rest = omega (arith, rest)
+
+module _ (grows : AcceptedGrows) (history : PresentIsHistory) (made : HistoriesAreMade) (carries : CarriedIsHistory) (terms : Terms) where
+  edit_sound : (p : Progress) → IsSound p → (e : Edit) → refusal_after terms.limit p.journal e ≡ None → IsSound (record p { journal = p.journal ++ e ∷ [] })
+  edit_sound p s e none = record { accepted = (grows p.journal e).1 (s.accepted, acceptable terms.limit p.journal e none); counts = s.counts }
+
+  over_sound : (p : Progress) → IsSound p → (H : Stamp) → IsSound (over H p)
+  unfolding over forgotten_at
+  over_sound p s H = record {
+    accepted = (made (carried H (present p.journal)) (carries (present p.journal) H (history p.journal s.accepted))).0;
+    counts = sums p.forgotten (length (violations_of (finals_at H p))) (length (finals_at H p)) s.counts (fewer (finals_at H p));
+  }
+
+  fault_sound : (p : Progress) → IsSound p → (f : LineFault) → IsSound (fault_taken f p)
+  fault_sound p s (fault.Forget None) = s
+  fault_sound p s (fault.Forget (Some H)) = over_sound p s H
+  fault_sound p s fault.TooLong = s
+  fault_sound p s fault.NotJson = s
+  fault_sound p s fault.NotObject = s
+  fault_sound p s fault.BadKind = s
+  fault_sound p s (fault.BadField field) = s
+  fault_sound p s fault.BadStatus = s
+  fault_sound p s fault.TooManyOps = s
+  fault_sound p s (fault.BadOp index) = s
+  fault_sound p s fault.OutOfMemory = s
+
+  taken_sound : (p : Progress) → IsSound p → (answer : Result Edit LineFault) (o : Option Reason) → reason_after terms p answer ≡ o → IsSound (taken_by o answer p)
+  taken_sound p s answer (Some reason) is = s
+  taken_sound p s (Ok e) None is = edit_sound p s e (no_reason (late_by p.forgotten e) (refusal_after terms.limit p.journal e) is)
+  taken_sound p s (Err f) None is = fault_sound p s f
+
+  behind_sound : (p : Progress) → IsSound p → IsSound (behind_report terms p)
+  behind_sound p s = record {
+    accepted = subst IsAccepted (sym (behind_journal terms p)) s.accepted;
+    counts = subst CountsFinals (sym (behind_forgotten terms p)) s.counts;
+  }
+
+  one_sound : (p : Progress) → IsSound p → (item : SourcedItem) → IsSound (progress_after terms p item)
+  unfolding progress_after decided_after
+  one_sound p s item =
+      let t = taken_sound p s item.1.1 (reason_after terms p item.1.1) refl in
+      behind_sound (decided_after terms p item) (record { accepted = t.accepted; counts = t.counts })
+
+  all_sound : (p : Progress) → IsSound p → (items : List SourcedItem) → IsSound (progress_through terms p items)
+  all_sound p s [] = s
+  all_sound p s (item ∷ items) = all_sound (progress_after terms p item) (one_sound p s item) items
 
 -- ---- the status
 
@@ -125,20 +153,20 @@ short_test false false e = cc
 not_short : (a b : Bool) → a ≡ false → b ≡ true → (a || not b) ≡ false
 not_short a b p q = cc
 
-enough : (expected : Option ℕ) (txns : List Txn) → (is_short_of expected txns ≡ false) ↔ IsEnough expected txns
-enough None txns = (λ e. tt, λ e. refl)
-enough (Some n) txns = (
+enough : (expected : Option ℕ) (p : Progress) → (is_short_of expected (committed_in p) (doubtful_in p) ≡ false) ↔ IsEnough expected p
+enough None p = (λ e. tt, λ e. refl)
+enough (Some n) p = (
   λ e. (
-      let both = short_test (nat_lt (committed_among txns) n) (length (doubtful_among txns) == 0) e in (
-        ltb-false (committed_among txns) n both.0,
-        nil_from_length (doubtful_among txns) (eqb-true (length (doubtful_among txns)) 0 both.1),
+      let both = short_test (nat_lt (committed_in p) n) (length (doubtful_in p) == 0) e in (
+        ltb-false (committed_in p) n both.0,
+        nil_from_length (doubtful_in p) (eqb-true (length (doubtful_in p)) 0 both.1),
       )
       ),
-  λ is. not_short (nat_lt (committed_among txns) n) (length (doubtful_among txns) == 0) (few (nat_lt (committed_among txns) n) refl is.0) (ap (λ l. length l == 0) is.1),
+  λ is. not_short (nat_lt (committed_in p) n) (length (doubtful_in p) == 0) (few (nat_lt (committed_in p) n) refl is.0) (ap (λ l. length l == 0) is.1),
 )
   where
-    few : (b : Bool) → nat_lt (committed_among txns) n ≡ b → n ≤ committed_among txns → b ≡ false
-    few true is most = absurd (let less = ltb-true (committed_among txns) n is in omega (arith, less, most))
+    few : (b : Bool) → nat_lt (committed_in p) n ≡ b → n ≤ committed_in p → b ≡ false
+    few true is most = absurd (let less = ltb-true (committed_in p) n is in omega (arith, less, most))
     few false is most = refl
 
 -- ---- places
@@ -187,14 +215,40 @@ few_are e c = (to, from)
         neither _ _ stale ((few_is c.overlap.places e.overlap).1 all.overlap)
 
 -- nothing is short exactly where transactions and places are enough
-whole : (terms : Terms) (P : Present) → (falls_short terms P ≡ false) ↔ (IsEnough terms.expected P.txns × AreEnough terms.asked.expected (chances P))
-whole terms P = (
-  λ e. (let both = no_or (is_short_of terms.expected P.txns) (are_few terms.asked.expected (chances P)) e in
-      ((enough terms.expected P.txns).0 both.0, (few_are terms.asked.expected (chances P)).0 both.1)),
-  λ is. neither _ _ ((enough terms.expected P.txns).1 is.0) ((few_are terms.asked.expected (chances P)).1 is.1),
+whole : (terms : Terms) (p : Progress) → (falls_short terms p ≡ false) ↔ (IsEnough terms.expected p × AreEnough terms.asked.expected (chances (present p.journal)))
+whole terms p = (
+  λ e. (let both = no_or (is_short_of terms.expected (committed_in p) (doubtful_in p)) (are_few terms.asked.expected (chances (present p.journal))) e in
+      ((enough terms.expected p).0 both.0, (few_are terms.asked.expected (chances (present p.journal))).0 both.1)),
+  λ is. neither _ _ ((enough terms.expected p).1 is.0) ((few_are terms.asked.expected (chances (present p.journal))).1 is.1),
 )
 
-module _ (clean : SnapshotsAreClean) (history : PresentIsHistory) (grows : AcceptedGrows) where
+-- ---- the verdict with what was told as final
+
+if_clean : (b c : Bool) → (if b then verdict.Violation else (if c then verdict.Open else verdict.Clean)) ≡ verdict.Clean → c ≡ false
+if_clean true c e = cc
+if_clean false true e = cc
+if_clean false false e = refl
+
+if_open : (b : Bool) → (if b then verdict.Violation else verdict.Open) ≡ verdict.Clean → ⊥
+if_open true e = cc
+if_open false e = cc
+
+zero : (n : ℕ) → nat_lt 0 n ≡ false → n ≡ 0
+zero n e = (let le = ltb-false 0 n e in omega (arith, le))
+
+clean_with : (o : Option Forgotten) (v : Verdict) → verdict_with (option_map told_of o) v ≡ verdict.Clean → HasNoFinals o × (v ≡ verdict.Clean)
+clean_with None v e = (tt, e)
+clean_with (Some f) verdict.Violation e = cc
+clean_with (Some f) verdict.Open e = absurd (if_open (nat_lt 0 f.violations) e)
+clean_with (Some f) verdict.Clean e = (zero f.findings (if_clean (nat_lt 0 f.violations) (nat_lt 0 f.findings) e), refl)
+
+none_final : (o : Option Forgotten) → CountsFinals o → HasNoFinals o → verdict_with (option_map told_of o) verdict.Clean ≡ verdict.Clean
+none_final None c none = refl
+none_final (Some f) c none =
+    let violations : f.violations ≡ 0 = omega (arith, c, none) in
+    ap₂ (λ n m. if nat_lt 0 n then verdict.Violation else (if nat_lt 0 m then verdict.Open else verdict.Clean)) violations none
+
+module _ (clean : SnapshotsAreClean) (history : PresentIsHistory) (grows : AcceptedGrows) (made : HistoriesAreMade) (carries : CarriedIsHistory) where
   pub gate_exact : GateIsExact
   unfolding status_of status_at
   gate_exact terms items = (to, from)
@@ -202,39 +256,33 @@ module _ (clean : SnapshotsAreClean) (history : PresentIsHistory) (grows : Accep
       p : Progress
       p = progress_through terms start items
 
-      J : List Edit
-      J = accepted_after terms.limit [] items
+      sound : IsSound p
+      sound = all_sound grows history made carries terms start (record { accepted = none_accepted; counts = tt }) items
 
-      journal : p.journal ≡ J
-      journal = journals terms start items
-
-      refused : p.refused ≡ refused_among terms.limit [] items
-      refused = omega (arith, counts terms start items)
-
-      exact : (findings (present J) ≡ []) ↔ IsSnapshot (present J)
-      exact = clean (present J) (history J (all_accepted grows terms.limit [] none_accepted items))
+      exact : (findings (present p.journal) ≡ []) ↔ IsSnapshot (present p.journal)
+      exact = clean (present p.journal) (history p.journal sound.accepted)
 
       to : status_of terms items ≡ exit.Clean
-          → (refused_among terms.limit [] items ≡ 0) × IsSnapshot (present J) × IsEnough terms.expected (present J).txns × AreEnough terms.asked.expected (chances (present J))
+          → (p.refused ≡ 0) × HasNoFinals p.forgotten × IsSnapshot (present p.journal) × IsEnough terms.expected p × AreEnough terms.asked.expected (chances (present p.journal))
       to e =
-          let s = status_clean (verdict_of (findings (present p.journal))) p.refused (falls_short terms (present p.journal)) e in
-          let none = clean_verdict (findings (present p.journal)) s.0 in
-          let enough = (whole terms (present J)).0 (subst (λ K. falls_short terms (present K) ≡ false) journal s.2) in (
-            sym refused ∙ s.1,
-            exact.0 (subst (λ K. findings (present K) ≡ []) journal none),
+          let s = status_clean (verdict_at p) p.refused (falls_short terms p) e in
+          let v = clean_with p.forgotten (verdict_of (findings (present p.journal))) s.0 in
+          let enough = (whole terms p).0 s.2 in (
+            s.1,
+            v.0,
+            exact.0 (clean_verdict (findings (present p.journal)) v.1),
             enough.0,
             enough.1,
           )
 
-      from : (refused_among terms.limit [] items ≡ 0) × IsSnapshot (present J) × IsEnough terms.expected (present J).txns × AreEnough terms.asked.expected (chances (present J))
+      from : (p.refused ≡ 0) × HasNoFinals p.forgotten × IsSnapshot (present p.journal) × IsEnough terms.expected p × AreEnough terms.asked.expected (chances (present p.journal))
           → status_of terms items ≡ exit.Clean
       from is =
-          let none = subst (λ K. findings (present K) ≡ []) (sym journal) (exact.1 is.1) in
-          let nothing = subst (λ K. falls_short terms (present K) ≡ false) (sym journal) ((whole terms (present J)).1 (is.2, is.3)) in
-          let verdict_is : verdict_of (findings (present p.journal)) ≡ verdict.Clean = ap verdict_of none in
-          let refused_is : p.refused ≡ 0 = refused ∙ is.0 in
-          ap (λ v. status_by v p.refused (falls_short terms (present p.journal))) verdict_is
-          ∙ ap₂ (λ (n : ℕ) (s : Bool). status_by verdict.Clean n s) refused_is nothing
+          let none = ap verdict_of (exact.1 is.2) in
+          let verdict_is : verdict_at p ≡ verdict.Clean = ap (verdict_with (option_map told_of p.forgotten)) none ∙ none_final p.forgotten sound.counts is.1 in
+          let nothing = (whole terms p).1 (is.3, is.4) in
+          ap (λ v. status_by v p.refused (falls_short terms p)) verdict_is
+          ∙ ap₂ (λ (n : ℕ) (s : Bool). status_by verdict.Clean n s) is.0 nothing
 
 violation_found : (fs : List Finding) → verdict_of fs ≡ verdict.Violation → list_any (λ (finding : Finding). is_violation finding.kind) fs ≡ true
 violation_found [] e = cc
@@ -257,42 +305,132 @@ status_violation verdict.Clean n short e = by (n == 0 && not short) e
     by true e = cc
     by false e = cc
 
+-- one that was told as final, or one that is found
+violation_with : (o : Option Forgotten) (v : Verdict) → verdict_with (option_map told_of o) v ≡ verdict.Violation → HasFinalViolation o ⊎ (v ≡ verdict.Violation)
+violation_with None v e = inr e
+violation_with (Some f) verdict.Violation e = inr refl
+violation_with (Some f) verdict.Open e = by (nat_lt 0 f.violations) refl e
+  where
+    by : (b : Bool) → nat_lt 0 f.violations ≡ b → (if b then verdict.Violation else verdict.Open) ≡ verdict.Violation → HasFinalViolation (Some f) ⊎ (verdict.Open ≡ verdict.Violation)
+    by true is e = inl (ltb-true 0 f.violations is)
+    by false is e = cc
+violation_with (Some f) verdict.Clean e = by (nat_lt 0 f.violations) (nat_lt 0 f.findings) refl e
+  where
+    by : (b c : Bool) → nat_lt 0 f.violations ≡ b → (if b then verdict.Violation else (if c then verdict.Open else verdict.Clean)) ≡ verdict.Violation → HasFinalViolation (Some f) ⊎ (verdict.Clean ≡ verdict.Violation)
+    by true c is e = inl (ltb-true 0 f.violations is)
+    by false true is e = cc
+    by false false is e = cc
+
+positive : (n : ℕ) → 0 < n → nat_lt 0 n ≡ true
+positive n lt = by (nat_lt 0 n) refl
+  where
+    by : (b : Bool) → nat_lt 0 n ≡ b → b ≡ true
+    by true is = refl
+    by false is = absurd (let le = ltb-false 0 n is in omega (arith, lt, le))
+
+final_violation : (o : Option Forgotten) (v : Verdict) → HasFinalViolation o → verdict_with (option_map told_of o) v ≡ verdict.Violation
+final_violation None v has = absurd has
+final_violation (Some f) verdict.Violation has = refl
+final_violation (Some f) verdict.Open has = ap (λ (b : Bool). if b then verdict.Violation else verdict.Open) (positive f.violations has)
+final_violation (Some f) verdict.Clean has = ap (λ (b : Bool). if b then verdict.Violation else (if nat_lt 0 f.findings then verdict.Open else verdict.Clean)) (positive f.violations has)
+
+found_with : (o : Option Forgotten) → verdict_with (option_map told_of o) verdict.Violation ≡ verdict.Violation
+found_with None = refl
+found_with (Some f) = refl
+
 pub violation_exact : ViolationIsExact
 unfolding status_of status_at
 violation_exact terms items = (
   λ e. (
-      let v = status_violation (verdict_of (findings (present p.journal))) p.refused (falls_short terms (present p.journal)) e in
-      let found = violation_found (findings (present p.journal)) v in
-      any_is (λ (f : Finding). is_violation f.kind) (findings (present J)) (subst (λ K. list_any (λ (f : Finding). is_violation f.kind) (findings (present K)) ≡ true) journal found)
+      let v = status_violation (verdict_at p) p.refused (falls_short terms p) e in
+      ⊎_elim (λ (h : HasFinalViolation p.forgotten). inl h)
+      (λ (w : verdict_of found ≡ verdict.Violation). inr (any_is (λ (f : Finding). is_violation f.kind) found (violation_found found w)))
+      (violation_with p.forgotten (verdict_of found) v)
       ),
-  λ f. (
-      let found = any_from (λ (f : Finding). is_violation f.kind) (findings (present J)) f.0 f.1 f.2 in
-      let v = found_violation (findings (present p.journal)) (subst (λ K. list_any (λ (f : Finding). is_violation f.kind) (findings (present K)) ≡ true) (sym journal) found) in
-      ap (λ w. status_by w p.refused (falls_short terms (present p.journal))) v
-      ),
+  λ is. ap (λ w. status_by w p.refused (falls_short terms p)) (⊎_elim
+      (λ (h : HasFinalViolation p.forgotten). final_violation p.forgotten (verdict_of found) h)
+      (λ (f : (f : Finding) × Contains found f × (is_violation f.kind ≡ true)).
+      ap (verdict_with (option_map told_of p.forgotten)) (found_violation found (any_from (λ (g : Finding). is_violation g.kind) found f.0 f.1 f.2)) ∙ found_with p.forgotten)
+      is),
 )
   where
     p : Progress
     p = progress_through terms start items
 
-    J : List Edit
-    J = accepted_after terms.limit [] items
+    found : List Finding
+    found = findings (present p.journal)
 
-    journal : p.journal ≡ J
-    journal = journals terms start items
+-- ---- where no horizons are taken
+
+pub without_horizons : WithoutHorizons
+without_horizons terms items plain =
+    let refused : (progress_through terms start items).refused ≡ refused_among terms.limit [] items = omega (arith, counts terms plain start refl items) in
+    (journals terms plain start refl items, refused, never_forgotten terms plain start refl items)
 
 -- ---- what is expected
 
 module _ (terms : Terms) where
+  reason_unasked : (p : Progress) (answer : Result Edit LineFault) → reason_after (unasked terms) p answer ≡ reason_after terms p answer
+  reason_unasked p (Ok e) = refl
+  reason_unasked p (Err (fault.Forget before)) = refl
+  reason_unasked p (Err fault.TooLong) = refl
+  reason_unasked p (Err fault.NotJson) = refl
+  reason_unasked p (Err fault.NotObject) = refl
+  reason_unasked p (Err fault.BadKind) = refl
+  reason_unasked p (Err (fault.BadField field)) = refl
+  reason_unasked p (Err fault.BadStatus) = refl
+  reason_unasked p (Err fault.TooManyOps) = refl
+  reason_unasked p (Err (fault.BadOp index)) = refl
+  reason_unasked p (Err fault.OutOfMemory) = refl
+
+  decided_unasked : (p : Progress) (item : SourcedItem) → decided_after (unasked terms) p item ≡ decided_after terms p item
+  unfolding decided_after
+  decided_unasked p item = λ i.
+      let reason = reason_unasked p item.1.1 i in
+      record (taken_by reason item.1.1 p) { decided = p.decided + 1; refused = counted p.refused reason }
+
+  one_unasked : (p : Progress) (item : SourcedItem) → progress_after (unasked terms) p item ≡ progress_after terms p item
+  unfolding progress_after behind_report
+  one_unasked p item = ap (behind_report terms) (decided_unasked p item)
+
   through : (p : Progress) (items : List SourcedItem) → progress_through (unasked terms) p items ≡ progress_through terms p items
-  unfolding progress_after decided_after behind_report
   through p [] = refl
-  through p (item ∷ items) = through (progress_after terms p item) items
+  through p (item ∷ items) = ap (λ q. progress_through (unasked terms) q items) (one_unasked p item) ∙ through (progress_after terms p item) items
+
+  told_unasked : (item : SourcedItem) (p q : Progress) (o : Option Reason) (answer : Result Edit LineFault) → item.1.1 ≡ answer → told_text (unasked terms) item p q o ≡ told_text terms item p q o
+  unfolding horizon_text
+  told_unasked item p q (Some reason) answer is = refl
+  told_unasked item p q None answer is = ap (λ a. answer_told (unasked terms) a p q) is ∙ by answer ∙ sym (ap (λ a. answer_told terms a p q) is)
+    where
+      by : (a : Result Edit LineFault) → answer_told (unasked terms) a p q ≡ answer_told terms a p q
+      by (Ok e) = refl
+      by (Err (fault.Forget None)) = refl
+      by (Err (fault.Forget (Some H))) = refl
+      by (Err fault.TooLong) = refl
+      by (Err fault.NotJson) = refl
+      by (Err fault.NotObject) = refl
+      by (Err fault.BadKind) = refl
+      by (Err (fault.BadField field)) = refl
+      by (Err fault.BadStatus) = refl
+      by (Err fault.TooManyOps) = refl
+      by (Err (fault.BadOp index)) = refl
+      by (Err fault.OutOfMemory) = refl
+
+  due_unasked : (p : Progress) → report_due (unasked terms) p ≡ report_due terms p
+  unfolding whole_report_at changes_at
+  due_unasked p = refl
+
+  text_unasked : (p : Progress) (item : SourcedItem) → item_text (unasked terms) p item ≡ item_text terms p item
+  unfolding item_text
+  text_unasked p item =
+      (λ i. told_text (unasked terms) item p (decided_unasked p item i) (reason_unasked p item.1.1 i) ++ report_due (unasked terms) (decided_unasked p item i))
+      ∙ ap₂ (λ (a b : List ℕ). a ++ b) (told_unasked item p (decided_after terms p item) (reason_after terms p item.1.1) item.1.1 refl) (due_unasked (decided_after terms p item))
 
   texts : (p : Progress) (items : List SourcedItem) → items_text (unasked terms) p items ≡ items_text terms p items
-  unfolding item_text progress_after decided_after behind_report whole_report_at changes_at summary_at
   texts p [] = refl
-  texts p (item ∷ items) = ap (λ (l : List ℕ). item_text terms p item ++ l) (texts (progress_after terms p item) items)
+  texts p (item ∷ items) =
+      ap₂ (λ (l : List ℕ) (q : Progress). l ++ items_text (unasked terms) q items) (text_unasked p item) (one_unasked p item)
+      ∙ ap (λ (l : List ℕ). item_text terms p item ++ l) (texts (progress_after terms p item) items)
 
 short_status : (v : Verdict) (n : ℕ) (short : Bool) → (status_by v n short ≡ status_by v n false) ⊎ ((status_by v n false ≡ exit.Clean) × (status_by v n short ≡ exit.Open))
 short_status verdict.Violation n short = inl refl
@@ -306,23 +444,24 @@ short_status verdict.Clean n short = by (n == 0) short
     by false true = inl refl
     by false false = inl refl
 
-regroup : (before found told short last : List ℕ) → before ++ (found ++ ((told ++ short) ++ last)) ≡ (before ++ (found ++ told)) ++ (short ++ last)
-regroup before found told short last =
-    ap (λ l. before ++ (found ++ l)) (append_assoc told short last) ∙ ap (λ l. before ++ l) (sym (append_assoc found told (short ++ last)))
-    ∙ sym (append_assoc before (found ++ told) (short ++ last))
+regroup : (before found below told short last : List ℕ) → before ++ (found ++ (below ++ ((told ++ short) ++ last))) ≡ (before ++ (found ++ (below ++ told))) ++ (short ++ last)
+regroup before found below told short last =
+    ap (λ l. before ++ (found ++ (below ++ l))) (append_assoc told short last)
+    ∙ ap (λ l. before ++ (found ++ l)) (sym (append_assoc below told (short ++ last)))
+    ∙ ap (λ l. before ++ l) (sym (append_assoc found (below ++ told) (short ++ last)))
+    ∙ sym (append_assoc before (found ++ (below ++ told)) (short ++ last))
 
 pub expect_adds : ExpectAdds
 unfolding status_of status_at output_of report_at
 expect_adds terms items = (
   subst (λ (q : Progress). (status_at terms p ≡ status_at (unasked terms) q) ⊎ ((status_at (unasked terms) q ≡ exit.Clean) × (status_at terms p ≡ exit.Open))) (sym same)
-      (short_status (verdict_of (findings (present p.journal))) p.refused (falls_short terms (present p.journal))),
+      (short_status (verdict_at p) p.refused (falls_short terms p)),
   (
-    items_text terms start items ++ (found ++ told),
+    items_text terms start items ++ (found ++ (below ++ told)),
     summary_at p,
     ap₂ (λ (l : List ℕ) (q : Progress). l ++ report_at (unasked terms) q) (texts terms start items) same
-        ∙ regroup (items_text terms start items) found told [] (summary_at p),
-    regroup (items_text terms start items) found told (short p.journal) (summary_at p)
-        ∙ ap (λ (J : List Edit). (items_text terms start items ++ (found ++ told)) ++ (short J ++ summary_at p)) journal,
+        ∙ regroup (items_text terms start items) found below told [] (summary_at p),
+    regroup (items_text terms start items) found below told short (summary_at p),
   ),
 )
   where
@@ -335,11 +474,11 @@ expect_adds terms items = (
     found : List ℕ
     found = flat_map (finding_lines terms.explain) (findings (present p.journal))
 
+    below : List ℕ
+    below = forgot_lines (forgot_in p)
+
     told : List ℕ
     told = told_chances terms.asked.tells (chances (present p.journal))
 
-    short : List Edit → List ℕ
-    short J = short_line terms.expected (present J).txns ++ few_lines terms.asked.expected (chances (present J))
-
-    journal : p.journal ≡ accepted_after terms.limit [] items
-    journal = journals terms start items
+    short : List ℕ
+    short = short_line terms.expected p ++ few_lines terms.asked.expected (chances (present p.journal))

@@ -4,6 +4,7 @@ use Rattle.std.specs.Prelude.{Ok}
 use Rattle.std.specs.Option.{is_none}
 use Rattle.std.proofs.lemmas.List.{append_cancel_right, length-append, map-append, take-append-le}
 use Rattle.si_model.specs.declared.edits.Edit.{Edit}
+use Rattle.si_model.specs.declared.findings.Finding.{Finding}
 use Rattle.si_model.specs.Findings.{findings, keys}
 use Rattle.si_model.specs.Order.{in_order}
 use Rattle.si_model.specs.declared.refusals.Refusal.{Refusal}
@@ -16,8 +17,9 @@ use Rattle.si_words.specs.Laws.{EditsAppend, LonePassIssuesAll}
 use Rattle.si_words.specs.Seats.{Board, Seated}
 use Rattle.si_checker.specs.Calls.{IsSubmitted, SeesJournal, issuing}
 use Rattle.si_run.specs.declared.tolds.Told.{Told}
-use Rattle.si_run.specs.Engines.{EngineState, IsEngine, engine_state}
-use Rattle.si_run.specs.Outputs.{Terms, journal_after, journal_with}
+use Rattle.si_run.specs.Engines.{EngineState, IsEngine, engine_state, told_by}
+use Rattle.si_run.specs.Laws.{journal_after, journal_with}
+use Rattle.si_run.specs.Outputs.{Forgotten, Terms}
 use Rattle.si_run.specs.Tolds.{IsTold, IsToldIn, found_then}
 
 module _ (board : Board) (old new : Seated PassView) (law : LonePassIssuesAll) (alone : board.passes ≡ 1) (first : old.view.number ≡ 0) where
@@ -81,29 +83,37 @@ told_begun old new t begins is =
     })
 
 -- with these accepted edits the engine is as it was but for them
-pub state_after : (terms : Terms) (old new : PassView) (decided refused : ℕ) (told : Told) (s : EngineState) (e : Edit) → engine_state terms old decided refused told ≡ s
+pub state_after : (terms : Terms) (old new : PassView) (decided refused : ℕ) (told : Told) (listed : Option (List Finding)) (forgotten : Option Forgotten) (s : EngineState) (e : Edit)
+    → engine_state terms old decided refused told listed forgotten ≡ s
     → told.at ≤ length (edits_of old.seen) → edits_of new.seen ≡ journal_after terms.limit (edits_of old.seen) (Ok e)
-    → engine_state terms new decided refused told ≡ record s { progress = record s.progress { journal = journal_after s.terms.limit s.progress.journal (Ok e) } }
-state_after terms old new decided refused told s e is within journal =
+    → engine_state terms new decided refused told listed forgotten ≡ record s { progress = record s.progress { journal = journal_after s.terms.limit s.progress.journal (Ok e) } }
+state_after terms old new decided refused told listed forgotten s e is within journal =
     let before : found_then (edits_of new.seen) told.at ≡ found_then (edits_of old.seen) told.at = ap (λ l. findings (present l)) (told_same terms.limit (edits_of old.seen) (edits_of new.seen) e told.at within journal) in
-    subst (λ (x : EngineState). engine_state terms new decided refused told ≡ record x { progress = record x.progress { journal = journal_after x.terms.limit x.progress.journal (Ok e) } }) is
-    (λ i. record { terms = terms; progress = record { journal = journal i; decided = decided; refused = refused; told = violations_of (before i) } })
+    subst (λ (x : EngineState). engine_state terms new decided refused told listed forgotten ≡ record x { progress = record x.progress { journal = journal_after x.terms.limit x.progress.journal (Ok e) } }) is
+    (λ i. record { terms = terms; progress = record { journal = journal i; decided = decided; refused = refused; told = told_alike listed before i; forgotten = forgotten } })
+  where
+    told_alike : (l : Option (List Finding)) → found_then (edits_of new.seen) told.at ≡ found_then (edits_of old.seen) told.at → told_by l (edits_of new.seen) told ≡ told_by l (edits_of old.seen) told
+    told_alike None before = ap violations_of before
+    told_alike (Some list) before = refl
 
 -- an engine whose pass sees a journal on which it stands is one still
-pub engine_after : (board : Board) (old mid new : Seated PassView) (decided refused : ℕ) (t : Told) → LonePassIssuesAll → IsEngine board old decided refused t
-    → mid.table ≡ old.table → mid.view.number ≡ old.view.number → mid.view.seen ≡ old.view.seen → SeesJournal board new.view.seen mid new → IsEngine board new decided refused t
-engine_after board old mid new decided refused t law own table number seen sight = record {
+pub engine_after : (board : Board) (most : ℕ) (old mid new : Seated PassView) (limit decided refused : ℕ) (t : Told) (listed : Option (List Finding)) → LonePassIssuesAll
+    → IsEngine board most old limit decided refused t listed
+    → mid.table ≡ old.table → mid.view.number ≡ old.view.number → mid.view.seen ≡ old.view.seen → SeesJournal board new.view.seen mid new → IsEngine board most new limit decided refused t listed
+engine_after board most old mid new limit decided refused t listed law own table number seen sight = record {
   table = ap (λ (s : Seated PassView). s.table) sight.sees ∙ table ∙ own.table;
   alone = own.alone;
   number = ap (λ (s : Seated PassView). s.view.number) sight.sees ∙ number ∙ own.number;
   own = all_mine board mid new law own.alone (number ∙ own.number) sight;
+  limited = own.limited;
   counts = own.counts;
   told = told_begun old.view.seen new.view.seen t (subst (λ (l : List Entry). IsBeginning l new.view.seen) seen sight.begins) own.told;
+  list = own.list;
 }
 
 -- ---- before any report
 
-none_found : findings (present []) ≡ []
+pub none_found : findings (present []) ≡ []
 unfolding findings in_order keys present
 none_found = refl
 

@@ -1,45 +1,57 @@
--- What the output is where no reports on the way are asked for.
-use Rattle.std.proofs.Common.{◌≡◌, ◌+◌, ℕ, Bool, List, [], ◌∷◌, ◌++◌, None, Option, Some, refl, ap₂, ◌∙◌, append-nil, arith}
-use Rattle.si_model.specs.Journals.{present}
+-- What the output is where no reports on the way are asked for and no horizons are taken.
+use Rattle.std.proofs.Common.{◌≡◌, ◌∙◌, ◌+◌, ℕ, Bool, false, List, [], ◌∷◌, ◌++◌, None, Option, Some, refl, sym, ap, ap₂, append-nil, arith}
+use Rattle.std.specs.Prelude.{Result, Ok, Err}
+use Rattle.std.specs.Option.{option_map}
+use Rattle.si_model.specs.declared.edits.Edit.{Edit}
+use Rattle.si_model.specs.declared.refusals.Refusal.{Refusal}
+use Rattle.si_model.specs.Journals.{present, refusal_after}
 use Rattle.si_text.specs.declared.endings.Asked.{Asked}
+use Rattle.si_text.specs.declared.faults.LineFault.{LineFault}
 use Rattle.si_text.specs.declared.reasons.Reason.{Reason}
-use Rattle.si_run.specs.Outputs.{SourcedItem, Terms, Progress, behind_report, counted, decided_after, items_text, item_text, journal_after, output_of, progress_after, progress_through, reason_after, refusal_line, report_at, start, summary_at}
-use Rattle.si_run.specs.Laws.{PlainOutputIsExact, accepted_after, refusal_lines, refused_among, whole_report}
+use Rattle.si_text.specs.declared.reasons.Reason.TheVariants.{Refused}
+use Rattle.si_run.specs.Outputs.{Forgotten, Progress, SourcedItem, Terms, behind_report, decided_after, forgot_in, items_text, item_text, output_of, progress_after, progress_through, reason_after, refusal_line, report_at, report_due, start, summary_at, told_text}
+use Rattle.si_run.specs.Laws.{PlainOutputIsExact, accepted_after, reason_plainly, refusal_lines, refused_among, whole_report}
+use Rattle.si_run.proofs.PlainRuns.{behind_journal, counts, decided_plain, journal_plain, journals, never_forgotten, none_forgotten, reason_plain}
+
+-- of an item that asks for no horizon its refusal alone is told
+module _ (terms : Terms) (p q : Progress) (source line : ℕ) where
+  told_edit : (e : Edit) (o : Option Refusal) → told_text terms (source, (line, Ok e)) p q (option_map (λ r. Refused r) o) ≡ refusal_line source line (option_map (λ r. Refused r) o)
+  told_edit e None = refl
+  told_edit e (Some r) = refl
+
+  told_plainly : terms.horizons ≡ false → p.forgotten ≡ None → (answer : Result Edit LineFault)
+      → told_text terms (source, (line, answer)) p q (reason_after terms p answer) ≡ refusal_line source line (reason_plainly terms.limit p.journal answer)
+  told_plainly plain none (Ok e) =
+      ap (told_text terms (source, (line, Ok e)) p q) (reason_plain terms plain p none (Ok e)) ∙ told_edit e (refusal_after terms.limit p.journal e)
+  told_plainly plain none (Err f) = ap (told_text terms (source, (line, Err f)) p q) (reason_plain terms plain p none (Err f))
 
 abbrev plain : ℕ → Bool → Bool → Option ℕ → Asked → Bool → Terms
 plain limit only_new explain expected asked shows =
-    record { limit = limit; every = None; only_new = only_new; explain = explain; expected = expected; asked = asked; shows = shows }
+    record { limit = limit; every = None; only_new = only_new; explain = explain; expected = expected; asked = asked; horizons = false; shows = shows }
 
 module _ (limit : ℕ) (only_new explain : Bool) (expected : Option ℕ) (asked : Asked) (shows : Bool) where
   abbrev terms : Terms
   terms = plain limit only_new explain expected asked shows
 
-  texts : (p : Progress) (items : List SourcedItem) → items_text terms p items ≡ refusal_lines limit p.journal items
-  unfolding item_text progress_after decided_after behind_report
-  texts p [] = refl
-  texts p (item ∷ items) =
-      let line = refusal_line item.0 item.1.0 (reason_after limit p.journal item.1.1) in
-      ap₂ (λ (a b : List ℕ). a ++ b) (append-nil line) (texts (progress_after terms p item) items)
+  texts : (p : Progress) → p.forgotten ≡ None → (items : List SourcedItem) → items_text terms p items ≡ refusal_lines limit p.journal items
+  unfolding item_text
+  texts p none [] = refl
+  texts p none (item ∷ items) =
+      ap₂ (λ (a b : List ℕ). a ++ b)
+      (append-nil _ ∙ told_plainly terms p (decided_after terms p item) item.0 item.1.0 refl none item.1.1)
+      (texts (progress_after terms p item) (none_forgotten terms refl p none item) items ∙ ap (λ J. refusal_lines limit J items) (journal_plain terms refl p none item))
 
-  journals : (p : Progress) (items : List SourcedItem) → (progress_through terms p items).journal ≡ accepted_after limit p.journal items
-  unfolding progress_after decided_after behind_report
-  journals p [] = refl
-  journals p (item ∷ items) = journals (progress_after terms p item) items
-
-  counted-plus : (n m : ℕ) (reason : Option Reason) → counted n reason + m ≡ n + counted m reason
-  counted-plus n m None = refl
-  counted-plus n m (Some reason) = omega arith
-
-  counts : (p : Progress) (items : List SourcedItem) → (progress_through terms p items).refused ≡ p.refused + refused_among limit p.journal items
-  unfolding progress_after decided_after behind_report
-  counts p [] = omega arith
-  counts p (item ∷ items) =
-      counts (progress_after terms p item) items
-      ∙ counted-plus p.refused (refused_among limit (journal_after limit p.journal item.1.1) items) (reason_after limit p.journal item.1.1)
+-- a report of which nothing lies below a horizon
+report_plain : (terms : Terms) (p : Progress) → p.forgotten ≡ None → report_at terms p ≡ whole_report terms.explain terms.expected terms.asked (present p.journal) p.refused
+unfolding report_at summary_at
+report_plain terms p none = ap (λ (f : Option Forgotten). report_at terms (record p { forgotten = f })) none
 
 pub plain_output : PlainOutputIsExact
-unfolding output_of report_at summary_at
+unfolding output_of
 plain_output limit only_new explain expected asked shows items =
-    let refused : (progress_through (plain limit only_new explain expected asked shows) start items).refused ≡ refused_among limit [] items = omega (arith, counts limit only_new explain expected asked shows start items) in
-    ap₂ (λ (a b : List ℕ). a ++ b) (texts limit only_new explain expected asked shows start items)
-    (ap₂ (λ journal n. whole_report explain expected asked (present journal) n) (journals limit only_new explain expected asked shows start items) refused)
+    let terms = plain limit only_new explain expected asked shows in
+    let end = progress_through terms start items in
+    let refused : end.refused ≡ refused_among limit [] items = omega (arith, counts terms refl start refl items) in
+    ap₂ (λ (a b : List ℕ). a ++ b) (texts limit only_new explain expected asked shows start refl items)
+    (report_plain terms end (never_forgotten terms refl start refl items)
+    ∙ ap₂ (λ journal n. whole_report explain expected asked (present journal) n) (journals terms refl start refl items) refused)

@@ -6,8 +6,8 @@ use Rattle.si_model.specs.Findings.{findings}
 use Rattle.si_model.specs.Journals.{present}
 use Rattle.si_text.specs.declared.reasons.Reason.{Reason}
 use Rattle.si_text.specs.declared.verdicts.Verdict.{Verdict}
-use Rattle.si_text.specs.Texts.{changes_text, code_text, finding_lines, line_end, reason_code, reason_text, summary_text, verdict_of, verdict_text}
-use Rattle.si_run.specs.Outputs.{SourcedItem, Terms, Progress, changes_at, decided_after, is_due, item_text, reason_after, refusal_line, report_due, report_on_the_way, summary_at, violations_at, whole_report_at}
+use Rattle.si_text.specs.Texts.{changes_text, code_text, finding_lines, findings_with, forgot_lines, line_end, reason_code, reason_text, summary_text, transactions_with, verdict_text}
+use Rattle.si_run.specs.Outputs.{SourcedItem, Terms, Progress, changes_at, decided_after, forgot_in, is_due, item_text, reason_after, refusal_line, report_due, report_on_the_way, summary_at, told_text, verdict_at, violations_at, whole_report_at}
 
 some_before : (xs ys : List ℕ) → xs ≢ [] → xs ++ ys ≢ []
 some_before [] ys some e = some refl
@@ -34,18 +34,19 @@ summarized : (p : Progress) → summary_at p ≢ []
 unfolding summary_at
 summarized p =
     let found = findings (present p.journal) in
-    summed (length (present p.journal).txns) (length found) p.refused (verdict_of found)
+    summed (transactions_with (forgot_in p) (length (present p.journal).txns)) (findings_with (forgot_in p) (length found)) p.refused (verdict_at p)
+
+-- what is told of what lies below a horizon, and the summary
+ends_it : (p : Progress) → forgot_lines (forgot_in p) ++ summary_at p ≢ []
+ends_it p = some_behind (forgot_lines (forgot_in p)) (summary_at p) (summarized p)
 
 told_all : (terms : Terms) (p : Progress) → whole_report_at terms p ≢ []
 unfolding whole_report_at
-told_all terms p =
-    let found = findings (present p.journal) in
-    some_behind (flat_map (finding_lines terms.explain) found) (summary_text (length (present p.journal).txns) (length found) p.refused (verdict_of found))
-    (summed (length (present p.journal).txns) (length found) p.refused (verdict_of found))
+told_all terms p = some_behind (flat_map (finding_lines terms.explain) (findings (present p.journal))) (forgot_lines (forgot_in p) ++ summary_at p) (ends_it p)
 
 told_changes : (terms : Terms) (p : Progress) → changes_at terms p ≢ []
 unfolding changes_at
-told_changes terms p = some_behind (changes_text terms.explain p.told (violations_at p)) (summary_at p) (summarized p)
+told_changes terms p = some_behind (changes_text terms.explain p.told (violations_at p)) (forgot_lines (forgot_in p) ++ summary_at p) (ends_it p)
 
 on_the_way : (terms : Terms) (p : Progress) → report_on_the_way terms p ≢ []
 on_the_way terms p = elim terms.only_new as (λ b. (if b then changes_at terms p else whole_report_at terms p) ≢ []) [
@@ -54,11 +55,15 @@ on_the_way terms p = elim terms.only_new as (λ b. (if b then changes_at terms p
 ]
 
 -- there is a text for an item that is refused
-pub refused_text_is : (terms : Terms) (p : Progress) (item : SourcedItem) → IsSome (reason_after terms.limit p.journal item.1.1) → item_text terms p item ≢ []
+pub refused_text_is : (terms : Terms) (p : Progress) (item : SourcedItem) → IsSome (reason_after terms p item.1.1) → item_text terms p item ≢ []
 unfolding item_text
 refused_text_is terms p item some =
-    some_before (refusal_line item.0 item.1.0 (reason_after terms.limit p.journal item.1.1)) (report_due terms (decided_after terms p item))
-    (refused item.0 item.1.0 (reason_after terms.limit p.journal item.1.1) some)
+    let q = decided_after terms p item in
+    some_before (told_text terms item p q (reason_after terms p item.1.1)) (report_due terms q) (by (reason_after terms p item.1.1) some)
+  where
+    by : (o : Option Reason) → IsSome o → told_text terms item p (decided_after terms p item) o ≢ []
+    by None some = absurd (true≢false (sym some))
+    by (Some reason) some = refused item.0 item.1.0 (Some reason) some
 
 -- there is one for an item behind which a report is due
 pub due_text_is : (terms : Terms) (p : Progress) (item : SourcedItem) → is_due terms.every (decided_after terms p item).decided ≡ true → item_text terms p item ≢ []
@@ -66,4 +71,4 @@ unfolding item_text
 due_text_is terms p item due =
     let q = decided_after terms p item in
     let is : report_on_the_way terms q ≡ report_due terms q = ap (λ (b : Bool). if b then report_on_the_way terms q else []) (sym due) in
-    some_behind (refusal_line item.0 item.1.0 (reason_after terms.limit p.journal item.1.1)) (report_due terms q) (λ e. on_the_way terms q (is ∙ e))
+    some_behind (told_text terms item p q (reason_after terms p item.1.1)) (report_due terms q) (λ e. on_the_way terms q (is ∙ e))

@@ -1,15 +1,36 @@
 -- What the output is where no reports on the way are asked for, and what those tell that tell only what changed.
-use Rattle.std.specs.Prelude.{◌≡◌, ◌↔◌, ℕ, Bool, true, if◌then◌else◌, List, [], ◌∷◌, ◌++◌, length, Option, None}
+use Rattle.std.specs.Prelude.{◌≡◌, ◌↔◌, ℕ, Bool, true, false, if◌then◌else◌, List, [], ◌∷◌, ◌++◌, length, Option, Some, None, is_none, Result, Ok, Err}
 use Rattle.std.specs.List.{Contains, flat_map}
+use Rattle.std.specs.Option.{option_map}
 use Rattle.si_model.specs.declared.edits.Edit.{Edit}
 use Rattle.si_model.specs.declared.findings.Finding.{Finding}
 use Rattle.si_model.specs.Chances.{chances}
 use Rattle.si_model.specs.Findings.{findings}
-use Rattle.si_model.specs.Journals.{present}
+use Rattle.si_model.specs.Journals.{present, refusal_after}
 use Rattle.si_model.specs.Parts.{Present}
+use Rattle.si_accept.specs.Statuses.{committed_among, doubtful_among}
 use Rattle.si_text.specs.declared.endings.Asked.{Asked}
-use Rattle.si_text.specs.Texts.{few_lines, finding_lines, gone_text, not_among, summary_text, told_chances, verdict_of}
-use Rattle.si_run.specs.Outputs.{Progress, SourcedItem, Terms, counted, decided_after, is_due, journal_after, output_of, progress_after, progress_through, reason_after, refusal_line, report_at, report_due, short_line, start, status_of, summary_at, violations_at}
+use Rattle.si_text.specs.declared.faults.LineFault.{LineFault}
+use Rattle.si_text.specs.declared.reasons.Reason.{Reason}
+use Rattle.si_text.specs.declared.reasons.Reason.TheVariants.{Malformed, Refused}
+use Rattle.si_text.specs.Texts.{few_lines, finding_lines, forgot_lines, gone_text, not_among, summary_text, told_chances, verdict_of}
+use Rattle.si_run.specs.Outputs.{Progress, SourcedItem, Terms, counted, decided_after, forgot_in, is_due, output_of, progress_after, progress_through, refusal_line, report_at, report_due, short_line_by, start, status_of, summary_at, violations_at}
+
+-- ---- runs without horizons
+
+-- why an item is refused after these edits, if it is
+abbrev pub reason_plainly : ℕ → List Edit → Result Edit LineFault → Option Reason
+reason_plainly limit journal (Ok e) = option_map Refused (refusal_after limit journal e)
+reason_plainly limit journal (Err fault) = Some (Malformed fault)
+
+-- the accepted edits with this one, if nothing stands against it
+abbrev pub journal_with : List Edit → Edit → Bool → List Edit
+journal_with journal e accepted = if accepted then journal ++ e ∷ [] else journal
+
+-- the accepted edits after an item
+abbrev pub journal_after : ℕ → List Edit → Result Edit LineFault → List Edit
+journal_after limit journal (Ok e) = journal_with journal e (is_none (refusal_after limit journal e))
+journal_after limit journal (Err fault) = journal
 
 -- the accepted edits of items that come after these edits, with them
 abbrev pub accepted_after : ℕ → List Edit → List SourcedItem → List Edit
@@ -20,25 +41,25 @@ accepted_after limit journal (item ∷ items) = accepted_after limit (journal_af
 abbrev pub refusal_lines : ℕ → List Edit → List SourcedItem → List ℕ
 refusal_lines limit journal [] = []
 refusal_lines limit journal (item ∷ items) =
-    refusal_line item.0 item.1.0 (reason_after limit journal item.1.1) ++ refusal_lines limit (journal_after limit journal item.1.1) items
+    refusal_line item.0 item.1.0 (reason_plainly limit journal item.1.1) ++ refusal_lines limit (journal_after limit journal item.1.1) items
 
 -- how many of them are refused
 abbrev pub refused_among : ℕ → List Edit → List SourcedItem → ℕ
 refused_among limit journal [] = 0
 refused_among limit journal (item ∷ items) =
-    counted (refused_among limit (journal_after limit journal item.1.1) items) (reason_after limit journal item.1.1)
+    counted (refused_among limit (journal_after limit journal item.1.1) items) (reason_plainly limit journal item.1.1)
 
 -- the report of what is present, with what could have been found, where that is told, and the lines of what it is short of, where numbers are expected
 abbrev pub whole_report : Bool → Option ℕ → Asked → Present → ℕ → List ℕ
 whole_report explain expected asked P refused =
     flat_map (finding_lines explain) (findings P)
-    ++ ((told_chances asked.tells (chances P) ++ (short_line expected P.txns ++ few_lines asked.expected (chances P)))
+    ++ ((told_chances asked.tells (chances P) ++ (short_line_by expected (committed_among P.txns) (doubtful_among P.txns) ++ few_lines asked.expected (chances P)))
     ++ summary_text (length P.txns) (length (findings P)) refused (verdict_of (findings P)))
 
--- without reports on the way the output is the lines of the refused items and then the report of what is present
+-- without reports on the way and horizons the output is the lines of the refused items and then the report of what is present
 abbrev pub PlainOutputIsExact : Type 0
 PlainOutputIsExact = (limit : ℕ) (only_new explain : Bool) (expected : Option ℕ) (asked : Asked) (shows : Bool) (items : List SourcedItem)
-    → output_of (record { limit = limit; every = None; only_new = only_new; explain = explain; expected = expected; asked = asked; shows = shows }) items
+    → output_of (record { limit = limit; every = None; only_new = only_new; explain = explain; expected = expected; asked = asked; horizons = false; shows = shows }) items
     ≡ refusal_lines limit [] items ++ whole_report explain expected asked (present (accepted_after limit [] items)) (refused_among limit [] items)
 
 -- ---- reports that tell only what changed
@@ -56,9 +77,10 @@ changes_due terms p = if is_due terms.every p.decided then record { came = not_a
 abbrev pub changes_lines : Bool → Changes → List ℕ
 changes_lines explain c = flat_map (finding_lines explain) c.came ++ flat_map gone_text c.went
 
--- where reports on the way tell only what changed, what is written for one is these lines and the summary
+-- where reports on the way tell only what changed, what is written for one is these lines, what lies below a horizon, and the summary
 abbrev pub ChangesAreText : Type 0
-ChangesAreText = (terms : Terms) (p : Progress) → terms.only_new ≡ true → report_due terms p ≡ flat_map (λ c. changes_lines terms.explain c ++ summary_at p) (changes_due terms p)
+ChangesAreText = (terms : Terms) (p : Progress) → terms.only_new ≡ true
+    → report_due terms p ≡ flat_map (λ c. changes_lines terms.explain c ++ (forgot_lines (forgot_in p) ++ summary_at p)) (changes_due terms p)
 
 -- what the reports on the way behind these items tell, one after the other
 abbrev pub changes_through : Terms → Progress → List SourcedItem → List Changes
@@ -74,9 +96,10 @@ pub record IsToldStill (changes : List Changes) (f : Finding) : Type 0 where
   pub came : Contains at.came f
   pub stays : (later : Changes) → Contains behind later → ¬ Contains later.went f
 
--- where reports on the way tell only what changed, what was told as new and not as gone since is, at each report, exactly the violations of that moment
+-- where reports on the way tell only what changed and no horizons are taken, what was told as new and not as gone since is, at each report,
+-- exactly the violations of that moment
 abbrev pub ChangesTellAll : Type 0
-ChangesTellAll = (terms : Terms) (items : List SourcedItem) (last : SourcedItem) (f : Finding) → terms.only_new ≡ true
+ChangesTellAll = (terms : Terms) (items : List SourcedItem) (last : SourcedItem) (f : Finding) → terms.only_new ≡ true → terms.horizons ≡ false
     → is_due terms.every (progress_through terms start (items ++ last ∷ [])).decided ≡ true
     → IsToldStill (changes_through terms start (items ++ last ∷ [])) f ↔ Contains (violations_at (progress_through terms start (items ++ last ∷ []))) f
 

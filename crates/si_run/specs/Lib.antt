@@ -10,3 +10,6 @@ pub mod Engines
 pub mod Laws
 pub mod GateLaws
 pub mod Tolds
+pub mod Overs
+pub mod Epochs
+pub mod Courses

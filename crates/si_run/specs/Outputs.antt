@@ -1,27 +1,38 @@
 -- What the program writes for the items of its inputs, and its exit status.
-use Rattle.std.specs.Prelude.{ℕ, ◌+◌, ◌%◌, Bool, false, not, ◌&&◌, ◌||◌, ◌==◌, nat_lt, if◌then◌else◌, List, [], ◌∷◌, ◌++◌, length, map, Option, Some, None, is_none, Result, Ok, Err}
-use Rattle.std.specs.Option.{option_map}
-use Rattle.std.specs.List.{flat_map}
+use Rattle.std.specs.Prelude.{ℕ, ◌+◌, ◌%◌, Bool, true, false, not, ◌&&◌, ◌||◌, ◌==◌, nat_eq, nat_lt, if◌then◌else◌, List, [], ◌∷◌, ◌++◌, length, map, Option, Some, None, is_none, Result, Ok, Err}
+use Rattle.std.specs.Option.{option_map, option_or}
+use Rattle.std.specs.List.{filter, flat_map, list_any}
 use Rattle.std.specs.declared.cmp.Ordering.{Ordering}
 use Rattle.std.specs.Ordering.{nat_cmp, on}
 use Rattle.si_model.specs.declared.edits.Edit.{Edit}
+use Rattle.si_model.specs.declared.edits.Edit.TheVariants as edit
 use Rattle.si_model.specs.declared.findings.Finding.{Finding}
+use Rattle.si_model.specs.declared.numbers.Stamp.{Stamp}
 use Rattle.si_model.specs.declared.numbers.TxnId.{TxnId}
+use Rattle.si_model.specs.declared.refusals.Refusal.TheVariants.{Full}
 use Rattle.si_model.specs.declared.transactions.Txn.{Txn}
 use Rattle.si_model.specs.Chances.{chances}
+use Rattle.si_model.specs.Edits.{is_in_doubt, least_id}
 use Rattle.si_model.specs.Findings.{findings}
+use Rattle.si_model.specs.Horizons.{carried, commits_below, making, rest}
+use Rattle.si_model.specs.HorizonRuns.{settled}
 use Rattle.si_model.specs.Journals.{present, refusal_after}
 use Rattle.si_model.specs.Order.{in_order}
 use Rattle.si_model.specs.Parts.{Present}
 use Rattle.si_accept.specs.Statuses.{committed_among, doubtful_among}
 use Rattle.si_text.specs.declared.endings.Asked.{Asked}
+use Rattle.si_text.specs.declared.faults.Field.TheVariants.{Before}
 use Rattle.si_text.specs.declared.faults.LineFault.{LineFault}
+use Rattle.si_text.specs.declared.faults.LineFault.TheVariants as fault
+use Rattle.si_text.specs.declared.forgetting.Forgot.{Forgot}
+use Rattle.si_text.specs.declared.horizon_refusals.HorizonRefusal.{HorizonRefusal}
+use Rattle.si_text.specs.declared.horizon_refusals.HorizonRefusal.TheVariants.{StartForgotten, Settled, SetUpLate, HorizonBack, DoubtBefore}
 use Rattle.si_text.specs.declared.reasons.Reason.{Reason}
-use Rattle.si_text.specs.declared.reasons.Reason.TheVariants.{Malformed, Refused}
+use Rattle.si_text.specs.declared.reasons.Reason.TheVariants.{Malformed, Refused, Horizon}
 use Rattle.si_text.specs.declared.verdicts.Verdict.{Verdict}
 use Rattle.si_text.specs.declared.verdicts.Verdict.TheVariants as verdict
 use Rattle.si_text.specs.Inputs.{Item}
-use Rattle.si_text.specs.Texts.{are_few, changes_text, few_lines, finding_lines, refused_text, report_text, short_text, summary_text, told_chances, verdict_of, violations_of}
+use Rattle.si_text.specs.Texts.{are_few, changes_text, few_lines, final_lines, finding_lines, findings_with, forgot_lines, not_among, refused_text, short_text, summary_text, told_chances, transactions_with, verdict_of, verdict_with, violations_of}
 use Rattle.si_run.specs.declared.engines.Decision.{Decision}
 use Rattle.si_run.specs.declared.engines.Decision.TheVariants as decision
 use Rattle.si_run.specs.declared.statuses.ExitStatus.{ExitStatus}
@@ -41,7 +52,8 @@ from_source source items = map (sourced source) items
 
 -- the most edits that a journal may have, after how many decided items each report comes, if any do on the way, whether these tell
 -- only what changed, whether evidence follows the findings, how many committed transactions are expected at the end, if any number is, what is
--- asked of what could have been found, and whether lines of progress are shown on the error device, which changes nothing of the text
+-- asked of what could have been found, whether horizons are taken, and whether lines of progress are shown on the error device, which changes
+-- nothing of the text
 pub record Terms : Type 0 where
   pub limit : ℕ
   pub every : Option ℕ
@@ -49,33 +61,159 @@ pub record Terms : Type 0 where
   pub explain : Bool
   pub expected : Option ℕ
   pub asked : Asked
+  pub horizons : Bool
   pub shows : Bool
 
--- how far the decisions are: the accepted edits, how many items were decided and how many of them refused, and, where reports on the way
--- tell only what changed, the violations that there were at the one before
+-- what lies below the last horizon: the numbers, in order, of the transactions that were carried over it and were settled, how many are gone over
+-- all horizons and how many of these had committed, and how many findings were told as final and how many of these are violations
+pub record Forgotten : Type 0 where
+  pub horizon : Stamp
+  pub settled : List ℕ
+  pub gone : ℕ
+  pub committed : ℕ
+  pub findings : ℕ
+  pub violations : ℕ
+
+-- how far the decisions are: the edits that make what is present, which are all accepted ones where no horizon was taken, how many items were decided
+-- and how many of them refused, what lies below a horizon, if one was taken, and, where reports on the way tell only what changed, the
+-- violations that there were at the one before and that haven't become final since
 pub record Progress : Type 0 where
   pub journal : List Edit
   pub decided : ℕ
   pub refused : ℕ
   pub told : List Finding
+  pub forgotten : Option Forgotten
 
 -- nothing is decided
 abbrev pub start : Progress
-start = record { journal = []; decided = 0; refused = 0; told = [] }
+start = record { journal = []; decided = 0; refused = 0; told = []; forgotten = None }
 
--- why an item is refused after these edits, if it is
-abbrev pub reason_after : ℕ → List Edit → Result Edit LineFault → Option Reason
-reason_after limit journal (Ok e) = option_map Refused (refusal_after limit journal e)
-reason_after limit journal (Err fault) = Some (Malformed fault)
+-- ids are in the order of their numbers
+abbrev pub id_cmp : TxnId → TxnId → Ordering
+id_cmp = on (λ id. id.0) nat_cmp
 
--- the accepted edits with this one, if nothing stands against it
-abbrev pub journal_with : List Edit → Edit → Bool → List Edit
-journal_with journal e accepted = if accepted then journal ++ e ∷ [] else journal
+-- ---- why an item is refused
 
--- the accepted edits after an item
-abbrev pub journal_after : ℕ → List Edit → Result Edit LineFault → List Edit
-journal_after limit journal (Ok e) = journal_with journal e (is_none (refusal_after limit journal e))
-journal_after limit journal (Err fault) = journal
+-- why an edit is refused that comes behind a horizon, before all else: what arrives started below it, what is withdrawn is settled, or a key is set up
+abbrev pub late_refusal : Forgotten → Edit → Option HorizonRefusal
+late_refusal f (edit.Arrive T) = if nat_lt T.start.0 f.horizon.0 then Some (StartForgotten f.horizon) else None
+late_refusal f (edit.Resolve u o) = None
+late_refusal f (edit.Withdraw u) = if list_any (λ m. nat_eq m u.0) f.settled then Some (Settled f.horizon) else None
+late_refusal f (edit.SetUp x v) = Some (SetUpLate f.horizon)
+
+-- the same where a horizon was taken
+abbrev pub late_by : Option Forgotten → Edit → Option HorizonRefusal
+late_by None e = None
+late_by (Some f) e = late_refusal f e
+
+-- why an edit is refused: for the horizon, or by what is present
+abbrev pub edit_reason : ℕ → Progress → Edit → Option Reason
+edit_reason limit p e = option_or (option_map Horizon (late_by p.forgotten e)) (option_map Refused (refusal_after limit p.journal e))
+
+-- the horizon is less than the one before
+abbrev pub back_refusal : Option Forgotten → Stamp → Option HorizonRefusal
+back_refusal None H = None
+back_refusal (Some f) H = if nat_lt H.0 f.horizon.0 then Some (HorizonBack f.horizon) else None
+
+-- whether the transaction is in doubt and started below the horizon
+abbrev pub is_doubt_below : Stamp → Txn → Bool
+is_doubt_below H T = nat_lt T.start.0 H.0 && is_in_doubt T.status
+
+-- some transaction in doubt started below it
+abbrev pub doubt_refusal : Stamp → Present → Option HorizonRefusal
+doubt_refusal H P = option_map DoubtBefore (least_id (is_doubt_below H) P.txns)
+
+-- a journal can't have as many edits as make what would be carried over it
+abbrev pub full_refusal : ℕ → Stamp → Present → Option Reason
+full_refusal limit H P = if nat_lt limit (length (making (carried H P))) then Some (Refused Full) else None
+
+-- why a horizon isn't taken
+unfoldable pub horizon_reason : ℕ → Progress → Stamp → Option Reason
+horizon_reason limit p H =
+    option_or (option_map Horizon (back_refusal p.forgotten H)) (option_or (option_map Horizon (doubt_refusal H (present p.journal))) (full_refusal limit H (present p.journal)))
+
+-- why what asks for a horizon is refused: without a number it is no horizon
+abbrev pub forget_reason : ℕ → Progress → Option Stamp → Option Reason
+forget_reason limit p None = Some (Malformed (fault.BadField Before))
+forget_reason limit p (Some H) = horizon_reason limit p H
+
+-- why a line that is no edit is refused: one that asks for a horizon is looked at where horizons are taken
+abbrev pub fault_reason : Terms → Progress → LineFault → Option Reason
+fault_reason terms p (fault.Forget before) = if terms.horizons then forget_reason terms.limit p before else Some (Malformed (fault.Forget before))
+fault_reason terms p fault.TooLong = Some (Malformed fault.TooLong)
+fault_reason terms p fault.NotJson = Some (Malformed fault.NotJson)
+fault_reason terms p fault.NotObject = Some (Malformed fault.NotObject)
+fault_reason terms p fault.BadKind = Some (Malformed fault.BadKind)
+fault_reason terms p (fault.BadField field) = Some (Malformed (fault.BadField field))
+fault_reason terms p fault.BadStatus = Some (Malformed fault.BadStatus)
+fault_reason terms p fault.TooManyOps = Some (Malformed fault.TooManyOps)
+fault_reason terms p (fault.BadOp index) = Some (Malformed (fault.BadOp index))
+fault_reason terms p fault.OutOfMemory = Some (Malformed fault.OutOfMemory)
+
+-- why an item is refused at this moment, if it is
+abbrev pub reason_after : Terms → Progress → Result Edit LineFault → Option Reason
+reason_after terms p (Ok e) = edit_reason terms.limit p e
+reason_after terms p (Err f) = fault_reason terms p f
+
+-- ---- what becomes of an item
+
+-- what is found of what is present, and not of what is carried over the horizon
+unfoldable pub finals_at : Stamp → Progress → List Finding
+finals_at H p = not_among (findings (carried H (present p.journal))) (findings (present p.journal))
+
+-- so many are gone over all horizons, with those of this one
+abbrev pub sum_with : (Forgotten → ℕ) → Option Forgotten → ℕ → ℕ
+sum_with of None n = n
+sum_with of (Some f) n = of f + n
+
+-- what lies below the horizon once it is taken
+unfoldable pub forgotten_at : Stamp → Progress → Forgotten
+forgotten_at H p =
+    let P = present p.journal in
+    record {
+      horizon = H;
+      settled = in_order nat_cmp (map (λ u. u.0) (settled (carried H P)));
+      gone = sum_with (λ f. f.gone) p.forgotten (length (filter (λ T. is_none (rest H T)) P.txns));
+      committed = sum_with (λ f. f.committed) p.forgotten (length (filter (commits_below H) P.txns));
+      findings = sum_with (λ f. f.findings) p.forgotten (length (finals_at H p));
+      violations = sum_with (λ f. f.violations) p.forgotten (length (violations_of (finals_at H p)));
+    }
+
+-- how far the decisions are once the horizon is taken: what is carried over it is present, and what has become final was told for good
+unfoldable pub over : Stamp → Progress → Progress
+over H p = record p {
+  journal = making (carried H (present p.journal));
+  told = not_among (finals_at H p) p.told;
+  forgotten = Some (forgotten_at H p);
+}
+
+-- the same, where a number was given
+abbrev pub over_by : Option Stamp → Progress → Progress
+over_by None p = p
+over_by (Some H) p = over H p
+
+-- what a line that is no edit, and isn't refused, changes: it asks for a horizon
+abbrev pub fault_taken : LineFault → Progress → Progress
+fault_taken (fault.Forget before) p = over_by before p
+fault_taken fault.TooLong p = p
+fault_taken fault.NotJson p = p
+fault_taken fault.NotObject p = p
+fault_taken fault.BadKind p = p
+fault_taken (fault.BadField field) p = p
+fault_taken fault.BadStatus p = p
+fault_taken fault.TooManyOps p = p
+fault_taken (fault.BadOp index) p = p
+fault_taken fault.OutOfMemory p = p
+
+-- what an item that isn't refused changes
+abbrev pub taken : Result Edit LineFault → Progress → Progress
+taken (Ok e) p = record p { journal = p.journal ++ e ∷ [] }
+taken (Err f) p = fault_taken f p
+
+-- what an item changes, by the reason against it
+abbrev pub taken_by : Option Reason → Result Edit LineFault → Progress → Progress
+taken_by None answer p = taken answer p
+taken_by (Some reason) answer p = p
 
 -- one more, if there is a reason
 abbrev pub counted : ℕ → Option Reason → ℕ
@@ -94,11 +232,9 @@ is_due (Some n) decided = decided % n == 0
 
 -- how far the decisions are once one more item is decided, before the report behind it
 unfoldable pub decided_after : Terms → Progress → SourcedItem → Progress
-decided_after terms p item = record p {
-  journal = journal_after terms.limit p.journal item.1.1;
-  decided = p.decided + 1;
-  refused = counted p.refused (reason_after terms.limit p.journal item.1.1);
-}
+decided_after terms p item =
+    let reason = reason_after terms p item.1.1 in
+    record (taken_by reason item.1.1 p) { decided = p.decided + 1; refused = counted p.refused reason }
 
 -- the violations at this moment
 abbrev pub violations_at : Progress → List Finding
@@ -119,59 +255,81 @@ progress_through terms p (item ∷ items) = progress_through terms (progress_aft
 
 -- ---- what is expected at the end
 
--- ids are in the order of their numbers
-abbrev pub id_cmp : TxnId → TxnId → Ordering
-id_cmp = on (λ id. id.0) nat_cmp
+-- how many transactions have committed, those that are gone counted
+abbrev pub committed_in : Progress → ℕ
+committed_in p = sum_with (λ f. f.committed) p.forgotten (committed_among (present p.journal).txns)
 
--- fewer of the transactions are committed than were expected, or some are in doubt
-abbrev pub is_short : ℕ → List Txn → Bool
-is_short expected txns = nat_lt (committed_among txns) expected || not (length (doubtful_among txns) == 0)
+-- fewer transactions have committed than were expected, or some are in doubt
+abbrev pub is_short : ℕ → ℕ → List TxnId → Bool
+is_short expected committed in_doubt = nat_lt committed expected || not (length in_doubt == 0)
 
 -- the same where a number is expected
-abbrev pub is_short_of : Option ℕ → List Txn → Bool
-is_short_of None txns = false
-is_short_of (Some expected) txns = is_short expected txns
+abbrev pub is_short_of : Option ℕ → ℕ → List TxnId → Bool
+is_short_of None committed in_doubt = false
+is_short_of (Some expected) committed in_doubt = is_short expected committed in_doubt
 
 -- the line of a run that is short of so many
-abbrev pub short_line_of : ℕ → List Txn → List ℕ
-short_line_of expected txns = short_text (committed_among txns) expected (in_order id_cmp (doubtful_among txns))
+abbrev pub short_line_of : ℕ → ℕ → List TxnId → List ℕ
+short_line_of expected committed in_doubt = short_text committed expected (in_order id_cmp in_doubt)
 
 -- the line of a run that is short
-abbrev pub short_line : Option ℕ → List Txn → List ℕ
-short_line None txns = []
-short_line (Some expected) txns = if is_short expected txns then short_line_of expected txns else []
+abbrev pub short_line_by : Option ℕ → ℕ → List TxnId → List ℕ
+short_line_by None committed in_doubt = []
+short_line_by (Some expected) committed in_doubt = if is_short expected committed in_doubt then short_line_of expected committed in_doubt else []
+
+-- which transactions are in doubt
+abbrev pub doubtful_in : Progress → List TxnId
+doubtful_in p = doubtful_among (present p.journal).txns
+
+-- the same at this moment
+abbrev pub short_line : Option ℕ → Progress → List ℕ
+short_line expected p = short_line_by expected (committed_in p) (doubtful_in p)
 
 -- whether it is short of transactions, or of places at which something could have been found
-abbrev pub falls_short : Terms → Present → Bool
-falls_short terms P = is_short_of terms.expected P.txns || are_few terms.asked.expected (chances P)
+abbrev pub falls_short : Terms → Progress → Bool
+falls_short terms p = is_short_of terms.expected (committed_in p) (doubtful_in p) || are_few terms.asked.expected (chances (present p.journal))
 
 -- what the last report tells right before its summary: what could have been found, where that is told, and what the run is short of
-abbrev pub ending_lines : Terms → Present → List ℕ
-ending_lines terms P = told_chances terms.asked.tells (chances P) ++ (short_line terms.expected P.txns ++ few_lines terms.asked.expected (chances P))
+abbrev pub ending_lines : Terms → Progress → List ℕ
+ending_lines terms p =
+    told_chances terms.asked.tells (chances (present p.journal)) ++ (short_line terms.expected p ++ few_lines terms.asked.expected (chances (present p.journal)))
 
 -- ---- reports
 
--- the report of all that is found
-unfoldable pub whole_report_at : Terms → Progress → List ℕ
-whole_report_at terms p = report_text terms.explain (length (present p.journal).txns) (findings (present p.journal)) p.refused
+-- what a report tells of what lies below a horizon
+abbrev pub told_of : Forgotten → Forgot
+told_of f = record { before = f.horizon; transactions = f.gone; findings = f.findings; violations = f.violations }
 
--- the summary line
+abbrev pub forgot_in : Progress → Option Forgot
+forgot_in p = option_map told_of p.forgotten
+
+-- the verdict on all that was told as final and on what is found
+abbrev pub verdict_at : Progress → Verdict
+verdict_at p = verdict_with (forgot_in p) (verdict_of (findings (present p.journal)))
+
+-- the summary line, which counts what lies below a horizon
 unfoldable pub summary_at : Progress → List ℕ
 summary_at p =
-    summary_text (length (present p.journal).txns) (length (findings (present p.journal))) p.refused (verdict_of (findings (present p.journal)))
+    summary_text (transactions_with (forgot_in p) (length (present p.journal).txns)) (findings_with (forgot_in p) (length (findings (present p.journal))))
+    p.refused (verdict_at p)
+
+-- the report of all that is found
+unfoldable pub whole_report_at : Terms → Progress → List ℕ
+whole_report_at terms p = flat_map (finding_lines terms.explain) (findings (present p.journal)) ++ (forgot_lines (forgot_in p) ++ summary_at p)
 
 -- the report of the violations that came or went since the one before
 unfoldable pub changes_at : Terms → Progress → List ℕ
-changes_at terms p = changes_text terms.explain p.told (violations_at p) ++ summary_at p
+changes_at terms p = changes_text terms.explain p.told (violations_at p) ++ (forgot_lines (forgot_in p) ++ summary_at p)
 
 -- the report on the way
 abbrev pub report_on_the_way : Terms → Progress → List ℕ
 report_on_the_way terms p = if terms.only_new then changes_at terms p else whole_report_at terms p
 
--- the last report, which tells all that is found, what could have been, where that is told, and what the run is short of
+-- the last report, which tells all that is found, what lies below a horizon, what could have been found, where that is told, and what the run is
+-- short of
 unfoldable pub report_at : Terms → Progress → List ℕ
 report_at terms p =
-    flat_map (finding_lines terms.explain) (findings (present p.journal)) ++ (ending_lines terms (present p.journal) ++ summary_at p)
+    flat_map (finding_lines terms.explain) (findings (present p.journal)) ++ (forgot_lines (forgot_in p) ++ (ending_lines terms p ++ summary_at p))
 
 -- the line of a refused item
 abbrev pub refusal_line : ℕ → ℕ → Option Reason → List ℕ
@@ -182,9 +340,43 @@ refusal_line source line (Some reason) = refused_text source line reason
 abbrev pub report_due : Terms → Progress → List ℕ
 report_due terms p = if is_due terms.every p.decided then report_on_the_way terms p else []
 
+-- what is told at a horizon: each finding that has become final, and what lies below it; p is how far the decisions were before, and q behind it
+unfoldable pub horizon_text : Terms → Stamp → Progress → Progress → List ℕ
+horizon_text terms H p q = flat_map (final_lines terms.explain) (finals_at H p) ++ (forgot_lines (forgot_in q) ++ summary_at q)
+
+-- the same, where a number was given
+abbrev pub horizon_text_by : Terms → Option Stamp → Progress → Progress → List ℕ
+horizon_text_by terms None p q = []
+horizon_text_by terms (Some H) p q = horizon_text terms H p q
+
+-- what is told of a line that is no edit and isn't refused
+abbrev pub fault_told : Terms → LineFault → Progress → Progress → List ℕ
+fault_told terms (fault.Forget before) p q = horizon_text_by terms before p q
+fault_told terms fault.TooLong p q = []
+fault_told terms fault.NotJson p q = []
+fault_told terms fault.NotObject p q = []
+fault_told terms fault.BadKind p q = []
+fault_told terms (fault.BadField field) p q = []
+fault_told terms fault.BadStatus p q = []
+fault_told terms fault.TooManyOps p q = []
+fault_told terms (fault.BadOp index) p q = []
+fault_told terms fault.OutOfMemory p q = []
+
+-- what is told of an item that isn't refused
+abbrev pub answer_told : Terms → Result Edit LineFault → Progress → Progress → List ℕ
+answer_told terms (Ok e) p q = []
+answer_told terms (Err f) p q = fault_told terms f p q
+
+-- what is told of an item: why it is refused, or what its horizon comes to
+abbrev pub told_text : Terms → SourcedItem → Progress → Progress → Option Reason → List ℕ
+told_text terms item p q None = answer_told terms item.1.1 p q
+told_text terms item p q (Some reason) = refused_text item.0 item.1.0 reason
+
 -- what is written for one item
 unfoldable pub item_text : Terms → Progress → SourcedItem → List ℕ
-item_text terms p item = refusal_line item.0 item.1.0 (reason_after terms.limit p.journal item.1.1) ++ report_due terms (decided_after terms p item)
+item_text terms p item =
+    let q = decided_after terms p item in
+    told_text terms item p q (reason_after terms p item.1.1) ++ report_due terms q
 
 -- what is written for items, the last report aside
 abbrev pub items_text : Terms → Progress → List SourcedItem → List ℕ
@@ -202,9 +394,7 @@ status_by verdict.Open refused short = exit.Open
 status_by verdict.Clean refused short = if refused == 0 && not short then exit.Clean else exit.Open
 
 unfoldable pub status_at : Terms → Progress → ExitStatus
-status_at terms p =
-    let P = present p.journal in
-    status_by (verdict_of (findings P)) p.refused (falls_short terms P)
+status_at terms p = status_by (verdict_at p) p.refused (falls_short terms p)
 
 -- the exit status
 unfoldable pub status_of : Terms → List SourcedItem → ExitStatus

@@ -39,6 +39,7 @@ terms_by options = record {
   explain = options.explain;
   expected = options.expected;
   asked = options.asked;
+  horizons = options.horizons;
   shows = options.shows_progress;
 }
 

@@ -1,5 +1,5 @@
 -- What is decided and written for what is taken of the sources.
-use Rattle.std.specs.Prelude.{◌≡◌, ◌≢◌, ◌⊎◌, ℕ, ◌++◌, [], ◌∷◌, Bool, true, false, List, Option, Some, None, Result, Ok, Err, IfOk, OnOk, IfErr, length}
+use Rattle.std.specs.Prelude.{◌≡◌, ◌≢◌, ◌⊎◌, ℕ, ◌++◌, [], ◌∷◌, Bool, true, false, List, Option, Some, None, Result, Ok, Err, IsSome, IfOk, OnOk, IfErr, length}
 use Rattle.std.specs.List.{filter_map, list_any}
 use Rattle.std.specs.Io.KnownBytes.{Appends}
 use Rattle.si_model.specs.declared.edits.Edit.{Edit}
@@ -13,6 +13,7 @@ use Rattle.si_text.specs.Devices.{Lent, Output, lent}
 use Rattle.si_run.specs.declared.statuses.ExitStatus.{ExitStatus}
 use Rattle.si_run.specs.declared.faults.RunFault.{RunFault}
 use Rattle.si_run.specs.declared.faults.RunFault.TheVariants as fault
+use Rattle.si_run.specs.Engines.{horizon_in}
 use Rattle.si_run.specs.Outputs.{SourcedItem, sourced, Terms, Progress, decided_after, item_text, items_text, output_of, progress_after, progress_through, reason_after, report_at, start, status_of}
 use Rattle.si_run.specs.Runs.{AppendsBeginning, IsUnused, IsUnwritten}
 
@@ -67,9 +68,14 @@ IsBegun terms lines old new = (more : List SourcedItem) → AppendsBeginning old
 
 -- ---- at a fault
 
--- the decisions stay without this item, against which there is no reason
+-- no reason stands against the edit; or the line asks for a horizon, to look at which takes memory too
+abbrev pub IsOpen : Terms → Progress → Result Edit LineFault → Type 0
+IsOpen terms p (Ok e) = reason_after terms p (Ok e) ≡ None
+IsOpen terms p (Err f) = IsSome (horizon_in terms (Err f))
+
+-- the decisions stay without this item
 abbrev pub IsUndecided : Terms → Progress → SourcedItem → Progress → Type 0
-IsUndecided terms p item q = (q ≡ p) × (reason_after terms.limit p.journal item.1.1 ≡ None)
+IsUndecided terms p item q = (q ≡ p) × IsOpen terms p item.1.1
 
 -- how far the decisions are where the text of an item wasn't written whole: with the item where the writer failed; where memory was refused, without
 -- it, or with it and before the report behind it, where there is a text for it

@@ -29,3 +29,8 @@ found_then journal n = findings (present (take n journal))
 pub record IsToldIn (journal : List Edit) (t : Told) : Type 0 where
   pub within : t.at ≤ length journal
   pub told : IsTold (found_then journal t.at) t
+
+-- the counts are of what is found at the end of the journal
+pub record IsToldNow (journal : List Edit) (t : Told) : Type 0 where
+  pub at : t.at ≡ length journal
+  pub told : IsTold (findings (present journal)) t

@@ -1,93 +1,67 @@
 //! The accepter: it takes what the sources put, decides it, and writes what is written for it.
-ghost use Rattle.std.specs.Prelude.{◌≡◌, ◌<◌, ◌-◌, ◌^◌, ◌++◌, [], false, List, IfOk, IfErr, OnOk};
+ghost use Rattle.std.specs.Prelude.{◌≡◌, ◌<◌, ◌-◌, ◌^◌, ◌++◌, [], true, false, List, IfOk, IfErr, OnOk};
 ghost use Rattle.std.specs.Io.KnownBytes.{Appends};
 ghost use Rattle.si_intake.specs.declared.items.Item.{Item as Told};
 ghost use Rattle.si_intake.specs.Ends.{AllEnded};
 ghost use Rattle.si_text.specs.Devices.{lent};
-ghost use Rattle.si_run.specs.Outputs.{item_text, progress_after, report_at, sourced, start, status_at};
+ghost use Rattle.si_run.specs.Outputs.{report_at, sourced, status_at};
 ghost use Rattle.si_run.specs.Runs.{IsUnwritten};
-ghost use Rattle.si_run.specs.Takings.{IsAccepted, IsCutOff, IsDecided, IsUndone, operations_in};
-ghost use Rattle.si_run.specs.Telling.{IsTold, ShowsNotes};
+ghost use Rattle.si_run.specs.Epochs.{DecidesAll, DecidesLine, IsNone, horizon_line};
+ghost use Rattle.si_run.specs.Takings.{IsUndone, operations_in};
+ghost use Rattle.si_run.specs.Telling.{ShowsNotes};
 
 use crate::engines::{Decision, Engine};
+use crate::overs::{Closing, Over};
 use crate::sessions::Session;
 use crate::showing::Showing;
-use crate::telling::{tell_behind, tell_end};
 use crate::writing::write_all;
 use crate::{ExitStatus, RunFault};
 use si_checker::{Checker, Gate, Name, Place};
 use si_intake::{Accepter, Item, What};
-use si_model::Edit;
+use si_model::{Edit, Stamp};
 use si_text::{ByteSink, LineFault, LineItem};
 use std::rt::Clock;
 use std::sync::Wait;
 
-/// Decides what the sources put until each has told its end, writes what is written for it and then the last report, and answers the
-/// status.
-///
-/// At the first fault nothing more is decided or written. It is told before what is left is taken and dropped, which may take as long
-/// as some source gives nothing: until then the sources are stopped, each before its next read.
-pub fn accept_all<N: Name, R: Wait + Clock, W: ByteSink, E: ByteSink, G: Gate>(
-    rt: &R,
-    session: &Session<'_, N, G>,
-    engine: &mut Engine<N>,
-    accepter: &mut Accepter,
-    writer: &mut W,
-    err: &mut E,
-) -> Result<ExitStatus, RunFault>
-    requires fresh { engine.old.progress ≡ start }
-    requires untaken { accepter.old.taken ≡ [] }
-    requires writer { (W.seen writer.old).failed ≡ false }
-    ensures accepted { IsAccepted engine.old.terms accepter.old accepter.new (lent (W.seen writer.old) (W.seen writer.new)) engine.new.progress result }
-    ensures told { IsTold engine.old.terms.shows result (lent (E.seen err.old) (E.seen err.new)) }
-{
-    let shows = engine.shows();
-    let mut text = Vec::new(session.alloc);
-    match decide_all(rt, session, &mut text, engine, accepter, writer, err) {
-        Ok(()) => {
-            let ended = finish(rt, session.checker, engine, &mut text, writer);
-            tell_end(err, shows, &ended);
-            ended
-        }
-        Err(fault) => {
-            session.stop();
-            tell_behind(err, shows, fault);
-            drop_all(rt, accepter);
-            Err(fault)
-        }
-    }
+/// A horizon that a line of a source asks for, and that is taken.
+#[derive(Drop)]
+pub struct Taken {
+    pub source: usize,
+    pub line: u64,
+    pub over: Over,
 }
 
-/// Decides what the sources put until each has told its end, and writes what is written for it. The first fault ends it. Where that is
-/// asked for, it shows how far it is.
-fn decide_all<N: Name, R: Wait + Clock, W: ByteSink, E: ByteSink, G: Gate>(
+/// Decides what the sources put until each has told its end, or one asks for a horizon that is taken, and writes what is written for it.
+/// The first fault ends it. Where that is asked for, it shows how far it is.
+pub(crate) fn decide_all<N: Name, R: Wait + Clock, W: ByteSink, E: ByteSink, G: Gate>(
     rt: &R,
-    session: &Session<'_, N, G>,
+    session: &Session<'_, G>,
+    checker: &Checker<N>,
     text: &mut Vec<u8>,
     engine: &mut Engine<N>,
     accepter: &mut Accepter,
     writer: &mut W,
     err: &mut E,
-) -> Result<(), RunFault>
-    requires fresh { engine.old.progress ≡ start }
-    requires untaken { accepter.old.taken ≡ [] }
+) -> Result<Option<Taken>, RunFault>
     requires writer { (W.seen writer.old).failed ≡ false }
     ensures same { accepter.new ≡ record accepter.old { taken = accepter.new.taken } }
     ensures terms { engine.new.terms ≡ engine.old.terms }
-    ensures ended { OnOk result (AllEnded accepter.new) }
-    ensures ok { OnOk result (IsDecided engine.old.terms accepter.new.taken (W.seen writer.old).written (W.seen writer.new).written engine.new.progress) }
+    ensures ended { IfOk result (λ taken. IsNone taken → AllEnded accepter.new) }
+    ensures decided { DecidesAll engine.old.terms accepter.old.taken accepter.new.taken (lent (W.seen writer.old) (W.seen writer.new)) engine.old.progress engine.new.progress result }
     ensures works { OnOk result ((W.seen writer.new).failed ≡ false) }
-    ensures err { IfErr result (IsCutOff engine.old.terms accepter.new.taken (lent (W.seen writer.old) (W.seen writer.new)) engine.new.progress) }
     ensures shown { ShowsNotes engine.old.terms.shows (lent (E.seen err.old) (E.seen err.new)) }
 {
     let mut showing = Showing::new(engine.shows());
-    'items: for _turn in 0..u64::MAX {
+    'items: for _turn in engine.decided()..u64::MAX {
         let Some(Item { source, what }) = accepter.take(rt) else {
-            return Ok(());
+            return Ok(None);
         };
         match what {
             What::Line(item) => {
-                decide_line(rt, session, text, engine, source, item, writer)?;
+                let taken = decide_line(rt, session, checker, text, engine, source, item, writer)?;
+                if let Some(taken) = taken {
+                    return Ok(Some(taken));
+                }
             }
             What::ReadFault => return Err(RunFault::Input(source)),
             What::NoMemory => return Err(RunFault::Memory),
@@ -100,35 +74,72 @@ fn decide_all<N: Name, R: Wait + Clock, W: ByteSink, E: ByteSink, G: Gate>(
     unreachable!()
 }
 
-/// Decides an item of this source, and writes what is written for it.
+/// Decides an item of this source, and writes what is written for it; or answers the horizon that it asks for, where that is taken.
 ///
 /// At a fault the item isn't done with: it wasn't decided, or not all of that was written.
 fn decide_line<N: Name, R: Wait, W: ByteSink, G: Gate>(
     rt: &R,
-    session: &Session<'_, N, G>,
+    session: &Session<'_, G>,
+    checker: &Checker<N>,
     text: &mut Vec<u8>,
     engine: &mut Engine<N>,
     source: usize,
     item: LineItem,
     writer: &mut W,
-) -> Result<(), RunFault>
+) -> Result<Option<Taken>, RunFault>
     requires room { engine.old.progress.decided < 2 ^ 64 - 1 }
     requires writer { (W.seen writer.old).failed ≡ false }
     ensures terms { engine.new.terms ≡ engine.old.terms }
-    ensures progress { OnOk result (engine.new.progress ≡ progress_after engine.old.terms engine.old.progress (sourced source item)) }
-    ensures ok { OnOk result (Appends (W.seen writer.old).written (W.seen writer.new).written (item_text engine.old.terms engine.old.progress (sourced source item))) }
+    ensures ok { IfOk result (DecidesLine engine.old.terms (sourced source item) (lent (W.seen writer.old) (W.seen writer.new)) engine.old.progress engine.new.progress) }
     ensures works { OnOk result ((W.seen writer.new).failed ≡ false) }
     ensures err { IfErr result (IsUndone engine.old.terms engine.old.progress (sourced source item) (lent (W.seen writer.old) (W.seen writer.new)) engine.new.progress) }
 {
-    let (line, operations) = (item.0, operations_of(&item.1));
     text.clear();
-    let decision = engine.decide(rt, session.checker, text, source, item)?;
+    if let Some(horizon) = engine.horizon_in(&item.1) {
+        return close_at(
+            rt, session, checker, text, engine, source, item.0, horizon, writer,
+        );
+    }
+    let (line, operations) = (item.0, operations_of(&item.1));
+    let decision = engine.decide(rt, checker, text, source, item)?;
     if decision == Decision::Accepted {
         session.count_accepted(source, operations);
     }
     write_all(writer, text)?;
     session.gate.at(Place::Decided { source, line });
-    Ok(())
+    Ok(None)
+}
+
+/// Answers the horizon that a line of this source asks for, where it is taken; else decides the line, and writes why it is refused.
+fn close_at<N: Name, R: Wait, W: ByteSink, G: Gate>(
+    rt: &R,
+    session: &Session<'_, G>,
+    checker: &Checker<N>,
+    text: &mut Vec<u8>,
+    engine: &mut Engine<N>,
+    source: usize,
+    line: u64,
+    horizon: Stamp,
+    writer: &mut W,
+) -> Result<Option<Taken>, RunFault>
+    requires room { engine.old.progress.decided < 2 ^ 64 - 1 }
+    requires asked { engine.old.terms.horizons ≡ true }
+    requires empty { text.old.items ≡ [] }
+    requires writer { (W.seen writer.old).failed ≡ false }
+    ensures terms { engine.new.terms ≡ engine.old.terms }
+    ensures ok { IfOk result (DecidesLine engine.old.terms (horizon_line source line horizon) (lent (W.seen writer.old) (W.seen writer.new)) engine.old.progress engine.new.progress) }
+    ensures works { OnOk result ((W.seen writer.new).failed ≡ false) }
+    ensures err { IfErr result (IsUndone engine.old.terms engine.old.progress (horizon_line source line horizon) (lent (W.seen writer.old) (W.seen writer.new)) engine.new.progress) }
+{
+    match engine.close_at(rt, checker, horizon)? {
+        Closing::Over(over) => Ok(Some(Taken { source, line, over })),
+        Closing::Refused(reason) => {
+            engine.end_item(rt, checker, text, source, line, Some(reason))?;
+            write_all(writer, text)?;
+            session.gate.at(Place::Decided { source, line });
+            Ok(None)
+        }
+    }
 }
 
 /// How many operations the edit has, a set-up being one.
@@ -143,7 +154,7 @@ fn operations_of(answer: &Result<Edit, LineFault>) -> u64
 }
 
 /// Takes what is left, until each source has told its end, so that none of them waits for ever.
-pub fn drop_all<R: Wait>(rt: &R, accepter: &mut Accepter)
+pub(crate) fn drop_all<R: Wait>(rt: &R, accepter: &mut Accepter)
     ensures taken { (more : List Told) × (accepter.new ≡ record accepter.old { taken = accepter.old.taken ++ more }) }
     ensures ended { AllEnded accepter.new }
 {
@@ -156,7 +167,7 @@ pub fn drop_all<R: Wait>(rt: &R, accepter: &mut Accepter)
 }
 
 /// Writes the last report in the place of this text, and answers the status.
-fn finish<N: Name, R: Wait, W: ByteSink>(
+pub(crate) fn finish<N: Name, R: Wait, W: ByteSink>(
     rt: &R,
     checker: &Checker<N>,
     engine: &mut Engine<N>,

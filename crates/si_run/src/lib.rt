@@ -7,10 +7,16 @@
 #![tactic(auto)]
 
 mod accepters;
+mod closing;
 mod engines;
+mod epochs;
 pub mod faults;
+mod finals;
+mod forgotten;
 pub mod laws;
 pub mod options;
+mod overs;
+mod reporting;
 pub mod runs;
 mod sessions;
 pub mod showing;

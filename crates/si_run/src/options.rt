@@ -21,6 +21,8 @@ pub struct Options {
     pub expected: Option<u64>,
     /// What is asked of the places at which a likely fault of a database would have shown.
     pub asked: Asked,
+    /// Whether a line may ask for a horizon, below which all is forgotten. Where none may, it is refused as one of a kind that isn't known.
+    pub horizons: bool,
     /// Whether the error device shows, in one line again and again, how far the run is. It changes no text.
     pub shows_progress: bool,
     /// The most edits that are accepted, 1 to `MOST_EDITS`.

@@ -8,16 +8,17 @@ ghost use Rattle.si_text.specs.Devices.{each_failed, each_foretold, lent};
 ghost use Rattle.si_words.specs.Seats.{seated};
 ghost use Rattle.si_words.specs.Views.{new_pass};
 ghost use Rattle.si_run.specs.Endings.{Ends, EndsOpened};
-ghost use Rattle.si_run.specs.Outputs.{start};
+ghost use Rattle.si_run.specs.Epochs.{CanBegin};
+ghost use Rattle.si_run.specs.Outputs.{Progress};
 ghost use Rattle.si_run.specs.Readings.{AreRead};
 ghost use Rattle.si_run.specs.Runs.{terms_by};
-ghost use Rattle.si_run.specs.Takings.{IsAccepted, IsRunThrough, IsTried};
+ghost use Rattle.si_run.specs.Takings.{IsRunThrough, IsTried};
 ghost use Rattle.si_run.specs.Telling.{IsTold, IsToldIfTried};
 
-use crate::accepters::{accept_all, drop_all};
-use crate::engines::Engine;
+use crate::accepters::drop_all;
+use crate::epochs::run_epochs;
 use crate::laws::gate_is_exact;
-use crate::sessions::{Session, can_start, work_all};
+use crate::sessions::{Session, can_start};
 use crate::sources::read_all;
 use crate::telling::{Unheard, refuse, tell_behind};
 use crate::{ExitStatus, Options, RunFault};
@@ -28,7 +29,6 @@ use si_text::{ByteSink, ByteSource};
 use std::alloc::Global;
 use std::hash::RandomState;
 use std::marker::Brand;
-use std::mem::forget;
 use std::rt::Clock;
 use std::sync::Wait;
 use std::thread::{Threads, join_mut};
@@ -190,14 +190,15 @@ fn run_named<
     let Ok(checker) = Checker::<N>::new(alloc, parts) else {
         return refuse(err, options.shows_progress);
     };
-    let Ok(session) = Session::new(alloc, hash, &checker, gate, inputs.len()) else {
+    let Ok(session) = Session::new(alloc, hash, gate, inputs.len()) else {
         return refuse(err, options.shows_progress);
     };
-    let mut engine = Engine::new(alloc, hash, pass, options);
     let ended = read_and_accept(
         rt,
         &session,
-        &mut engine,
+        checker,
+        pass,
+        options,
         &mut accepter,
         writer,
         err,
@@ -206,9 +207,6 @@ fn run_named<
     );
     let _taken = gather(ends, accepter);
     gate_is_exact();
-    drop(session);
-    // The program ends after a run: to give back each piece of the checker's memory before would take a tenth of its time.
-    forget(checker);
     ended
 }
 
@@ -223,8 +221,10 @@ fn read_and_accept<
     G: Gate + Sync,
 >(
     rt: &R,
-    session: &Session<'_, N, G>,
-    engine: &mut Engine<N>,
+    session: &Session<'_, G>,
+    checker: Checker<N>,
+    pass: Pass,
+    options: Options,
     accepter: &mut Accepter,
     writer: &mut W,
     err: &mut E,
@@ -234,38 +234,40 @@ fn read_and_accept<
     requires many { length inputs.old ≡ length ends.old }
     requires inputs { All (λ s. (S.seen s).failed ≡ false) inputs.old }
     requires ends { All (λ e. e.put ≡ []) ends.old }
-    requires engine { engine.old.progress ≡ start }
+    requires alone { N.board.passes ≡ 1 }
+    requires pass { pass ≡ seated N.board.table (new_pass N.board.shards 0) }
+    requires limit { options.limit ≡ N.limit }
     requires accepter { accepter.old.taken ≡ [] }
     requires writer { (W.seen writer.old).failed ≡ false }
     ensures sources { AreRead (each_foretold (map S.seen inputs.old) (map S.seen inputs.new)) (each_failed (map S.seen inputs.new)) ends.old ends.new }
-    ensures accepted { IsRunThrough engine.old.terms accepter.old accepter.new (lent (W.seen writer.old) (W.seen writer.new)) engine.new.progress result }
-    ensures told { IsTold engine.old.terms.shows result (lent (E.seen err.old) (E.seen err.new)) }
+    ensures accepted { (q : Progress) × IsRunThrough (terms_by options) accepter.old accepter.new (lent (W.seen writer.old) (W.seen writer.new)) q result }
+    ensures told { IsTold options.shows_progress result (lent (E.seen err.old) (E.seen err.new)) }
 {
-    let shows = engine.shows();
+    let mut first = Some((checker, pass));
     let mut sources = ||
-        requires { IsSync R.row × IsSync N.row × IsSend N.row × IsSync G.row × IsSend S.row
+        requires { IsSync R.row × IsSync G.row × IsSend S.row
             × (length inputs.now ≡ length ends.now) × All (λ s. (S.seen s).failed ≡ false) inputs.now × All (λ e. e.put ≡ []) ends.now }
         ensures { AreRead (each_foretold (map S.seen inputs.entry.now) (map S.seen inputs.exit.now)) (each_failed (map S.seen inputs.exit.now)) ends.entry.now ends.exit.now }
     { read_all(rt, session, inputs, ends) };
     let mut others = || -> Option<Result<ExitStatus, RunFault>>
         requires { IsSync R.row × IsSync N.row × IsSend N.row × IsSync G.row
-            × (engine.now.progress ≡ start) × (accepter.now.taken ≡ []) × ((W.seen writer.now).failed ≡ false) }
-        ensures { IsTried engine.entry.now.terms accepter.entry.now accepter.exit.now (lent (W.seen writer.entry.now) (W.seen writer.exit.now)) engine.exit.now.progress result
-            × IsToldIfTried engine.entry.now.terms.shows result (lent (E.seen err.entry.now) (E.seen err.exit.now)) }
-    { work_and_accept(rt, session, engine, accepter, writer, err) };
+            × (accepter.now.taken ≡ []) × ((W.seen writer.now).failed ≡ false) × CanBegin N.board first × (N.board.passes ≡ 1) × (options.limit ≡ N.limit) }
+        ensures { (q : Progress) × IsTried (terms_by options) accepter.entry.now accepter.exit.now (lent (W.seen writer.entry.now) (W.seen writer.exit.now)) q result
+            × IsToldIfTried options.shows_progress result (lent (E.seen err.entry.now) (E.seen err.exit.now)) }
+    { try_epochs(rt, session, &mut first, options, accepter, writer, err) };
     let ((), tried) = join_mut(rt, &mut sources, &mut others);
     match tried {
         Some(ended) => ended,
         None => {
-            let refused = refuse(err, shows);
+            let refused = refuse(err, options.shows_progress);
             drop_all(rt, accepter);
             refused
         }
     }
 }
 
-/// Accepts in this thread, beside the workers, and then lets these end; or answers none where the sources don't begin.
-fn work_and_accept<
+/// Accepts in this thread, with this checker first; or answers none where the sources don't begin.
+fn try_epochs<
     N: Name + Send + Sync,
     R: Threads + Wait + Clock + Sync,
     W: ByteSink,
@@ -273,33 +275,24 @@ fn work_and_accept<
     G: Gate + Sync,
 >(
     rt: &R,
-    session: &Session<'_, N, G>,
-    engine: &mut Engine<N>,
+    session: &Session<'_, G>,
+    first: &mut Option<(Checker<N>, Pass)>,
+    options: Options,
     accepter: &mut Accepter,
     writer: &mut W,
     err: &mut E,
 ) -> Option<Result<ExitStatus, RunFault>>
-    requires engine { engine.old.progress ≡ start }
+    requires alone { N.board.passes ≡ 1 }
+    requires first { CanBegin N.board first.old }
+    requires limit { options.limit ≡ N.limit }
     requires accepter { accepter.old.taken ≡ [] }
     requires writer { (W.seen writer.old).failed ≡ false }
-    ensures tried { IsTried engine.old.terms accepter.old accepter.new (lent (W.seen writer.old) (W.seen writer.new)) engine.new.progress result }
-    ensures told { IsToldIfTried engine.old.terms.shows result (lent (E.seen err.old) (E.seen err.new)) }
+    ensures tried { (q : Progress) × IsTried (terms_by options) accepter.old accepter.new (lent (W.seen writer.old) (W.seen writer.new)) q result }
+    ensures told { IsToldIfTried options.shows_progress result (lent (E.seen err.old) (E.seen err.new)) }
 {
     if !session.have_sources_begun(rt) {
         return None;
     }
-    let mut workers = ||
-        requires { IsSync R.row × IsSync N.row × IsSend N.row × IsSync G.row }
-    { work_all(rt, session) };
-    let mut accept = || -> Result<ExitStatus, RunFault>
-        requires { (engine.now.progress ≡ start) × (accepter.now.taken ≡ []) × ((W.seen writer.now).failed ≡ false) }
-        ensures { IsAccepted engine.entry.now.terms accepter.entry.now accepter.exit.now (lent (W.seen writer.entry.now) (W.seen writer.exit.now)) engine.exit.now.progress result
-            × IsTold engine.entry.now.terms.shows result (lent (E.seen err.entry.now) (E.seen err.exit.now)) }
-    {
-        let ended = accept_all(rt, session, engine, accepter, writer, err);
-        engine.close(rt, session.checker);
-        ended
-    };
-    let ((), ended) = join_mut(rt, &mut workers, &mut accept);
-    Some(ended)
+    let (checker, pass) = first.take().unwrap();
+    Some(run_epochs(rt, session, checker, pass, options, accepter, writer, err))
 }

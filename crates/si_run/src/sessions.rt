@@ -25,25 +25,23 @@ const LOOKS: u64 = 10_000;
 /// How long it sleeps between two looks, in microseconds.
 const SLEEP_MICROS: u64 = 1_000;
 
-/// The checker, the gate, whether a source has begun, how many operations of each source's items were accepted, and whether the sources
-/// are to read no further.
+/// The gate, whether a source has begun, how many operations of each source's items were accepted, and whether the sources are to read no
+/// further. It outlives the checkers of a run, of which each horizon begins another.
 #[derive(Drop)]
-pub struct Session<'a, N: Name, G> {
+pub struct Session<'a, G> {
     pub alloc: Global,
     pub hash: RandomState,
-    pub checker: &'a Checker<N>,
     pub gate: &'a G,
     sources: AtomicU64,
     accepted: Vec<AtomicU64>,
     pub stopped: AtomicBool,
 }
 
-impl<'a, N: Name, G: Gate> Session<'a, N, G> {
+impl<'a, G: Gate> Session<'a, G> {
     /// A session of so many sources, of which nothing is accepted.
     pub fn new(
         alloc: Global,
         hash: RandomState,
-        checker: &'a Checker<N>,
         gate: &'a G,
         sources: usize,
     ) -> Result<Self, OutOfMemory> {
@@ -54,7 +52,6 @@ impl<'a, N: Name, G: Gate> Session<'a, N, G> {
         Ok(Session {
             alloc,
             hash,
-            checker,
             gate,
             sources: AtomicU64::new(AWAITED),
             accepted,
@@ -126,14 +123,15 @@ pub fn can_start<R: Threads>(rt: &R) -> bool {
 /// A worker for each shard, until the checker is closed. Where one ends before, since memory was refused, the reports apply what it left.
 pub fn work_all<N: Name + Send + Sync, G: Gate + Sync, R: Threads + Wait + Sync>(
     rt: &R,
-    session: &Session<'_, N, G>,
+    session: &Session<'_, G>,
+    checker: &Checker<N>,
 ) {
     let _ended = map_indices(
         rt,
         session.alloc,
-        session.checker.shards(),
+        checker.shards(),
         &|k: usize| -> Worked
             requires { k < N.board.shards }
-        { session.checker.work(rt, k, session.gate) },
+        { checker.work(rt, k, session.gate) },
     );
 }

@@ -7,7 +7,7 @@ ghost use Rattle.si_text.specs.LineBuffers.{IsFresh};
 ghost use Rattle.si_run.specs.Readings.{AreRead, EndsSo, HasPut, IsRead};
 
 use crate::sessions::Session;
-use si_checker::{Gate, Name, Place};
+use si_checker::{Gate, Place};
 use si_intake::{Item, SourceEnd, What};
 use si_text::{ByteSource, InputFault, KnownKeys, LineBuffer};
 use std::alloc::Global;
@@ -60,12 +60,12 @@ impl KeptKeys {
 
 /// Reads each of the inputs by a thread of its own, and puts its items at the end of the same place.
 #[cycle(inputs)]
-pub fn read_all<
-    N: Name + Send + Sync,
-    R: Threads + Wait + Sync,
-    S: ByteSource + Send,
-    G: Gate + Sync,
->(rt: &R, session: &Session<'_, N, G>, inputs: &mut [S], ends: &mut [SourceEnd])
+pub fn read_all<R: Threads + Wait + Sync, S: ByteSource + Send, G: Gate + Sync>(
+    rt: &R,
+    session: &Session<'_, G>,
+    inputs: &mut [S],
+    ends: &mut [SourceEnd],
+)
     requires many { length inputs.old ≡ length ends.old }
     requires works { All (λ s. (S.seen s).failed ≡ false) inputs.old }
     requires fresh { All (λ e. e.put ≡ []) ends.old }
@@ -81,9 +81,9 @@ pub fn read_all<
 
 /// Reads the first input in a thread of its own, and the others beside it.
 #[cycle(inputs)]
-fn read_both<N: Name + Send + Sync, R: Threads + Wait + Sync, S: ByteSource + Send, G: Gate + Sync>(
+fn read_both<R: Threads + Wait + Sync, S: ByteSource + Send, G: Gate + Sync>(
     rt: &R,
-    session: &Session<'_, N, G>,
+    session: &Session<'_, G>,
     input: &mut S,
     end: &mut SourceEnd,
     inputs: &mut [S],
@@ -102,7 +102,7 @@ fn read_both<N: Name + Send + Sync, R: Threads + Wait + Sync, S: ByteSource + Se
         ensures { IsRead (foretold (S.seen input.entry.now).left (S.seen input.exit.now).left) (S.seen input.exit.now).failed end.entry.now end.exit.now }
     { read(rt, session, input, end) };
     let mut others = ||
-        requires { IsSync R.row × IsSync N.row × IsSend N.row × IsSync G.row × IsSend S.row
+        requires { IsSync R.row × IsSync G.row × IsSend S.row
             × (length inputs.now ≡ length ends.now) × All (λ s. (S.seen s).failed ≡ false) inputs.now × All (λ e. e.put ≡ []) ends.now }
         ensures { AreRead (each_foretold (map S.seen inputs.entry.now) (map S.seen inputs.exit.now)) (each_failed (map S.seen inputs.exit.now)) ends.entry.now ends.exit.now }
     { read_all(rt, session, inputs, ends) };
@@ -110,9 +110,9 @@ fn read_both<N: Name + Send + Sync, R: Threads + Wait + Sync, S: ByteSource + Se
 }
 
 /// Reads an input to its end or to a fault, puts its items and then how it ended.
-pub fn read<N: Name, R: Wait, S: ByteSource, G: Gate>(
+pub fn read<R: Wait, S: ByteSource, G: Gate>(
     rt: &R,
-    session: &Session<'_, N, G>,
+    session: &Session<'_, G>,
     input: &mut S,
     end: &mut SourceEnd,
 )
@@ -126,9 +126,9 @@ pub fn read<N: Name, R: Wait, S: ByteSource, G: Gate>(
 }
 
 /// Puts the items of an input, and answers how it ended.
-fn put_lines<N: Name, R: Wait, S: ByteSource, G: Gate>(
+fn put_lines<R: Wait, S: ByteSource, G: Gate>(
     rt: &R,
-    session: &Session<'_, N, G>,
+    session: &Session<'_, G>,
     input: &mut S,
     end: &mut SourceEnd,
 ) -> What
@@ -147,9 +147,9 @@ fn put_lines<N: Name, R: Wait, S: ByteSource, G: Gate>(
 }
 
 /// Puts what this fresh buffer reads of an input, and answers how that ended.
-fn put_read<N: Name, R: Wait, S: ByteSource, G: Gate>(
+fn put_read<R: Wait, S: ByteSource, G: Gate>(
     rt: &R,
-    session: &Session<'_, N, G>,
+    session: &Session<'_, G>,
     input: &mut S,
     end: &mut SourceEnd,
     lines: &mut LineBuffer,

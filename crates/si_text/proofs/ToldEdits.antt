@@ -132,7 +132,8 @@ named_told d word at =
     choice (IsTold d) (bytes_eq word (codes "txn")) _ _ (λ yes. arrival_told d (of (codes "txn") yes))
     (λ t. choice (IsTold d) (bytes_eq word (codes "resolve")) _ _ (λ yes. resolution_told d (of (codes "resolve") yes))
     (λ r. choice (IsTold d) (bytes_eq word (codes "withdraw")) _ _ (λ yes. withdrawal_told d (of (codes "withdraw") yes))
-    (λ w. choice (IsTold d) (bytes_eq word (codes "setup")) _ _ (λ yes. set_up_told d (of (codes "setup") yes)) (λ s. tt))))
+    (λ w. choice (IsTold d) (bytes_eq word (codes "setup")) _ _ (λ yes. set_up_told d (of (codes "setup") yes))
+    (λ s. choice (IsTold d) (bytes_eq word (codes "forget")) _ _ (λ yes. tt) (λ f. tt)))))
 
 object_told : (d : Data) → IsTold d (object_edit d)
 unfolding object_edit

@@ -1,19 +1,20 @@
 -- The conditions of the faults of a line, each by itself and over the JSON value that the line is. None says in which order a line is
 -- read: that the fault of least number is told is a law.
-use Rattle.std.specs.Prelude.{◌≡◌, ◌≤◌, ◌<◌, ◌⊎◌, ℕ, List, length, codes, Some, None, unwrap_or}
+use Rattle.std.specs.Prelude.{◌≡◌, ◌≤◌, ◌<◌, ◌⊎◌, ℕ, List, length, codes, Option, Some, None, unwrap_or}
 use Rattle.serde_json.specs.Data.{unsigned, Data, null, number, string, array, Items, no_items, item}
 use Rattle.serde_json.specs.Find.{get, get_item, as_object}
 use Rattle.si_model.specs.KeyTexts.{IsKeyText}
 use Rattle.si_model.specs.Operations.{key_of}
+use Rattle.si_model.specs.declared.numbers.Stamp.{Stamp}
 use Rattle.si_model.specs.declared.operations.Op.{Op}
 use Rattle.si_model.specs.declared.operations.Op.TheVariants.{Read, Write}
 use Rattle.si_model.specs.declared.operations.TheConstants.{MOST_OPS}
 use Rattle.si_text.specs.Faults.{fault_code}
 use Rattle.si_text.specs.Lines.{value_of, list_of}
 use Rattle.si_text.specs.declared.faults.Field.{Field}
-use Rattle.si_text.specs.declared.faults.Field.TheVariants.{Id, Start, Status, Commit, Ops, Key, Value}
+use Rattle.si_text.specs.declared.faults.Field.TheVariants.{Id, Start, Status, Commit, Ops, Key, Value, Before}
 use Rattle.si_text.specs.declared.faults.LineFault.{LineFault}
-use Rattle.si_text.specs.declared.faults.LineFault.TheVariants.{TooLong, NotJson, NotObject, BadKind, BadField, BadStatus, TooManyOps, BadOp, OutOfMemory}
+use Rattle.si_text.specs.declared.faults.LineFault.TheVariants.{TooLong, NotJson, NotObject, BadKind, Forget, BadField, BadStatus, TooManyOps, BadOp, OutOfMemory}
 use Rattle.si_text.specs.declared.read_edits.TheConstants.{MOST_LINE_BYTES}
 
 abbrev pub Not : Type 0 → Type 0
@@ -45,7 +46,7 @@ IsOf d kind = HasText d (codes "do") kind
 abbrev pub HasStatus : Data → List ℕ → Type 0
 HasStatus d word = (IsOf d (codes "txn") ⊎ IsOf d (codes "resolve")) × HasText d (codes "status") word
 
--- the line's kind asks for the member
+-- the line's kind asks for the member; a line that asks to forget lacks none, since its fault tells whether its stamp is there
 abbrev pub AsksFor : Data → Field → Type 0
 AsksFor d Id = IsOf d (codes "txn") ⊎ (IsOf d (codes "resolve") ⊎ IsOf d (codes "withdraw"))
 AsksFor d Start = IsOf d (codes "txn")
@@ -54,6 +55,7 @@ AsksFor d Commit = HasStatus d (codes "committed")
 AsksFor d Ops = IsOf d (codes "txn")
 AsksFor d Key = IsOf d (codes "setup")
 AsksFor d Value = IsOf d (codes "setup")
+AsksFor d Before = ⊥
 
 -- the member is there, and of its kind
 abbrev pub HasField : Data → Field → Type 0
@@ -64,6 +66,7 @@ HasField d Commit = (n : ℕ) × HasNumber d (codes "commit") n
 HasField d Ops = (items : Items) × HasArray d (codes "ops") items
 HasField d Key = (key : List ℕ) × IsKeyText key × HasText d (codes "key") key
 HasField d Value = (n : ℕ) × HasNumber d (codes "value") n
+HasField d Before = (n : ℕ) × HasNumber d (codes "before") n
 
 -- the place of a member in the order in which they are told
 abbrev pub place : Field → ℕ
@@ -74,6 +77,7 @@ place Commit = 3
 place Ops = 4
 place Key = 5
 place Value = 6
+place Before = 7
 
 -- the member is asked for, and missing or of another kind
 abbrev pub IsLacking : Data → Field → Type 0
@@ -85,9 +89,16 @@ IsFirstLacking d field = IsLacking d field × ((other : Field) → place other <
 
 -- ---- kinds and statuses
 
--- the kind is missing or none of the four words
+-- the kind is missing or none of the five words
 abbrev pub HasNoKind : Data → Type 0
-HasNoKind d = Not (IsOf d (codes "txn")) × Not (IsOf d (codes "resolve")) × Not (IsOf d (codes "withdraw")) × Not (IsOf d (codes "setup"))
+HasNoKind d =
+    Not (IsOf d (codes "txn")) × Not (IsOf d (codes "resolve")) × Not (IsOf d (codes "withdraw")) × Not (IsOf d (codes "setup"))
+    × Not (IsOf d (codes "forget"))
+
+-- the line asks to forget what lies below that stamp, or below none where its member is missing or no number
+abbrev pub AsksToForget : Data → Option Stamp → Type 0
+AsksToForget d (Some before) = IsOf d (codes "forget") × HasNumber d (codes "before") before.0
+AsksToForget d None = IsOf d (codes "forget") × Not (HasField d Before)
 
 -- what became of a transaction
 abbrev pub IsOutcomeWord : List ℕ → Type 0
@@ -141,6 +152,7 @@ Applies line TooLong = MOST_LINE_BYTES < length line
 Applies line NotJson = value_of line ≡ None
 Applies line NotObject = IsSaid line (λ d. as_object d ≡ None)
 Applies line BadKind = IsSaid line HasNoKind
+Applies line (Forget before) = IsSaid line (λ d. AsksToForget d before)
 Applies line (BadField field) = IsSaid line (λ d. IsFirstLacking d field)
 Applies line BadStatus = IsSaid line HasBadStatus
 Applies line TooManyOps = IsSaid line (λ d. (items : Items) × HasOps d items × (MOST_OPS < length (list_of items)))

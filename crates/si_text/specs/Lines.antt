@@ -7,6 +7,7 @@ use Rattle.serde_json.specs.Read.{read}
 use Rattle.serde_json.specs.Find.{get, at, as_null, as_number, as_u64, as_str, as_array, as_object}
 use Rattle.si_model.specs.declared.edits.Edit.{Edit}
 use Rattle.si_model.specs.declared.edits.Edit.TheVariants.{Arrive, Resolve, Withdraw, SetUp}
+use Rattle.si_model.specs.declared.numbers.Stamp.{Stamp}
 use Rattle.si_model.specs.declared.numbers.Value.{Value}
 use Rattle.si_model.specs.declared.operations.Op.{Op}
 use Rattle.si_model.specs.declared.operations.Op.TheVariants.{Read, Write}
@@ -19,7 +20,7 @@ use Rattle.si_text.specs.Faults.{field_name}
 use Rattle.si_text.specs.declared.faults.Field.{Field}
 use Rattle.si_text.specs.declared.faults.Field.TheVariants as fields
 use Rattle.si_text.specs.declared.faults.LineFault.{LineFault}
-use Rattle.si_text.specs.declared.faults.LineFault.TheVariants.{TooLong, NotJson, NotObject, BadKind, BadField, BadStatus, TooManyOps, BadOp, OutOfMemory}
+use Rattle.si_text.specs.declared.faults.LineFault.TheVariants.{TooLong, NotJson, NotObject, BadKind, Forget, BadField, BadStatus, TooManyOps, BadOp, OutOfMemory}
 use Rattle.si_text.specs.declared.read_edits.TheConstants.{MOST_LINE_BYTES}
 
 infixl 10 ◌>>=◌
@@ -159,13 +160,18 @@ set_up_of d = do
   value ← number_at fields.Value d
   Ok (SetUp key (record { 0 = value }))
 
--- the edit of that kind
+-- the stamp below which a line asks to forget, where its member is a number
+abbrev pub before_in : Data → Option Stamp
+before_in d = option_map (λ number. record { 0 = number }) (option_and_then number_in (get (field_name fields.Before) d))
+
+-- the edit of that kind; a line that asks to forget is none, and its fault tells what it asks for
 unfoldable pub edit_named : List ℕ → Data → Result Edit LineFault
 edit_named word d =
     if bytes_eq word (codes "txn") then arrival_of d else
     (if bytes_eq word (codes "resolve") then resolution_of d else
     (if bytes_eq word (codes "withdraw") then withdrawal_of d else
-    (if bytes_eq word (codes "setup") then set_up_of d else Err BadKind)))
+    (if bytes_eq word (codes "setup") then set_up_of d else
+    (if bytes_eq word (codes "forget") then Err (Forget (before_in d)) else Err BadKind))))
 
 -- the edit that an object is
 unfoldable pub object_edit : Data → Result Edit LineFault

@@ -1,5 +1,5 @@
 -- The texts that are printed: findings and their evidence, refused items, the summary and the whole report.
-use Rattle.std.specs.Prelude.{ℕ, List, [], ◌∷◌, ◌++◌, length, take, codes, decimal, Bool, false, not, ◌||◌, nat_lt, if◌then◌else◌, Option, Some, None, is_some}
+use Rattle.std.specs.Prelude.{ℕ, ◌+◌, List, [], ◌∷◌, ◌++◌, length, take, codes, decimal, Bool, false, not, ◌||◌, nat_lt, if◌then◌else◌, Option, Some, None, is_some}
 use Rattle.std.specs.List.{filter, flat_map, list_any}
 use Rattle.serde_json.specs.Data.{string}
 use Rattle.serde_json.specs.Written.{compact_text}
@@ -8,6 +8,7 @@ use Rattle.si_model.specs.declared.chances.Chances.{Chances}
 use Rattle.si_model.specs.declared.findings.Finding.{Finding}
 use Rattle.si_model.specs.declared.kinds.Kind.{Kind}
 use Rattle.si_model.specs.declared.kinds.Kind.TheVariants.{Unknown, Doubt, Own, Aborted, Intermediate, Future, Stale, Overlap}
+use Rattle.si_model.specs.declared.numbers.Stamp.{Stamp}
 use Rattle.si_model.specs.declared.numbers.TxnId.{TxnId}
 use Rattle.si_model.specs.declared.numbers.Value.{Value}
 use Rattle.si_model.specs.declared.refusals.Refusal.{Refusal}
@@ -23,9 +24,12 @@ use Rattle.si_model.specs.Evidence.{evidence_of}
 use Rattle.si_model.specs.Order.{finding_eq, number}
 use Rattle.si_text.specs.Faults.{field_name, fault_code}
 use Rattle.si_text.specs.declared.faults.LineFault.{LineFault}
-use Rattle.si_text.specs.declared.faults.LineFault.TheVariants.{TooLong, NotJson, NotObject, BadKind, BadField, BadStatus, TooManyOps, BadOp, OutOfMemory}
+use Rattle.si_text.specs.declared.faults.LineFault.TheVariants.{TooLong, NotJson, NotObject, BadKind, Forget, BadField, BadStatus, TooManyOps, BadOp, OutOfMemory}
 use Rattle.si_text.specs.declared.reasons.Reason.{Reason}
-use Rattle.si_text.specs.declared.reasons.Reason.TheVariants.{Malformed, Refused}
+use Rattle.si_text.specs.declared.reasons.Reason.TheVariants.{Malformed, Refused, Horizon}
+use Rattle.si_text.specs.declared.horizon_refusals.HorizonRefusal.{HorizonRefusal}
+use Rattle.si_text.specs.declared.horizon_refusals.HorizonRefusal.TheVariants.{StartForgotten, Settled, SetUpLate, HorizonBack, DoubtBefore}
+use Rattle.si_text.specs.declared.forgetting.Forgot.{Forgot}
 use Rattle.si_text.specs.declared.endings.Asked.{Asked}
 use Rattle.si_text.specs.declared.endings.Ending.{Ending}
 use Rattle.si_text.specs.declared.endings.ExpectedPlaces.{ExpectedPlaces}
@@ -151,6 +155,7 @@ fault_text TooLong = codes "too-long"
 fault_text NotJson = codes "not-json"
 fault_text NotObject = codes "not-object"
 fault_text BadKind = codes "bad-kind"
+fault_text (Forget before) = codes "bad-kind"
 fault_text (BadField field) = codes "bad-field field=" ++ field_name field
 fault_text BadStatus = codes "bad-status"
 fault_text TooManyOps = codes "too-many-ops"
@@ -185,15 +190,33 @@ refusal_text SetUpTwice = codes "set-up-twice"
 refusal_text (SetUpTaken holder) = codes "set-up-taken holder=" ++ decimal holder.0
 refusal_text (ValueSetUp op) = codes "value-set-up op=" ++ decimal op
 
+-- the number of a refusal by a horizon
+abbrev pub horizon_code : HorizonRefusal → ℕ
+horizon_code (StartForgotten horizon) = 22
+horizon_code (Settled horizon) = 23
+horizon_code (SetUpLate horizon) = 24
+horizon_code (HorizonBack horizon) = 25
+horizon_code (DoubtBefore holder) = 26
+
+-- the reason word of a refusal by a horizon, and its details
+abbrev pub horizon_text : HorizonRefusal → List ℕ
+horizon_text (StartForgotten horizon) = codes "start-forgotten horizon=" ++ decimal horizon.0
+horizon_text (Settled horizon) = codes "settled horizon=" ++ decimal horizon.0
+horizon_text (SetUpLate horizon) = codes "set-up-late horizon=" ++ decimal horizon.0
+horizon_text (HorizonBack horizon) = codes "horizon-back horizon=" ++ decimal horizon.0
+horizon_text (DoubtBefore holder) = codes "doubt-before holder=" ++ decimal holder.0
+
 -- the number of a reason; refused memory has none
 abbrev pub reason_code : Reason → Option ℕ
 reason_code (Malformed fault) = fault_code fault
 reason_code (Refused refusal) = Some (refusal_code refusal)
+reason_code (Horizon refusal) = Some (horizon_code refusal)
 
 -- the reason word, and its details
 abbrev pub reason_text : Reason → List ℕ
 reason_text (Malformed fault) = fault_text fault
 reason_text (Refused refusal) = refusal_text refusal
+reason_text (Horizon refusal) = horizon_text refusal
 
 -- the number, where there is one
 abbrev pub code_text : Option ℕ → List ℕ
@@ -319,6 +342,40 @@ few_lines e c =
     ++ few_line (few_label (codes "intermediate")) c.intermediate.places e.intermediate ++ few_line (few_label (codes "future")) c.future.places e.future
     ++ few_line (few_label (codes "stale")) c.stale.places e.stale ++ few_line (few_label (codes "overlap")) c.overlap.places e.overlap
 
+-- ---- what is forgotten
+
+-- the lines of a finding that is told as final
+abbrev pub final_lines : Bool → Finding → List ℕ
+final_lines explain f = codes "final " ++ finding_lines explain f
+
+-- the line of the stamp below which all is forgotten, how many transactions are, and how many findings were told as final
+abbrev pub forgot_text : Stamp → ℕ → ℕ → List ℕ
+forgot_text before transactions findings =
+    codes "forgot before=" ++ decimal before.0 ++ codes " transactions=" ++ decimal transactions ++ codes " findings=" ++ decimal findings ++ line_end
+
+-- that line, if something is forgotten
+abbrev pub forgot_lines : Option Forgot → List ℕ
+forgot_lines None = []
+forgot_lines (Some g) = forgot_text g.before g.transactions g.findings
+
+-- so many transactions that are present, and those that are forgotten
+abbrev pub transactions_with : Option Forgot → ℕ → ℕ
+transactions_with None n = n
+transactions_with (Some g) n = g.transactions + n
+
+-- so many findings, and those that were told as final
+abbrev pub findings_with : Option Forgot → ℕ → ℕ
+findings_with None n = n
+findings_with (Some g) n = g.findings + n
+
+-- a violation where one was told as final, or where the verdict over what is present is one; else open where a finding was told as
+-- final, or where that verdict is open; else clean
+abbrev pub verdict_with : Option Forgot → Verdict → Verdict
+verdict_with None verdict = verdict
+verdict_with (Some g) Violation = Violation
+verdict_with (Some g) Open = if nat_lt 0 g.violations then Violation else Open
+verdict_with (Some g) Clean = if nat_lt 0 g.violations then Violation else (if nat_lt 0 g.findings then Open else Clean)
+
 -- ---- the last report
 
 -- whether something is asked of what could have been found
@@ -350,3 +407,11 @@ abbrev pub last_report_text : Bool → ℕ → List Finding → Ending → ℕ �
 last_report_text explain transactions findings e refused =
     flat_map (finding_lines explain) findings
     ++ (lines_asked e.asked (shortage_lines e.shortage) e.chances ++ summary_text transactions (length findings) refused (verdict_of findings))
+
+-- the same over a history of which a part is forgotten: its line stands right behind the findings, and the summary counts it and judges it
+abbrev pub report_with_text : Bool → Option Forgot → ℕ → List Finding → Ending → ℕ → List ℕ
+report_with_text explain forgot transactions findings e refused =
+    flat_map (finding_lines explain) findings
+    ++ (forgot_lines forgot
+    ++ (lines_asked e.asked (shortage_lines e.shortage) e.chances
+    ++ summary_text (transactions_with forgot transactions) (findings_with forgot (length findings)) refused (verdict_with forgot (verdict_of findings))))

@@ -3,6 +3,7 @@
 ghost use Rattle.std.specs.Prelude.{◌≡◌};
 ghost use Rattle.si_text.specs.Faults.{field_name, fault_code};
 
+use si_model::Stamp;
 use std::alloc::{AllocError, AllocFailed};
 use thiserror::Error;
 
@@ -16,6 +17,7 @@ pub enum Field {
     Ops,
     Key,
     Value,
+    Before,
 }
 
 impl Field {
@@ -31,6 +33,7 @@ impl Field {
             Field::Ops => "ops",
             Field::Key => "key",
             Field::Value => "value",
+            Field::Before => "before",
         }
     }
 }
@@ -47,9 +50,13 @@ pub enum LineFault {
     /// The value is no object.
     #[error("the value is no object")]
     NotObject,
-    /// The member `do` is missing or isn't one of the four words.
+    /// The member `do` is missing or isn't one of the five words.
     #[error("the kind of the line isn't known")]
     BadKind,
+    /// It asks to forget what lies below a stamp: the one that its member `before` is, where that is a number. It is no edit. Who doesn't
+    /// take horizons refuses it as a line of a kind that isn't known.
+    #[error("the kind of the line isn't known")]
+    Forget(Option<Stamp>),
     /// The first member that is missing or of another kind.
     #[error("a member is missing or of another kind")]
     BadField(Field),
@@ -76,7 +83,7 @@ impl LineFault {
             LineFault::TooLong => Some(1),
             LineFault::NotJson => Some(2),
             LineFault::NotObject => Some(3),
-            LineFault::BadKind => Some(4),
+            LineFault::BadKind | LineFault::Forget(_) => Some(4),
             LineFault::BadField(_) => Some(5),
             LineFault::BadStatus => Some(6),
             LineFault::TooManyOps => Some(7),

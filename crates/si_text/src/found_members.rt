@@ -79,7 +79,7 @@ impl StatusWord {
     }
 }
 
-/// The field of this name.
+/// The field of this name, where an edit has it.
 pub(crate) fn field_of(name: &str) -> Option<Field>
     ensures { IfSome result (λ field. name.now ≡ field_name field) }
 {

@@ -18,7 +18,9 @@ pub mod endings;
 pub mod evidence_lines;
 pub mod explaining;
 pub mod faults;
+pub mod forgetting;
 mod found_members;
+pub mod horizon_refusals;
 mod json_members;
 mod json_operations;
 pub mod known_keys;
@@ -44,8 +46,14 @@ pub use endings::{Asked, Ending, ExpectedPlaces};
 pub use evidence_lines::read_evidence;
 pub use explaining::{print_evidence, print_failure};
 pub use faults::{Field, LineFault};
+pub use forgetting::{
+    Forgot, findings_with, print_finals, print_forgot, transactions_with, verdict_with,
+};
+pub use horizon_refusals::HorizonRefusal;
 pub use known_keys::KnownKeys;
-pub use printing::{print_finding, print_last_report, print_refusal, print_report, print_summary};
+pub use printing::{
+    print_finding, print_last_report, print_refusal, print_report, print_report_with, print_summary,
+};
 pub use read_edits::read_edit;
 pub use read_items::{LineItem, item_of, split_line};
 pub use read_lines::{InputFault, LineBuffer};

@@ -1,14 +1,15 @@
 //! Findings, refusals and reports as text. Each call appends to the caller's bytes, and cuts them back where memory is refused.
 
-ghost use Rattle.std.specs.Prelude.{◌≡◌, ◌++◌, decimal, codes, length, OnOk, OnErr, IfOk};
+ghost use Rattle.std.specs.Prelude.{◌≡◌, ◌<◌, ◌^◌, ◌++◌, decimal, codes, length, OnOk, OnErr, IfOk};
 ghost use Rattle.std.specs.List.{flat_map, list_all};
 ghost use Rattle.si_text.specs.Printing.{Appends, is_plain};
-ghost use Rattle.si_text.specs.Texts.{code_text, fault_text, finding_lines, finding_text, key_text, kind_text, own_text, read_text, reading_text, reason_text, refusal_text, refused_text, last_report_text, report_text, summary_text, verdict_of};
+ghost use Rattle.si_text.specs.Texts.{code_text, fault_text, finding_lines, finding_text, findings_with, forgot_lines, horizon_text, key_text, kind_text, lines_asked, own_text, read_text, reading_text, reason_text, refusal_text, refused_text, last_report_text, report_text, report_with_text, shortage_lines, summary_text, transactions_with, verdict_of, verdict_with};
 
 use crate::appending::{put, put_number, whole_or_none};
 use crate::endings::put_ending;
 use crate::explaining::put_explanation;
-use crate::{Ending, LineFault, Reason, Verdict};
+use crate::forgetting::{findings_with, put_forgot, transactions_with, verdict_with};
+use crate::{Ending, Forgot, HorizonRefusal, LineFault, Reason, Verdict};
 use serde_json::Value;
 use si_model::{Finding, Key, Kind, OutOfMemory, Refusal, TxnId};
 use std::alloc::Global;
@@ -62,10 +63,8 @@ pub fn print_report(
         (out.new.items ≡ out.old.items ++ report_text explain transactions found.now refused) }
     ensures err { OnErr result (out.new.items ≡ out.old.items) }
 {
-    let before = out.len();
     let nothing = Ending::nothing();
-    let appended = put_report(alloc, out, transactions, found, refused, explain, &nothing);
-    whole_or_none(out, before, appended)
+    print_last_report(alloc, out, transactions, found, refused, explain, &nothing)
 }
 
 /// Appends a report as [`print_report`] does, with what could have been found, where it is asked for, and what the run is short of, if it is
@@ -84,8 +83,49 @@ pub fn print_last_report(
         (out.new.items ≡ out.old.items ++ last_report_text explain transactions found.now ending.now refused) }
     ensures err { OnErr result (out.new.items ≡ out.old.items) }
 {
+    let forgot = None;
+    print_report_with(
+        alloc,
+        out,
+        &forgot,
+        transactions,
+        found,
+        refused,
+        explain,
+        ending,
+    )
+}
+
+/// Appends a report as [`print_last_report`] does, over a history of which a part is forgotten: what is forgotten stands right behind the
+/// findings, and the summary counts and judges what is present and what is forgotten. The answer is the verdict that it tells.
+pub fn print_report_with(
+    alloc: Global,
+    out: &mut Vec<u8>,
+    forgot: &Option<Forgot>,
+    transactions: usize,
+    found: &[Finding],
+    refused: u64,
+    explain: bool,
+    ending: &Ending,
+) -> Result<Verdict, OutOfMemory>
+    requires transactions { transactions_with forgot.now transactions < 2 ^ 64 }
+    requires findings { findings_with forgot.now (length found.now) < 2 ^ 64 }
+    ensures verdict { IfOk result (λ verdict. verdict ≡ verdict_with forgot.now (verdict_of found.now)) }
+    ensures ok { OnOk result
+        (out.new.items ≡ out.old.items ++ report_with_text explain forgot.now transactions found.now ending.now refused) }
+    ensures err { OnErr result (out.new.items ≡ out.old.items) }
+{
     let before = out.len();
-    let appended = put_report(alloc, out, transactions, found, refused, explain, ending);
+    let appended = put_report(
+        alloc,
+        out,
+        forgot,
+        transactions,
+        found,
+        refused,
+        explain,
+        ending,
+    );
     whole_or_none(out, before, appended)
 }
 
@@ -319,6 +359,7 @@ fn put_reason(out: &mut Vec<u8>, reason: &Reason) -> Result<(), OutOfMemory>
     match reason {
         Reason::Malformed(fault) => put_fault(out, fault),
         Reason::Refused(refusal) => put_refusal(out, refusal),
+        Reason::Horizon(refusal) => put_horizon(out, refusal),
     }
 }
 
@@ -329,7 +370,7 @@ fn put_fault(out: &mut Vec<u8>, fault: &LineFault) -> Result<(), OutOfMemory>
         LineFault::TooLong => put(out, "too-long"),
         LineFault::NotJson => put(out, "not-json"),
         LineFault::NotObject => put(out, "not-object"),
-        LineFault::BadKind => put(out, "bad-kind"),
+        LineFault::BadKind | LineFault::Forget(_) => put(out, "bad-kind"),
         LineFault::BadField(field) => {
             put(out, "bad-field field=")?;
             put(out, field.name())
@@ -363,6 +404,24 @@ fn put_refusal(out: &mut Vec<u8>, refusal: &Refusal) -> Result<(), OutOfMemory>
     }
 }
 
+fn put_horizon(out: &mut Vec<u8>, refusal: &HorizonRefusal) -> Result<(), OutOfMemory>
+    ensures { Appends result out.old.items out.new.items (horizon_text refusal.now) }
+{
+    match *refusal {
+        HorizonRefusal::StartForgotten { horizon } => {
+            put_number(out, "start-forgotten horizon=", horizon.0)
+        }
+        HorizonRefusal::Settled { horizon } => put_number(out, "settled horizon=", horizon.0),
+        HorizonRefusal::SetUpLate { horizon } => put_number(out, "set-up-late horizon=", horizon.0),
+        HorizonRefusal::HorizonBack { horizon } => {
+            put_number(out, "horizon-back horizon=", horizon.0)
+        }
+        HorizonRefusal::DoubtBefore { holder } => {
+            put_number(out, "doubt-before holder=", holder.0)
+        }
+    }
+}
+
 /// Appends a number behind its label, and who holds what is taken.
 fn put_held(out: &mut Vec<u8>, label: &str, number: u64, holder: TxnId) -> Result<(), OutOfMemory>
     ensures { Appends result out.old.items out.new.items
@@ -377,21 +436,55 @@ fn put_held(out: &mut Vec<u8>, label: &str, number: u64, holder: TxnId) -> Resul
 fn put_report(
     alloc: Global,
     out: &mut Vec<u8>,
+    forgot: &Option<Forgot>,
     transactions: usize,
     found: &[Finding],
     refused: u64,
     explain: bool,
     ending: &Ending,
 ) -> Result<Verdict, OutOfMemory>
-    ensures verdict { IfOk result (λ verdict. verdict ≡ verdict_of found.now) }
+    requires transactions { transactions_with forgot.now transactions < 2 ^ 64 }
+    requires findings { findings_with forgot.now (length found.now) < 2 ^ 64 }
+    ensures verdict { IfOk result (λ verdict. verdict ≡ verdict_with forgot.now (verdict_of found.now)) }
     ensures text { Appends result out.old.items out.new.items
-        (last_report_text explain transactions found.now ending.now refused) }
+        (report_with_text explain forgot.now transactions found.now ending.now refused) }
 {
-    let verdict = Verdict::of(found);
+    let verdict = verdict_with(forgot, Verdict::of(found));
     put_findings(alloc, out, found, explain)?;
-    put_ending(out, ending)?;
-    put_summary(out, transactions, found.len(), refused, verdict)?;
+    put_behind(
+        out,
+        forgot,
+        transactions,
+        found.len(),
+        refused,
+        ending,
+        verdict,
+    )?;
     Ok(verdict)
+}
+
+/// Appends what stands behind the findings: what is forgotten, the ending, and the summary, which counts what is forgotten too.
+fn put_behind(
+    out: &mut Vec<u8>,
+    forgot: &Option<Forgot>,
+    transactions: usize,
+    findings: usize,
+    refused: u64,
+    ending: &Ending,
+    verdict: Verdict,
+) -> Result<(), OutOfMemory>
+    requires transactions { transactions_with forgot.now transactions < 2 ^ 64 }
+    requires findings { findings_with forgot.now findings < 2 ^ 64 }
+    ensures { Appends result out.old.items out.new.items
+        (forgot_lines forgot.now
+        ++ (lines_asked ending.now.asked (shortage_lines ending.now.shortage) ending.now.chances
+        ++ summary_text (transactions_with forgot.now transactions) (findings_with forgot.now findings) refused verdict)) }
+{
+    let transactions = transactions_with(forgot, transactions);
+    let findings = findings_with(forgot, findings);
+    put_forgot(out, forgot)?;
+    put_ending(out, ending)?;
+    put_summary(out, transactions, findings, refused, verdict)
 }
 
 fn put_findings(

@@ -2,7 +2,7 @@
 
 ghost use Rattle.std.specs.Prelude.{◌≡◌, ◌≢◌, IfOk, IfErr};
 ghost use Rattle.serde_json.specs.View.{view};
-ghost use Rattle.si_text.specs.Lines.{Gives, value_of, object_edit, arrival_of, resolution_of, withdrawal_of, set_up_of, edit_of};
+ghost use Rattle.si_text.specs.Lines.{Gives, value_of, object_edit, arrival_of, resolution_of, withdrawal_of, set_up_of, before_in, edit_of};
 
 use crate::json_members::{number_at, outcome_of, status_at};
 use crate::json_operations::ops_of;
@@ -91,6 +91,9 @@ fn object_edit(alloc: Global, keys: &mut KnownKeys, value: &Value) -> Result<Edi
     if word == "setup" {
         return set_up_of(keys, value);
     }
+    if word == "forget" {
+        return Err(LineFault::Forget(before_in(value)));
+    }
     Err(LineFault::BadKind)
 }
 
@@ -153,4 +156,14 @@ fn set_up_of(keys: &mut KnownKeys, value: &Value) -> Result<Edit, LineFault>
     let number = number_at(value, Field::Value)?;
     let key = keys.key(text)?;
     Ok(Edit::SetUp(key, si_model::Value(number)))
+}
+
+/// The stamp below which a line asks to forget, where its member is a number.
+fn before_in(value: &Value) -> Option<Stamp>
+    ensures { result ≡ before_in (view value.now) }
+{
+    value
+        .get(Field::Before.name())
+        .and_then(Value::as_u64)
+        .map(Stamp)
 }

@@ -1,9 +1,9 @@
-//! Why a line changed nothing: it isn't an edit, or the edit was refused. Both have their numbers in one row.
+//! Why a line changed nothing: it isn't an edit, or the edit was refused, or a horizon is against it. All have their numbers in one row.
 
 ghost use Rattle.std.specs.Prelude.{◌≡◌};
 ghost use Rattle.si_text.specs.Texts.{reason_code, refusal_code};
 
-use crate::LineFault;
+use crate::{HorizonRefusal, LineFault};
 use si_model::Refusal;
 
 /// Why an item is refused.
@@ -13,6 +13,8 @@ pub enum Reason {
     Malformed(LineFault),
     /// Its edit isn't accepted.
     Refused(Refusal),
+    /// A horizon is against it.
+    Horizon(HorizonRefusal),
 }
 
 impl Reason {
@@ -23,6 +25,7 @@ impl Reason {
         match self {
             Reason::Malformed(fault) => fault.code(),
             Reason::Refused(refusal) => Some(refusal_code(refusal)),
+            Reason::Horizon(refusal) => Some(refusal.code()),
         }
     }
 }
@@ -44,6 +47,16 @@ impl From<Refusal> for Reason {
 
     fn from(refusal: Refusal) -> Reason {
         Reason::Refused(refusal)
+    }
+}
+
+impl From<HorizonRefusal> for Reason {
+    ghost use Rattle.si_text.specs.declared.reasons.Reason.TheVariants.{Horizon};
+
+    ghost from_gives = { λ refusal reason. reason ≡ Horizon refusal };
+
+    fn from(refusal: HorizonRefusal) -> Reason {
+        Reason::Horizon(refusal)
     }
 }
 

@@ -96,6 +96,7 @@ fn take_member(
         Field::Ops => Some(Member::Ops(take_ops(alloc, keys, ops, reader)?)),
         Field::Key => Some(Member::Key(take_key(keys, reader)?)),
         Field::Value => Some(Member::Value(take_number(reader)?)),
+        Field::Before => None,
     }
 }
 

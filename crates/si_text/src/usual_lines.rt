@@ -99,6 +99,7 @@ fn take_member(
             Some(Member::Key(key))
         }
         Field::Value => Some(Member::Value(rest.number()?)),
+        Field::Before => None,
     }
 }
 

@@ -15,8 +15,9 @@ SHORT = 20  # letters of a key that stay on one line
 class Story:
     """All that a page tells: the sources, what is present, the answer, and how they are shown."""
 
-    def __init__(self, sources, history, keys, answer, groups):
+    def __init__(self, sources, history, keys, answer, groups, shown):
         self.sources, self.history, self.keys, self.answer, self.groups = sources, history, keys, answer, groups
+        self.shown, self.finals = shown, set(answer.finals)
         self.key_numbers = {}
         for group in groups:
             self.key_numbers.setdefault(group.key, len(self.key_numbers))
@@ -157,21 +158,38 @@ def evidence_part(story, finding):
         "p", element("code", text_of(line)), text_of(f": {words}"), class_="evidence-text")
 
 
-def card(story, finding):
-    """The whole finding, with its address."""
+def kind_words(story, finding):
+    """The kind, and whether it is final."""
+    return KINDS[finding.kind] + (" (final)" if finding in story.finals else "")
+
+
+def told_part(story, finding):
+    """How a finding was told, where that isn't all: at a horizon, or beside less than the log holds."""
+    parts = []
+    if finding in story.finals:
+        parts.append(element("p", "Final: it was told at a horizon, and stands for good.", class_="told"))
+    if finding in story.shown:
+        parts.append(element("p", text_of(f"The checker told it as {KINDS[finding.kind]}, since it had forgotten, or hadn't read yet, what the log "
+                                          "holds. By the whole log it is "), data(story.shown[finding].text()), ".", class_="told"))
+    return parts
+
+
+def card(story, told):
+    """The whole finding, with its address. It is drawn as the log shows it."""
+    finding = story.shown.get(told, told)
     keys = story.keys[finding.key]
-    name = address(finding)
+    name = address(told)
     picture = picture_of(finding, story.history, keys, story.ghosts_by_value)
-    told = sentence(finding, story.history, keys)
-    before, after = told.split("{key}", 1)
-    head = element("h4", element("a", text_of(KINDS[finding.kind]), href="#" + name), text_of(" of "), key_code(finding.key),
-                   text_of(": " + heading(finding)))
-    drawing = draw_picture(picture, told.replace("{key}", "the key"))
+    words = sentence(finding, story.history, keys)
+    before, after = words.split("{key}", 1)
+    head = element("h4", element("a", text_of(kind_words(story, told)), href="#" + name), text_of(" of "), key_code(told.key),
+                   text_of(": " + heading(told)))
+    drawing = draw_picture(picture, words.replace("{key}", "the key"))
     aside = element("div", element("h5", "In the database"), element("p", text_of(advice(finding))),
                     element("h5", "Evidence"), evidence_part(story, finding), class_="aside")
     return element(
-        "article", head,
+        "article", head, *told_part(story, told),
         element("p", text_of(before), key_code(finding.key), text_of(after), class_="sentence"),
         element("div", scrolled(drawing, f"Picture of {name}"), aside, class_="beside"),
         transactions_table(story, finding, picture), lines_part(story, finding),
-        id=name, class_="finding", data_kind=KINDS[finding.kind], data_key=story.key_numbers[finding.key])
+        id=name, class_="finding", data_kind=KINDS[told.kind], data_key=story.key_numbers[told.key])

@@ -18,9 +18,9 @@ class Group:
 
 
 def groups_of(answer):
-    """The groups by kind and key, in the order of the answer."""
+    """The groups by kind and key, in the order of the answer, what is final first."""
     groups = {}
-    for finding, line in zip(answer.findings, answer.lines):
+    for finding, line in zip(answer.all_findings(), [*answer.final_lines, *answer.lines]):
         name = finding.kind, finding.key
         if name not in groups:
             groups[name] = Group(*name)

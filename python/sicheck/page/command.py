@@ -65,13 +65,13 @@ def page_of(chosen):
         sources = [opened.enter_context(closing(Source(name))) for name in chosen.logs]
         try:
             history = history_of(sources, answer.refusals)
-            keys = fitted_keys(history, answer)
+            keys, shown = fitted_keys(history, answer)
         except Misfit as misfit:
             complain(f"answer and log don't belong together: {misfit}")
             return misfit_page(str(misfit), chosen.logs), 1
         groups = groups_of(answer)
         choose([group for group in groups if is_asked(group, chosen)], chosen.each, chosen.most)
-        return findings_page(Story(sources, history, keys, answer, groups), limits_of(chosen)), 0
+        return findings_page(Story(sources, history, keys, answer, groups, shown), limits_of(chosen)), 0
 
 
 def is_asked(group, chosen):

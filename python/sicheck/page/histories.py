@@ -6,11 +6,12 @@ source: there all orders are followed in which each line may be accepted, and wh
 import io
 from typing import NamedTuple, Optional
 
-from ..log_lines import COMMITTED, IN_DOUBT, Arrival, LineFault, Place, Resolution, SetUp, Withdrawal, edit_of, is_blank
+from ..log_lines import (BAD_KIND, COMMITTED, IN_DOUBT, Arrival, Forget, LineFault, Place, Resolution, SetUp, Withdrawal, edit_of,
+                         is_blank)
 
 MOST_ORDERS = 20_000
-ARRIVAL_CODES, RESOLUTION_CODES = {11, 12, 15, 16, 17, 18, 21}, {11, 13, 14, 15, 16}
-CODES = {Arrival: ARRIVAL_CODES, Resolution: RESOLUTION_CODES, Withdrawal: {11, 13}, SetUp: {11, 19, 20}}
+ARRIVAL_CODES, RESOLUTION_CODES = {11, 12, 15, 16, 17, 18, 21, 22}, {11, 13, 14, 15, 16}
+CODES = {Arrival: ARRIVAL_CODES, Resolution: RESOLUTION_CODES, Withdrawal: {11, 13, 23}, SetUp: {11, 19, 20, 24}, Forget: {11, 25, 26}}
 
 
 class Misfit(Exception):
@@ -50,10 +51,12 @@ class RefusedLine(NamedTuple):
 
 
 class History:
-    """The records by their ids, the set-ups by their keys, and what isn't present: ghosts and refused lines."""
+    """The records by their ids, the set-ups by their keys, and what isn't present: ghosts and refused lines. What the horizons let the checker
+    forget is there all the same."""
 
     def __init__(self):
         self.records, self.set_ups = {}, {}
+        self.horizons = []
         self.ghosts, self.refused = [], []
         self.lines = 0
 
@@ -94,7 +97,8 @@ class Source:
 def checked_edit(line, place, keys, refusal):
     """The edit of the line, or None where it is none; the refusal has to be one that such a line may have."""
     try:
-        edit = edit_of(line, place, keys)
+        # (without the option a line that asks to forget is refused, as of no kind)
+        edit = edit_of(line, place, keys, refusal is None or refusal.code != BAD_KIND)
     except LineFault as fault:
         if refusal is None or refusal.code != fault.code:
             told = f"refuses it with code {refusal.code}" if refusal else "doesn't refuse it"
@@ -124,6 +128,8 @@ def edits_of(sources, refusals, history):
                 history.refused.append(RefusedLine(refusal, edit))
             elif type(edit) is SetUp:
                 add_set_up(history, edit, source)
+            elif type(edit) is Forget:
+                history.horizons.append(edit)
             else:
                 by_id.setdefault(edit.id, {}).setdefault(number, []).append(edit)
     if seen != len(refusals):

@@ -3,13 +3,13 @@ import re
 from pathlib import Path
 
 from ..answers import KINDS
-from .cards import card, digits, ghost_became, heading, key_code
+from .cards import card, digits, ghost_became, heading, key_code, kind_words
 from .choosing import address
 from .drawing import SHARED, draw_steps
 from ..log_lines import ABORTED, COMMITTED, IN_DOUBT
 from .markup import data, element, scrolled, table, text_of
 from .strips import column_words, columns_of, draw_strip, stamp_of
-from .wording import CHANCES, MEANINGS, REASONS, few_words, key_shown, shortage_words, step_words
+from .wording import CHANCES, MEANINGS, REASONS, few_words, forgot_words, key_shown, shortage_words, step_words
 
 MOST_KEYS, MOST_ROWS, MOST_OPEN, MOST_CIRCUITS, MOST_STEPS = 10, 100, 60, 10, 20
 OPTION = re.compile(r"\(?--\w+[,.)]*")
@@ -44,6 +44,8 @@ def verdict_part(story):
         lines.append(element("p", text_of(shortage_words(ending.shortage)), class_="warning"))
     if ending.few:
         lines.append(element("p", text_of(few_words(ending.few)), class_="warning"))
+    if story.answer.forgot:
+        lines.append(element("p", text_of(forgot_words(story.answer.forgot))))
     if not summary.transactions:
         lines.append(element("p", "The log has no transactions: see whether it is the one that was meant.", class_="warning"))
     head = element("h1", "Snapshot isolation: ", element("span", word, class_=f"verdict {word}"))
@@ -83,7 +85,7 @@ def chances_part(story):
         note = "At so many places a likely fault of the database would have been found. Where there is none of a kind, a log without findings says " \
                "little of it. A log in commit order has none of intermediate and future, and aborted and overlap mean nothing there."
         return section(title, element("p", text_of(note)), table(title, ["Kind", "Places", "Keys", "A place is"], rows, class_="wide"))
-    if story.answer.findings or story.answer.ending.few:
+    if story.answer.all_findings() or story.answer.ending.few:
         return ""
     note = "The answer was made without --chances, so it doesn't tell at how many places a fault of the database would have been found."
     return section(title, element("p", with_whole_options(note)))
@@ -134,7 +136,8 @@ def log_part(story):
     history, place = story.history, story.place
     records = history.records.values()
     statuses = [sum(record.status == status for record in records) for status in (COMMITTED, ABORTED, IN_DOUBT)]
-    present = "Present are {:,} committed, {:,} rolled back and {:,} in doubt.".format(*statuses)
+    present = "{} {:,} committed, {:,} rolled back and {:,} in doubt.".format(
+        "Present or forgotten are" if history.horizons else "Present are", *statuses)
     transaction = ["Transaction", "Logged at", "Became"]
     return section(
         "What the log holds", element("p", text_of(f"{many(history.lines, 'line')} that aren't blank. {present}")),
@@ -152,6 +155,8 @@ def log_part(story):
         bounded("Set-up values: what stood before the run", ["Key", "Value", "Logged at"],
                 [lambda one=one: [key_code(one.key), text_of(one.value), text_of(place(one.place))]
                  for one in history.set_ups.values()]),
+        bounded("Horizons: what lies below the stamp may be forgotten", ["Below", "Logged at"],
+                [lambda one=one: [text_of(one.before), text_of(place(one.place))] for one in history.horizons]),
         unsure_part(story))
 
 
@@ -181,7 +186,7 @@ def drawn_of(story):
 def list_part(story):
     """The drawn findings as a list with links."""
     drawn = drawn_of(story)
-    rows = [[link(finding, text_of(KINDS[finding.kind])), key_code(finding.key), digits(heading(finding)),
+    rows = [[link(finding, text_of(kind_words(story, finding))), key_code(finding.key), digits(heading(finding)),
              digits(stamp_of(finding, story.history))] for _, finding in drawn]
     return element("details", element("summary", text_of(f"The drawn findings as a list: {len(drawn):,}")),
                    table("Drawn findings", ["Kind", "Key", "Of", "At commit stamp"], rows),
@@ -233,7 +238,7 @@ def with_whole_options(text):
 
 
 def findings_part(story, limits):
-    drawn, found = len(drawn_of(story)), len(story.answer.findings)
+    drawn, found = len(drawn_of(story)), len(story.answer.all_findings())
     note = "All findings are drawn." if drawn == found else (
         f"{drawn:,} of {found:,} findings are drawn, {found - drawn:,} are left out: {limits}")
     kinds = {}

@@ -55,6 +55,11 @@ REASONS = {
     19: "the key is set up already",
     20: "a transaction writes that value to the key",
     21: "the key was set up with a value that the transaction writes",
+    22: "the transaction starts below the horizon",
+    23: "the transaction is settled, since a horizon came behind it",
+    24: "a set-up value comes behind a horizon",
+    25: "the horizon is before another one",
+    26: "a transaction in doubt started below the horizon",
 }
 
 MOST_MARKS = 2  # on one letter
@@ -219,6 +224,12 @@ CHANCES = {
     STALE: "a version that another committed transaction read",
     OVERLAP: "a writer of the key that was rolled back, where a version of it was committed after its start",
 }
+
+
+def forgot_words(forgot):
+    """What the horizons let the checker forget."""
+    return (f"What lies below the stamp {forgot.before} is forgotten; transactions that are gone: {forgot.transactions:,}. Findings that were told "
+            f"at a horizon, and are final: {forgot.findings:,}. The log holds all of it still, and the page draws from the log.")
 
 
 def few_words(few):

@@ -1,6 +1,7 @@
 """The package against the program: clients by chance over a small database, healthy and faulty, and a client that is killed."""
 import json
 import os
+import random
 import signal
 import sqlite3
 import subprocess
@@ -9,13 +10,21 @@ import tempfile
 import threading
 import time
 import unittest
+from contextlib import closing
 from pathlib import Path
 
 import sicheck
 from sicheck import CheckFailed, FilePlace, Violation
+from sicheck.answers import answer_of
+from sicheck.page.fitting import fitted_keys
+from sicheck.page.histories import Misfit, Source, history_of
+from sicheck.places import object_in
+from sicheck.reports import last_report_in
 from small_database import Database, Logs, logs_in, run_client, run_clients
 
 TOP = Path(__file__).resolve().parents[3]
+sys.path.insert(0, str(TOP / "tests" / "outside"))
+import drawing  # noqa: E402 (it stands beside the other checker)
 
 
 class FolderTest(unittest.TestCase):
@@ -34,7 +43,7 @@ class FolderTest(unittest.TestCase):
 
     def write(self, name, text):
         path = os.path.join(self.folder, name)
-        Path(path).write_text(text, encoding="utf-8")
+        Path(path).write_text(text, encoding="utf-8", errors="surrogateescape")
         return path
 
 
@@ -124,6 +133,73 @@ class Checks(FolderTest):
             self.assertEqual(sicheck.check("--every", program=TOP / "sicheck").transactions, 0)
         finally:
             os.chdir(before)
+
+
+class Horizons(FolderTest):
+    """2 overlaps 1, and both are gone below 8; then 3 reads what 1 wrote, which nobody has any more."""
+
+    LINES = [{"do": "txn", "id": 1, "start": 2, "status": "committed", "commit": 3, "ops": [["w", "x", 1]]},
+             {"do": "txn", "id": 2, "start": 2, "status": "committed", "commit": 5, "ops": [["w", "x", 2]]}, {"do": "forget", "before": 8},
+             {"do": "txn", "id": 3, "start": 8, "status": "committed", "commit": 8, "ops": [["r", "x", 1]]}]
+    LOST, UNKNOWN = 'overlap key="x" first=1 second=2', 'unknown key="x" txn=3 op=0 read=1'
+
+    def test_report(self):
+        report = sicheck.check(lines=self.LINES, horizons=True, explain=True, expect=4)
+        self.assertEqual([str(it) for it in report.finals], [self.LOST])
+        self.assertEqual([str(it) for it in report.findings], [self.UNKNOWN])
+        self.assertEqual((report.finals[0].evidence, report.finals[0].is_final, report.findings[0].is_final), ("G-SI(a) 1-ww->2", True, False))
+        self.assertEqual(report.forgot, sicheck.Forgot(8, 2, 1))
+        self.assertEqual((report.transactions, report.found, report.status, report.short), (3, 2, 20, sicheck.Short(3, 4, 0, ())))
+
+    def test_reports_on_the_way(self):
+        """The lines at the horizon are no report: one comes after each two lines, and one at the end."""
+        for new in (False, True):
+            with self.subTest(new):
+                first, second, last = sicheck.watch(lines=self.LINES, horizons=True, every=2, new=new)
+                self.assertEqual([len(it.finals) for it in (first, second, last)], [0, 1, 1])
+                self.assertEqual([str(it) for it in first.new], [self.LOST])
+                self.assertEqual([str(it) for it in second.new], [] if new else [self.UNKNOWN])
+                self.assertEqual([str(it) for it in last.findings], [self.UNKNOWN])
+                self.assertEqual(((second.gone, second.forgot), (last.gone, last.forgot)), 2 * (((), sicheck.Forgot(8, 2, 1)),))
+
+    def test_drawn_logs(self):
+        """Of logs drawn by chance each answer is read, and is the one of its log, as the page reads that without forgetting. Where an id or a
+        pair comes again after it is forgotten, the page reads another log."""
+        read = finals = 0
+        for seed in range(100):
+            chance = random.Random(seed)
+            log = self.write("log", b"".join(line.rstrip(b"\n") + b"\n" for line in drawing.draw(chance, True)).decode("utf-8", "surrogateescape"))
+            words = chance.choice([[], ["--explain"], ["--every", "2"], ["--every", "3", "--new"]])
+            done = subprocess.run([sicheck.program_path(), "check", "--horizons", *words, log], stdout=subprocess.PIPE, check=False)
+            last = last_report_in(done.stdout.splitlines(keepends=True))
+            self.assertEqual((last.status, last.found), (done.returncode, len(last.all_findings)), seed)
+            answer = answer_of(done.stdout)
+            self.assertEqual([it.text() for it in answer.all_findings()], [str(it) for it in last.all_findings], seed)
+            with closing(Source(log)) as source:
+                try:
+                    fitted_keys(history_of([source], answer.refusals), answer)
+                except Misfit as misfit:
+                    self.assertTrue(self.comes_again(Path(log).read_bytes(), answer), f"{seed}: {misfit}")
+                    continue
+            read, finals = read + 1, finals + len(answer.finals)
+        self.assertGreater(read, 80)
+        self.assertGreater(finals, 20)
+
+    @staticmethod
+    def comes_again(log, answer):
+        """Whether an id, or a pair of key and value, stands twice in lines that weren't refused."""
+        ids, pairs = [], []
+        for number, line in enumerate(log.split(b"\n"), 1):
+            it = object_in(line) if (0, number) not in answer.refusals else {}
+            ids += [it["id"]] if it.get("do") == "txn" else []
+            pairs += [(key, value) for letter, key, value in it.get("ops", ()) if letter == "w"]
+            pairs += [(it["key"], it["value"])] if it.get("do") == "setup" else []
+        return len(set(ids)) < len(ids) or len(set(pairs)) < len(pairs)
+
+    def test_without_the_option(self):
+        report = sicheck.check(lines=self.LINES)
+        self.assertEqual(([it.reason for it in report.refusals], report.forgot, report.finals), (["bad-kind"], None, ()))
+        self.assertEqual([str(it) for it in report.findings], ['stale key="x" txn=3 op=0 read=1 missed=2', self.LOST])
 
 
 class Clients(FolderTest):

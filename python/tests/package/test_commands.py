@@ -106,6 +106,24 @@ class Commands(unittest.TestCase):
         self.assertLess(sizes[1], 2.5 * sizes[0])
         self.assertLess(times[1], 2.5 * times[0])
 
+    def test_horizons(self):
+        """What became final is told with the report behind it, and counts as the others do; the lines at a horizon are no report."""
+        lost, later = ('overlap key="x" first=%d second=%d\n' % pair for pair in ((1, 2), (3, 4)))
+        forgot = "forgot before=8 transactions=2 findings=1\n"
+        total = "transactions=%d findings=%d refused=0 verdict=violation\n"
+        given = ("final " + lost + "  G-SI(a) 1-ww->2\n" + forgot + total % (2, 1) + forgot + total % (3, 1) + later + "  G-SI(a) 3-ww->4\n" + forgot
+                 + total % (4, 2)).encode()
+        told = [json.loads(line) for line in run("json", given=given).stdout.splitlines()]
+        self.assertEqual([(it["is"], it["report"]) for it in told], [
+            ("final", 1), ("forgot", 1), ("summary", 1), ("finding", 2), ("forgot", 2), ("summary", 2)])
+        self.assertEqual(told[0], {"is": "final", "report": 1, "kind": "overlap", "key": "x", "violation": True, "first": 1, "second": 2,
+                                   "evidence": "G-SI(a) 1-ww->2", "text": lost[:-1]})
+        self.assertEqual(told[1], {"is": "forgot", "report": 1, "before": 8, "transactions": 2, "findings": 1})
+        last = [json.loads(line) for line in run("json", "--last", given=given).stdout.splitlines()]
+        self.assertEqual([(it["is"], it["report"]) for it in last], [("final", 2), ("finding", 2), ("forgot", 2), ("summary", 2)])
+        self.assertEqual(run("count", given=given).stdout.decode(), '2 overlap\n2 overlap "x"\n' + total % (4, 2))
+        self.assertEqual(run("json", given=given[:given.index(b"forgot", given.index(b"refused"))]).returncode, 2)
+
     def test_json_of_what_is_short(self):
         told = run("json", given=b"short committed=1 expected=2 indoubt=1 ids=7\ntransactions=2 findings=0 refused=0 verdict=clean\n")
         self.assertEqual(json.loads(told.stdout.splitlines()[0]), {

@@ -2,13 +2,14 @@
 import io
 import unittest
 
-from sicheck import CheckFailed, FilePlace, Short, Undecided, Violation
+from sicheck import CheckFailed, FilePlace, Forgot, Short, Undecided, Violation
 from sicheck.reports import reports_in
 from sicheck.places import Files
 
 STALE = 'stale key="x" txn=3 op=0 read=1 missed=2\n'
 LOST = 'overlap key="x" first=1 second=2\n'
 DOUBT = 'doubt key="y" txn=3 op=1 read=4 writer=9\n'
+GONE_BELOW = "forgot before={} transactions={} findings={}\n"
 
 
 def summary(transactions, findings, refused, verdict):
@@ -164,6 +165,80 @@ class Faults(unittest.TestCase):
         text = 'overlap key="a\u2028b\x85" first=1 second=2\r\n' + summary(2, 1, 0, "violation").replace("\n", "\r\n")
         report, = read(text)
         self.assertEqual(report.findings[0].key, "a\u2028b\x85")
+
+class Horizons(unittest.TestCase):
+    """What stands at a horizon is no report, and what was told there as final stands for good."""
+
+    def test_final_findings(self):
+        """The overlap of 1 and 2, and a doubt, become final; then 3's read of a value that is gone is unknown, beside a new overlap."""
+        unknown = 'unknown key="x" txn=3 op=0 read=1\n'
+        later = LOST.replace("first=1 second=2", "first=3 second=4")
+        first, second, last = read(LOST + DOUBT + summary(3, 2, 0, "violation") + "final " + LOST + "  G-SI(a) 1-ww->2\n" + "final " + DOUBT
+                                   + GONE_BELOW.format(8, 2, 2) + summary(3, 2, 0, "violation")
+                                   + GONE_BELOW.format(8, 2, 2) + summary(4, 2, 0, "violation")
+                                   + unknown + later + GONE_BELOW.format(8, 2, 2) + summary(5, 4, 0, "violation"))
+        self.assertEqual((first.finals, first.forgot), ((), None))
+        self.assertEqual((texts(second.findings), texts(second.finals), second.forgot), ([], [LOST, DOUBT], Forgot(8, 2, 2)))
+        self.assertEqual([it.evidence for it in second.finals], ["G-SI(a) 1-ww->2", None])
+        self.assertEqual((texts(second.new), texts(second.gone), second.status), ([], [], 20))
+        self.assertEqual((texts(last.findings), texts(last.new), texts(last.finals)), ([unknown, later], [unknown, later], [LOST, DOUBT]))
+        self.assertEqual((last.transactions, last.found, texts(last.violations)), (5, 4, [LOST, later]))
+        self.assertEqual(last.counts(), {"overlap": {"x": 2}, "doubt": {"y": 1}, "unknown": {"x": 1}})
+
+    def test_final_violation_is_the_verdict(self):
+        """Nothing is found in what is present. A doubt that is final leaves the verdict open."""
+        report, = read("final " + STALE + 2 * (GONE_BELOW.format(6, 2, 1) + summary(3, 1, 0, "violation")))
+        self.assertEqual((report.verdict, report.findings, texts(report.violations)), ("violation", (), [STALE]))
+        with self.assertRaisesRegex(Violation, '1 stale in 3 transactions.*\n  final stale key="x" txn=3'):
+            report.assert_passed()
+        report, = read("final " + DOUBT + 2 * (GONE_BELOW.format(6, 2, 1) + summary(3, 1, 0, "open")))
+        with self.assertRaisesRegex(Undecided, '1 doubt in 3 transactions.*\n  final doubt key="y"'):
+            report.assert_passed()
+
+    def test_only_what_is_new(self):
+        """What is final is gone by no report: the stale read stays, and the overlap went with the horizon."""
+        reports = read(STALE + LOST + summary(4, 3, 0, "violation") + "final " + LOST + GONE_BELOW.format(8, 1, 1) + summary(5, 3, 0, "violation")
+                       + GONE_BELOW.format(8, 1, 1) + summary(6, 3, 0, "violation")
+                       + "gone " + STALE + GONE_BELOW.format(8, 1, 1) + summary(6, 2, 0, "violation")
+                       + DOUBT + GONE_BELOW.format(8, 1, 1) + summary(6, 2, 0, "violation"))
+        self.assertEqual([texts(it.findings) for it in reports], [[STALE, LOST], [STALE], [], [DOUBT]])
+        self.assertEqual([texts(it.gone) for it in reports], [[], [], [STALE], []])
+        self.assertEqual([texts(it.finals) for it in reports], [[], [LOST], [LOST], [LOST]])
+
+    def test_horizon_that_comes_again(self):
+        """Its summary counts the doubt, which a report would tell."""
+        again = GONE_BELOW.format(4, 0, 0)
+        first, last = read(again + summary(2, 1, 0, "open") + DOUBT + again + summary(2, 1, 0, "open") + again + summary(3, 2, 0, "violation")
+                           + LOST + DOUBT + again + summary(3, 2, 0, "violation"))
+        self.assertEqual([texts(it.findings) for it in (first, last)], [[DOUBT], [LOST, DOUBT]])
+
+    def test_ending(self):
+        """What was forgotten stands right behind the findings, before what the run is short of."""
+        report, = read(GONE_BELOW.format(8, 1, 0) + summary(2, 0, 0, "clean") + LOST + GONE_BELOW.format(8, 1, 0)
+                       + "short committed=3 expected=4 indoubt=0\n" + summary(3, 1, 0, "violation"))
+        self.assertEqual((report.short, report.forgot), (Short(3, 4, 0, ()), Forgot(8, 1, 0)))
+
+    def test_lines_that_cannot_stand_there(self):
+        at, behind = GONE_BELOW.format(8, 1, 1) + summary(3, 1, 0, "violation"), GONE_BELOW.format(8, 1, 1) + summary(3, 1, 0, "violation")
+        for text, words in (
+                ("final " + LOST + at, "no report at its end"),
+                ("final " + LOST + summary(3, 1, 0, "violation"), "line 2 .* doesn't stand before it"),
+                (at + behind, "counts 1: lines are missing"),
+                ("final " + LOST + "final " + LOST + at + behind, "counts 1: lines are missing"),
+                ("final " + LOST + at + summary(3, 1, 0, "violation"), "line 4 .* doesn't stand before it"),
+                (LOST + "final " + LOST + at + behind, "line 4 .* lines of a report stand before it"),
+                ("final " + LOST + STALE + at + behind, "line 2 .* between what is final"),
+                ("final " + LOST + GONE_BELOW.format(8, 1, 1) + STALE + summary(3, 2, 0, "violation") + behind, "line 3 .* only a summary follows"),
+                ("final " + LOST + 2 * GONE_BELOW.format(8, 1, 1) + summary(3, 1, 0, "violation"), "line 3 .* only a summary follows"),
+                ("final " + LOST + at + behind.replace("before=8", "before=7"), "before another one"),
+                ("final " + LOST + at + behind.replace("transactions=1", "transactions=0"), "before another one"),
+                ("final " + LOST + at.replace("verdict=violation", "verdict=open") + behind, "line 3 .* lines are missing"),
+                ("final " + LOST + at + behind.replace("verdict=violation", "verdict=open"), "lines are missing"),
+                ("final " + LOST + "  G-SI(a) 2-ww->1\n" + at + behind, "isn't the evidence"),
+                ("final hello\n" + at + behind, "line 1 .* is no finding"),
+                ("forgot before=8 transactions=1\n" + at + behind, "line 1 .* none that")):
+            with self.subTest(text), self.assertRaisesRegex(CheckFailed, words):
+                read(text)
 
 
 if __name__ == "__main__":

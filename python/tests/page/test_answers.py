@@ -1,7 +1,7 @@
 """Answers: each line, the last of several reports, and texts that aren't whole."""
 import unittest
 
-from sicheck.answers import WORDS, AnswerFault, Chance, Ending, FewPlaces, Finding, Refusal, Shortage, answer_of, finding_of
+from sicheck.answers import WORDS, AnswerFault, Chance, Ending, FewPlaces, Finding, Forgot, Refusal, Shortage, answer_of, finding_of
 from sicheck.circuits import Step, steps_of
 from sicheck.log_lines import Place
 
@@ -103,6 +103,38 @@ class Answers(unittest.TestCase):
                      "".join(told).replace("keys=1", "keys=0"), few + "transactions=0 findings=0 refused=0 verdict=clean\n"):
             with self.subTest(text), self.assertRaisesRegex(AnswerFault, "aren't whole"):
                 self.answer(text + summary)
+
+    def test_horizons(self):
+        """Of two horizons the second one has nothing final; the last report has what was forgotten behind its findings."""
+        overlap, other = 'overlap key="x" first=1 second=2\n', 'overlap key="x" first=5 second=6\n'
+        at, again = ("forgot before=8 transactions=2 findings=2\n" + SUMMARY.format(count, 0, "violation") for count in (2, 3))
+        answer = self.answer("final " + STALE + "  G-SI(b) 3-rw->2 2-st->3\nfinal " + overlap + "  G-SI(a) 1-ww->2\n" + at
+                             + at.replace("before=8", "before=9") + other + "  G-SI(a) 5-ww->6\n" + again.replace("before=8", "before=9"))
+        self.assertEqual((answer.finals, answer.final_lines), ((Finding(7, "x", 3, 0, 1, 2), Finding(8, "x", 1, 2)), (1, 3)))
+        self.assertEqual((answer.findings, answer.lines, answer.is_explained), ([Finding(8, "x", 5, 6)], [9], True))
+        self.assertEqual(answer.forgot, Forgot(9, 2, 2))
+        one = "final " + STALE + at.replace("findings=2", "findings=1")
+        behind = at.replace("findings=2", "findings=1")
+        short = "short committed=3 expected=4 indoubt=0\n"
+        self.assertEqual(self.answer(one + behind.replace("\n", "\n" + short, 1)).ending.shortage, Shortage(3, 4, 0, []))
+        for text, words in (
+                (one, "no report at its end"),
+                (one + SUMMARY.format(1, 0, "violation"), "line 4 of the answer follows a horizon"),
+                (behind, "follows 0 final findings, and the line before it counts 1"),
+                (one + behind.replace("before=8", "before=7"), "before another one"),
+                (one + STALE + behind.replace("findings=1 refused", "findings=2 refused"), None),
+                (STALE + one + behind, "lines of a report stand before it"),
+                ("final " + STALE + "final " + STALE + at + again, "isn't in its order"),
+                ("final hello\n" + one + behind, "line 1 of the answer is no finding"),
+                (one.replace("forgot", "  G-SI(b) 3-rw->9 9-st->3\nforgot") + behind, "lines of a report stand before it"),
+                (one + behind + short + SUMMARY.format(1, 0, "violation"), "follows a horizon"),
+                (one + behind.replace("violation", "open"), "lines are missing")):
+            with self.subTest(text):
+                if words is None:
+                    self.assertEqual(len(self.answer(text).all_findings()), 2)
+                    continue
+                with self.assertRaisesRegex(AnswerFault, words):
+                    self.answer(text)
 
     def test_faults(self):
         whole = STALE + SUMMARY.format(1, 0, "violation")

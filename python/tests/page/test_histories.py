@@ -134,7 +134,7 @@ class Fitting(PageTest):
     def fitted(self, text):
         answer = answer_of(text.encode("utf-8"))
         history = history_of(self.sources(*self.LOGS), {})
-        return fitted_keys(history, answer), history
+        return fitted_keys(history, answer)[0], history
 
     def test_findings_tell_which_record_is_present(self):
         _, history = self.fitted('future key="x" txn=3 op=0 read=2 writer=1\nstale key="x" txn=2 op=0 read=initial missed=1\n'

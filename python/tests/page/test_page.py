@@ -280,6 +280,45 @@ class Log(PageTest):
         long = "  knot " + ", ".join(f'{own}-wr->{own + 1} key="x"' for own in range(30)) + "\n"
         self.check_says(self.good_page(log, (long * 12) + answer), "10 steps more are left out.")
 
+    def test_horizons(self):
+        """1 and 2 overlap, and are gone below 8. 3 reads what 1 wrote: it is unknown by then, and stale by the whole log."""
+        log = [committed(1, 2, 3, ["w", "x", 64]), committed(2, 2, 5, ["w", "x", 128]), {"do": "forget", "before": 8},
+               committed(3, 8, 8, ["r", "x", 64])]
+        forgot = "forgot before=8 transactions=2 findings=1\n"
+        answer = ('final overlap key="x" first=1 second=2\n' + forgot + SUMMARY.format(2, 1, 0, "violation")
+                  + 'unknown key="x" txn=3 op=0 read=64\n' + forgot + SUMMARY.format(3, 2, 0, "violation"))
+        page = self.good_page(lines(*log), answer)
+        final, unknown = (page.tags().articles[name] for name in ("overlap-x-1-2", "unknown-x-3-0"))
+        self.check_says(page, "What lies below the stamp 8 is forgotten; transactions that are gone: 2.", "and are final: 1.",
+                        "Present or forgotten are 3", "All findings are drawn.")
+        self.assertIn("overlap (final)", final)
+        self.assertIn("Final: it was told at a horizon, and stands for good.", final)
+        self.assertIn("2 didn't see what it overwrote", final)
+        self.assertNotIn("(final)", unknown)
+        self.assertIn('By the whole log it is stale key="x" txn=3 op=0 read=64 missed=2.', unknown)
+        self.assertIn("which transaction 2 had replaced by 128 at stamp 5", unknown)
+        self.assertIn("Horizons: what lies below the stamp may be forgotten: 1", page.tags().texts["summary"])
+
+    def test_final_overlap_that_another_one_came_between(self):
+        """2 started before 8 and commits behind it, so its overlap with 1 is final; then 3 commits before it, and 2 overlaps 3."""
+        log = [committed(1, 2, 5, ["w", "x", 64]), committed(2, 4, 15, ["w", "x", 128]), {"do": "forget", "before": 8},
+               committed(3, 8, 9, ["w", "x", 192])]
+        forgot = "forgot before=8 transactions=1 findings=1\n"
+        page = self.good_page(lines(*log), 'final overlap key="x" first=1 second=2\n' + forgot + SUMMARY.format(2, 1, 0, "violation")
+                              + 'overlap key="x" first=3 second=2\n' + forgot + SUMMARY.format(3, 2, 0, "violation"))
+        self.assertIn('By the whole log it is overlap key="x" first=3 second=2.', page.tags().articles["overlap-x-1-2"])
+
+    def test_lines_that_a_horizon_refuses(self):
+        """One starts below it, and one asks for another before it; without horizons both lines that ask are of no kind."""
+        log = lines({"do": "forget", "before": 8}, committed(1, 6, 6), {"do": "forget", "before": 7}, {"do": "forget"})
+        forgot = "forgot before=8 transactions=0 findings=0\n"
+        page = self.good_page(log, forgot + SUMMARY.format(0, 0, 0, "clean") + "refused source=0 line=2 code=22 reason=start-forgotten horizon=8\n"
+                              "refused source=0 line=3 code=25 reason=horizon-back horizon=8\nrefused source=0 line=4 code=5 "
+                              "reason=bad-field field=before\n" + forgot + SUMMARY.format(0, 0, 3, "clean"))
+        self.check_says(page, "the transaction starts below the horizon", "the horizon is before another one")
+        refused = "".join(f"refused source=0 line={number} code=4 reason=bad-kind\n" for number in (1, 3, 4))
+        self.assertNotIn("Horizons", self.good_page(log, refused + SUMMARY.format(1, 0, 3, "clean")).page)
+
     def test_last_of_several_reports(self):
         page = self.good_page(sample("samples/nearer_version.jsonl"), sample("samples/nearer_version.out"))
         self.assertEqual(list(page.tags().articles), ["stale-x-3-0", "overlap-x-4-2"])
@@ -363,6 +402,24 @@ class Misfits(PageTest):
                           sample("samples/stale_read.out"), "can't all be")
         self.check_misfit("[]\n", SUMMARY.format(0, 0, 0, "clean"), "line 1 of")
         self.check_misfit(lines(committed(1, 2, 3)), SUMMARY.format(2, 0, 0, "clean"), "counts 2 transactions, and the log has 1")
+
+    def test_wrong_horizons(self):
+        """A horizon that only the log or the answer has; a read told as another violation; what isn't told at all, and what nobody read."""
+        log = lines(committed(1, 2, 3, ["w", "x", 64]), committed(2, 4, 5, ["w", "x", 128]), {"do": "forget", "before": 8},
+                    committed(3, 8, 8, ["r", "x", 64]))
+        forgot = "forgot before=8 transactions=2 findings=0\n"
+        at = forgot + SUMMARY.format(2, 0, 0, "clean")
+        read = 'key="x" txn=3 op=0 read=64'
+        unknown = f"unknown {read}\n" + forgot + SUMMARY.format(3, 1, 0, "open")
+        self.good_page(log, at + unknown)
+        without = f"stale {read} missed=2\n" + SUMMARY.format(3, 1, 0, "violation")
+        for answer, words in ((without, "what lies below 8 be forgotten, and the answer says that nothing was"),
+                              ((at + unknown).replace("=8 t", "=9 t"), "what lies below 9 was"),
+                              (at + f"future {read} writer=1\n" + forgot + SUMMARY.format(3, 1, 0, "violation"), "the log doesn't show it"),
+                              (at + unknown.replace("=3 o", "=2 o"), "the log doesn't show it"),
+                              (at + forgot + SUMMARY.format(3, 0, 0, "clean"), "the answer doesn't tell it")):
+            with self.subTest(answer):
+                self.check_misfit(log, answer, words)
 
     def test_finding_of_another_number(self):
         for answer in ('stale key="x" txn=3 op=0 read=1 missed=1\n', 'stale key="x" txn=3 op=1 read=1 missed=2\n',

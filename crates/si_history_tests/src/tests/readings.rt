@@ -1,7 +1,7 @@
 //! Lines that are edits, and lines that are faulty, by the table of docs/FORMAT.md.
 
 use super::{Host, are_same_at, bytes_of, halves, repeated};
-use si_model::{Edit, TxnId};
+use si_model::{Edit, Stamp, TxnId};
 use si_scripts::edit_of;
 use si_text::{Field, LineFault, read_edit};
 
@@ -106,6 +106,9 @@ const FAULTY: &str = "
     [] | NotObject
     {\"do\":\"put\"} | BadKind
     {\"id\":1} | BadKind
+    {\"do\":\"forget\",\"before\":6} | Forget(Some(Stamp(6)))
+    {\"do\":\"forget\"} | Forget(None)
+    {\"before\":6.0,\"do\":\"forget\"} | Forget(None)
     {\"do\":\"withdraw\",\"id\":1.0} | BadField(Id)
     {\"do\":\"withdraw\",\"id\":-1} | BadField(Id)
     {\"do\":\"withdraw\",\"id\":1e2} | BadField(Id)
@@ -271,6 +274,8 @@ fn faults_have_numbers(rt: HostRuntime) {
     has_number(&rt, LineFault::NotJson, Some(2));
     has_number(&rt, LineFault::NotObject, Some(3));
     has_number(&rt, LineFault::BadKind, Some(4));
+    has_number(&rt, LineFault::Forget(None), Some(4));
+    has_number(&rt, LineFault::Forget(Some(Stamp(6))), Some(4));
     has_number(&rt, LineFault::BadField(Field::Ops), Some(5));
     has_number(&rt, LineFault::BadStatus, Some(6));
     has_number(&rt, LineFault::TooManyOps, Some(7));

@@ -151,6 +151,9 @@ fn faulty_lines(rt: HostRuntime) {
     check_fault(&rt, LineFault::NotJson, "2 reason=not-json");
     check_fault(&rt, LineFault::NotObject, "3 reason=not-object");
     check_fault(&rt, LineFault::BadKind, "4 reason=bad-kind");
+    check_fault(&rt, LineFault::Forget(None), "4 reason=bad-kind");
+    let forget = LineFault::Forget(Some(Stamp(6)));
+    check_fault(&rt, forget, "4 reason=bad-kind");
     faulty_fields(&rt);
     check_fault(&rt, LineFault::BadStatus, "6 reason=bad-status");
     check_fault(&rt, LineFault::TooManyOps, "7 reason=too-many-ops");
@@ -169,6 +172,7 @@ fn faulty_fields(rt: &impl Host) {
     check_field(rt, Field::Ops, "5 reason=bad-field field=ops");
     check_field(rt, Field::Key, "5 reason=bad-field field=key");
     check_field(rt, Field::Value, "5 reason=bad-field field=value");
+    check_field(rt, Field::Before, "5 reason=bad-field field=before");
 }
 
 fn check_edit(rt: &impl Host, refusal: Refusal, text: &str) {

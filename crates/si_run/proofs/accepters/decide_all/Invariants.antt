@@ -1,17 +1,18 @@
 use Rattle.std.proofs.Common.{◌≡◌, ◌≤◌, false}
-use Rattle.si_text.specs.Devices.{lent}
+use Rattle.si_text.specs.Devices.{Output, lent}
 use Rattle.si_run.specs.Takings.{IsDecided}
 use Rattle.si_run.specs.Telling.{ShowsNotes}
 use Rattle.si_run.proofs.accepters.decide_all.Given as goal
 
--- all that was taken is decided, and what is written for it was written, and nothing but lines of progress was shown
+-- wherever it was begun, all that was taken is decided, and what is written for it was written; and nothing but lines of progress was shown
 abbrev pub invariant-items : goal.invariant-items
 invariant-items g l =
     let seen = g.W.ByteSink.seen in
     record {
       same : l.accepter ≡ record l.fn.accepter { taken = l.accepter.taken };
       terms : l.engine.terms ≡ l.fn.engine.terms;
-      way : IsDecided l.fn.engine.terms l.accepter.taken (seen l.fn.writer).written (seen l.writer).written l.engine.progress;
+      way : (first : Output) → IsDecided l.fn.engine.terms l.fn.accepter.taken first.written (seen l.fn.writer).written l.fn.engine.progress
+          → IsDecided l.fn.engine.terms l.accepter.taken first.written (seen l.writer).written l.engine.progress;
       turns : l.engine.progress.decided ≤ l._turn;
       works : (seen l.writer).failed ≡ false;
       shows : l.showing.shows ≡ l.fn.engine.terms.shows;

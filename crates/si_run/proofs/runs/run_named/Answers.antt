@@ -7,8 +7,6 @@ use Rattle.si_intake.proofs.Gathered.{all_new}
 use Rattle.si_run.proofs.Gathered.{all_fresh, are_taken, length-each_foretold, ran, refused, still_all, written_over}
 use Rattle.si_run.proofs.Interleaved.{AreTaken}
 use Rattle.si_run.specs.Runs.{terms_by}
-use Rattle.si_run.specs.Outputs.{Terms}
-use Rattle.si_run.specs.Takings.{IsRunThrough}
 use Rattle.si_run.proofs.runs.run_named.Goals as goal
 
 pub returns-then-not-can_start-clause-ends : goal.returns-then-not-can_start-clause-ends
@@ -51,7 +49,7 @@ gather-taken-requires-clause-ends g c =
     let over : take c.in-Ok.ends.len (run.new.ends ++ drop (length run.new.ends) c.in-Ok.ends.items) ≡ run.new.ends =
     written_over c.in-Ok.ends.len run.new.ends c.in-Ok.ends.items (sym c.as_mut_slice.ensures.len ∙ sym run.ensures.sources.many) many in
     subst (AreAllEndsOf run.new.accepter) (sym over)
-    (still_all c.in-Ok.accepter run.new.accepter (each_foretold (map g.S.ByteSource.seen c.args.inputs.now) (map g.S.ByteSource.seen run.new.inputs)) (each_failed (map g.S.ByteSource.seen run.new.inputs)) c.as_mut_slice.result.now run.new.ends all run.ensures.accepted.same run.ensures.sources)
+    (still_all c.in-Ok.accepter run.new.accepter (each_foretold (map g.S.ByteSource.seen c.args.inputs.now) (map g.S.ByteSource.seen run.new.inputs)) (each_failed (map g.S.ByteSource.seen run.new.inputs)) c.as_mut_slice.result.now run.new.ends all run.ensures.accepted.1.same run.ensures.sources)
 
 pub returns-clause-ends : goal.returns-clause-ends
 returns-clause-ends g c =
@@ -73,6 +71,5 @@ returns-clause-ends g c =
     let taken : AreTaken lefts failed c.as_mut_slice.result.now run.new.ends run.new.accepter.taken =
     are_taken c.in-Ok.accepter run.new.accepter lefts failed c.as_mut_slice.result.now run.new.ends all (all.0 ∙ ap (λ (a : Accepting). a.sources) opening.accepter ∙ sym befores) run.ensures.sources
     (subst (λ (l : List Putting). IsInterleaving run.new.accepter.taken (all_put l)) over c.gather-taken.ensures.interleaving) in
-    let accepted = subst (λ (t : Terms). IsRunThrough t c.in-Ok.accepter run.new.accepter out run.new.engine.progress run.result) c.new-engine.ensures.terms run.ensures.accepted in
-    ran c.gate_is_exact.ensures (terms_by c.args.options) c.in-Ok.accepter run.new.accepter devices out run.new.engine.progress run.result c.as_mut_slice.result.now run.new.ends taken accepted
+    ran c.gate_is_exact.ensures (terms_by c.args.options) c.in-Ok.accepter run.new.accepter devices out run.ensures.accepted.0 run.result c.as_mut_slice.result.now run.new.ends taken run.ensures.accepted.1
     (afters ∙ same ∙ sym befores)

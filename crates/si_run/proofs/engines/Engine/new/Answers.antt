@@ -1,4 +1,4 @@
-use Rattle.std.proofs.Common.{rules, ◌≡◌, [], ap}
+use Rattle.std.proofs.Common.{rules, ◌≡◌, [], None, ap}
 use Rattle.si_words.specs.declared.views.PassView.{PassView}
 use Rattle.si_words.specs.Entries.{edits_of}
 use Rattle.si_words.specs.Seats.{Seated}
@@ -13,12 +13,14 @@ invariant_of-result g c =
       alone = search rules;
       number = search rules;
       own = search rules;
+      limited = search rules;
       counts = search rules;
       told = none_told (edits_of c.args.pass.view.seen) c.nothing.result empty c.nothing.ensures.at c.nothing.ensures.told;
+      list = tt;
     }
 
 pub returns-clause-progress : goal.returns-clause-progress
 returns-clause-progress g c =
     let empty : edits_of c.args.pass.view.seen ≡ [] = ap (λ (s : Seated PassView). edits_of s.view.seen) c.requires.pass in
     let none = none_violating (edits_of c.args.pass.view.seen) c.nothing.result.at empty c.nothing.ensures.at in
-    λ i. record { journal = empty i; decided = 0; refused = 0; told = none i }
+    λ i. record { journal = empty i; decided = 0; refused = 0; told = none i; forgotten = None }

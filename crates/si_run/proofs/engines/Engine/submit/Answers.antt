@@ -5,7 +5,7 @@ use Rattle.si_model.specs.Journals.{refusal_after}
 use Rattle.si_text.specs.declared.reasons.Reason.TheVariants as reason
 use Rattle.si_words.specs.declared.views.Entry.{Entry}
 use Rattle.si_words.specs.Entries.{edits_of}
-use Rattle.si_run.specs.Engines.{EngineState}
+use Rattle.si_run.specs.Engines.{EngineState, listed_in}
 use Rattle.si_checker.specs.Calls.{issuing}
 use Rattle.si_run.proofs.Lone.{engine_after, free, journal_grown, journal_still, state_after, still}
 use Rattle.si_run.proofs.engines.Engine.submit.Goals.{in-Ok, in-Err-Refused, in-Err-OutOfMemory}
@@ -40,11 +40,11 @@ returns-clause-ok g c =
     let law = c.lone_pass_issues_all.ensures in
     let own = c.self.invariant in
     elim c.match-submit.branch [
-      | in-Ok w ↦ rw w.result-is (state_after _ old.view new.view _ _ c.self.inside.told c.args.self.now c.args.edit c.self.view_is own.told.within
+      | in-Ok w ↦ rw w.result-is (state_after _ old.view new.view _ _ c.self.inside.told (listed_in c.self.inside.listed) c.self.inside.forgotten c.args.self.now c.args.edit c.self.view_is own.told.within
           (journal_grown g.N.Name.limit board c.args.edit old new c.edits_append.ensures law own.alone own.number own.own w.in-Ok.ensures.ok w.in-Ok.ensures.submitted))
       | in-Err-Refused w ↦ (
           let fault : refusal_after g.N.Name.limit (edits_of new.view.seen) c.args.edit ≡ Some w.in-Err-Refused.refusal = search rules in
-          rw w.result-is (state_after _ old.view new.view _ _ c.self.inside.told c.args.self.now c.args.edit c.self.view_is own.told.within
+          rw w.result-is (state_after _ old.view new.view _ _ c.self.inside.told (listed_in c.self.inside.listed) c.self.inside.forgotten c.args.self.now c.args.edit c.self.view_is own.told.within
           (journal_still g.N.Name.limit board c.args.edit w.in-Err-Refused.refusal old new law own.alone own.number own.own w.in-Err-Refused.ensures.err fault))
           )
       | in-Err-OutOfMemory w ↦ rw w.result-is tt
@@ -56,7 +56,7 @@ invariant_of-self g c =
     let new = c.submit.new.pass in
     let law = c.lone_pass_issues_all.ensures in
     elim c.match-submit.branch [
-      | in-Ok w ↦ engine_after g.N.Name.board old (issuing c.args.edit old) new c.self.inside.decided c.self.inside.refused c.self.inside.told law c.self.invariant refl refl refl w.in-Ok.ensures.ok
-      | in-Err-Refused w ↦ engine_after g.N.Name.board old old new c.self.inside.decided c.self.inside.refused c.self.inside.told law c.self.invariant refl refl refl w.in-Err-Refused.ensures.err
-      | in-Err-OutOfMemory w ↦ engine_after g.N.Name.board old old new c.self.inside.decided c.self.inside.refused c.self.inside.told law c.self.invariant refl refl refl w.in-Err-OutOfMemory.ensures.err
+      | in-Ok w ↦ engine_after g.N.Name.board g.N.Name.limit old (issuing c.args.edit old) new c.self.inside.limit c.self.inside.decided c.self.inside.refused c.self.inside.told (listed_in c.self.inside.listed) law c.self.invariant refl refl refl w.in-Ok.ensures.ok
+      | in-Err-Refused w ↦ engine_after g.N.Name.board g.N.Name.limit old old new c.self.inside.limit c.self.inside.decided c.self.inside.refused c.self.inside.told (listed_in c.self.inside.listed) law c.self.invariant refl refl refl w.in-Err-Refused.ensures.err
+      | in-Err-OutOfMemory w ↦ engine_after g.N.Name.board g.N.Name.limit old old new c.self.inside.limit c.self.inside.decided c.self.inside.refused c.self.inside.told (listed_in c.self.inside.listed) law c.self.invariant refl refl refl w.in-Err-OutOfMemory.ensures.err
     ]

@@ -1,0 +1,6 @@
+pub mod LastValues
+pub mod SetUps
+pub mod KeyOrder
+pub mod Arrivals
+pub mod HandedOut
+pub mod NoDoubt

@@ -1,0 +1,6 @@
+use Rattle.std.proofs.Common.{append_assoc}
+use Rattle.si_text.proofs.Appended.{then}
+use Rattle.si_text.proofs.forgetting.put_counts.Goals as goal
+
+pub returns : goal.returns
+returns c = simp append_assoc (simp append_assoc at (then c.in_ok-put_number.ensures (then c.in_ok-put_number-2.ensures (then c.in_ok-put_number-3.ensures c.put.ensures))))
