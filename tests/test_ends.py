@@ -110,6 +110,19 @@ class CommandLines(ProgramTest):
     def test_new_without_every(self):
         self.assert_ends(["check", "--new"], 2, "", "sicheck: --new without --every\n")
 
+    def test_no_such_part(self):
+        for part in ("1/1", "0/257", "0/0", "0", "", "+0/2", "0/2/", "18446744073709551616/18446744073709551617"):
+            self.assert_ends(["check", f"--part={part}"], 2, "", "sicheck: --part needs I/N\n")
+
+    def test_part_of_nothing(self):
+        self.assert_ends(["check", "--part", "255/256"], 0, "part index=255 of=256 lines=0\n" + summary())
+
+    def test_part_tells_its_places(self):
+        kinds = ("own", "aborted", "intermediate", "future", "stale", "overlap")
+        places = "".join(f"chances kind={it} places=0 keys=0\n" for it in kinds)
+        short = "short kind=future places=0 expected=1\n"
+        self.assert_ends(["check", "--part", "0/1", "--expect-future", "1"], 10, "part index=0 of=1 lines=0\n" + places + short + summary())
+
     def test_none_expected(self):
         self.assert_ends(["check", "--expect", "0"], 0, summary())
 
@@ -611,6 +624,28 @@ class Horizons(ProgramTest):
             "short committed=2 expected=3 indoubt=1 ids=3",
             summary(3, 1, verdict="violation").rstrip(),
             words=["--horizons", "--every", "2", "--new", "--expect", "3"])
+
+    def test_parts(self):
+        """Of two, x is a key of part 0: its hash is 120, and 120 * 2654435769 leaves 704712376 behind a division by 4294967296. Lines are counted on."""
+        lines = [txn(1, 2, 3, '["w","x",1]'), txn(2, 2, 5, '["w","x",2]'), forget(8), txn(3, 8, "indoubt", '["r","x",2]')]
+        self.assert_tells(
+            lines, 20,
+            'overlap key="x" first=1 second=2',
+            *["part index=0 of=2 lines=2", summary(2, 1, verdict="violation").rstrip()],
+            'final overlap key="x" first=1 second=2',
+            *["part index=0 of=2 lines=3", "forgot before=8 transactions=2 findings=1", summary(2, 1, verdict="violation").rstrip()],
+            *["part index=0 of=2 lines=4", "forgot before=8 transactions=2 findings=1", summary(3, 1, verdict="violation").rstrip()],
+            *["part index=0 of=2 lines=4", "forgot before=8 transactions=2 findings=1"],
+            *["short committed=2 expected=3 indoubt=1 ids=3", summary(3, 1, verdict="violation").rstrip()],
+            words=["--horizons", "--every", "2", "--new", "--expect", "3", "--part", "0/2"])
+        self.assert_tells(
+            lines, 10,
+            *["part index=1 of=2 lines=2", summary(2).rstrip()],
+            *["part index=1 of=2 lines=3", "forgot before=8 transactions=2 findings=0", summary(2).rstrip()],
+            *["part index=1 of=2 lines=4", "forgot before=8 transactions=2 findings=0", summary(3).rstrip()],
+            *["part index=1 of=2 lines=4", "forgot before=8 transactions=2 findings=0"],
+            *["short committed=2 expected=3 indoubt=1 ids=3", summary(3).rstrip()],
+            words=["--horizons", "--every", "2", "--new", "--expect", "3", "--part", "1/2"])
 
 
 class RefusedCalls(ProgramTest):

@@ -17,6 +17,7 @@ docs/LOGGING.md tells what to log, and docs/FINDINGS.md what each finding means.
 """
 from .checking import check, program_path, watch
 from .faults import CheckFailed, LogError, NotPassed, Undecided, Unproved, Violation
+from .in_parts import check_parts
 from .logs import Log, path_of_client
 from .marks import Forgetting, forget_every, gone
 from .numbering import Origin, client_of, origin_of
@@ -28,5 +29,5 @@ from .transactions import VERSION, Savepoint, Transaction
 
 __all__ = ["AFTER", "AT", "COMMIT_ORDER", "VERSION", "Chance", "Chances", "CheckFailed", "Few", "FilePlace", "Finding", "Forgetting", "Forgot",
            "Fork", "Log", "LogError", "NotPassed", "Numbers", "Origin", "Refusal", "Report", "Savepoint", "Short", "Stamps", "Transaction",
-           "Undecided", "Unproved", "Violation", "check", "client_of", "forget_every", "gone", "numbers_by_snapshots", "origin_of",
+           "Undecided", "Unproved", "Violation", "check", "check_parts", "client_of", "forget_every", "gone", "numbers_by_snapshots", "origin_of",
            "path_of_client", "program_path", "watch"]

@@ -1,12 +1,13 @@
-"""The commands of the package: `python3 -m sicheck json|count|explain|page|number|in-commit-order|seal|shrink`."""
+"""The commands of the package: `python3 -m sicheck json|count|explain|page|number|in-commit-order|seal|shrink|merge`."""
 import argparse
 import gc
 import os
 import signal
 import sys
-from typing import Iterable, Iterator, List
+from contextlib import ExitStack
+from typing import Any, Iterable, Iterator, List
 
-from .answers import KINDS, AnswerFault
+from .answers import KINDS, VIOLATIONS, AnswerFault
 from .faults import CheckFailed, LogError
 from .places import Files
 from .reports import last_report_in
@@ -62,7 +63,28 @@ def parser() -> argparse.ArgumentParser:
     sealed.add_argument("--log", metavar="OUT", help="keeps the log with its stamps there")
     sealed.add_argument("--sessions", action="store_true", help="each process sees what it committed before")
     sealed.add_argument("--real-time", action="store_true", help="each transaction sees what was answered before it was sent")
+    add_merge(commands)
     return words
+
+
+def add_merge(commands: Any) -> None:
+    """The command to merge: what is merged, and how the parts were run."""
+    words = commands.add_parser("merge", help="the answers of a log's parts as the answer of the whole",
+                                description="Makes of the answers of `sicheck check --part I/N`, of all parts from 0 to N-1 in any order, the "
+                                            "answer and the status that `sicheck check` gives for the whole log. Of a log in several files it "
+                                            "tells the refused lines and the last report.")
+    words.add_argument("answers", metavar="ANSWER", nargs="+", help="the files of the answers")
+    words.add_argument("--log", metavar="LOG", nargs="+", action="extend", required=True,
+                       help="the files of the log, in the order of the check")
+    given = words.add_argument_group("the options of the parts", "Give all that the parts were given.")
+    given.add_argument("--chances", action="store_true", help="the answer tells at how many places something could have been found")
+    given.add_argument("--expect", metavar="N", type=int, help="the run was to end with N committed transactions, and none in doubt")
+    for kind in VIOLATIONS:
+        given.add_argument(f"--expect-{KINDS[kind]}", metavar="N", type=int, help=f"it was to end with N places of the kind {KINDS[kind]}")
+    for option in ("--every", "--shards"):
+        given.add_argument(option, metavar="N", help="the answers show it")
+    for option in ("--new", "--explain", "--horizons", "--progress"):
+        given.add_argument(option, action="store_true", help="the answers show it")
 
 
 def add_stamps(words: argparse.ArgumentParser, what: str) -> None:
@@ -144,8 +166,22 @@ def seal(chosen: argparse.Namespace) -> int:
     return status
 
 
+def merge(chosen: argparse.Namespace) -> int:
+    """Writes what the whole log's answer is."""
+    from .merging import Expected, merged_files
+    given = {kind: getattr(chosen, f"expect_{KINDS[kind]}") for kind in VIOLATIONS}
+    expected = Expected(chosen.chances, chosen.expect, {kind: number for kind, number in given.items() if number is not None})
+    with ExitStack() as stack:
+        whole = merged_files(stack, chosen.answers, chosen.log, expected)
+        for line in whole.lines():
+            sys.stdout.buffer.write(line + b"\n")
+        sys.stdout.flush()
+    return whole.status
+
+
 def main(words: List[str]) -> int:
-    """Does what the words ask for, and returns the status: 0, or 2 where it couldn't be done; `page`, `number` and `seal` have others too."""
+    """Does what the words ask for, and returns the status: 0, or 2 where it couldn't be done; `page`, `number`, `seal` and `merge` have others
+    too."""
     if words[:1] == ["page"]:
         from .page.command import main as page
         page(words[1:], f"{NAME} page")
@@ -166,6 +202,8 @@ def main(words: List[str]) -> int:
             print_all(list(shrunk(chosen.log, chosen.kind, chosen.key)))
         elif chosen.command == "seal":
             return seal(chosen)
+        elif chosen.command == "merge":
+            return merge(chosen)
         elif chosen.command == "number":
             return number(chosen.raw, Stamps(chosen.stamps))
         else:

@@ -40,7 +40,7 @@ def program_path(program: Optional[OnePath] = None) -> str:
     return found
 
 
-def _is_unproved(program: str) -> bool:
+def is_unproved(program: str) -> bool:
     """Whether the program that is named is itself one that a checkout has built without its proof."""
     return os.path.realpath(shutil.which(program) or program).endswith(UNPROVED)
 
@@ -64,7 +64,7 @@ def check(paths: Paths = (), *, lines: Optional[Iterable[Line]] = None, every: O
     """
     last = None
     asked = Asked(chances, expect_own, expect_aborted, expect_intermediate, expect_future, expect_stale, expect_overlap, horizons)
-    for last in _reports(_names(paths), lines, None, every, explain, expect, False, shards, program, 0.0, progress, asked):
+    for last in _reports(names_of(paths), lines, None, every, explain, expect, False, shards, program, 0.0, progress, asked):
         pass
     assert last is not None  # or the reading of the answer would have raised
     return last
@@ -94,7 +94,7 @@ def watch(paths: Paths = (), *, lines: Optional[Iterable[Line]] = None, until: O
     `progress` and `horizons` are those of `check`; what is told at a horizon is no report.
     """
     asked = Asked(chances, expect_own, expect_aborted, expect_intermediate, expect_future, expect_stale, expect_overlap, horizons)
-    return _reports(_names(paths), lines, until, every, explain, expect, new, shards, program, pause, progress, asked)
+    return _reports(names_of(paths), lines, until, every, explain, expect, new, shards, program, pause, progress, asked)
 
 
 class Asked(NamedTuple):
@@ -108,23 +108,26 @@ class Asked(NamedTuple):
     overlap: Optional[int] = None
     forgets: bool = False
 
+    def expected(self) -> List[Tuple[str, int]]:
+        """The kinds of which so many places are asked for."""
+        return [(kind, number) for kind, number in zip(self._fields[1:-1], self[1:-1]) if number is not None]
+
     def words(self) -> List[str]:
         """The options of the command line."""
-        expected = [(kind, number) for kind, number in zip(self._fields[1:-1], self[1:-1]) if number is not None]
-        places = [word for kind, number in expected for word in (f"--expect-{kind}", str(number))]
+        places = [word for kind, number in self.expected() for word in (f"--expect-{kind}", str(number))]
         return ["--chances"] * bool(self.tells) + places + ["--horizons"] * bool(self.forgets)
 
 
-def _names(paths: Paths) -> List[str]:
+def names_of(paths: Paths) -> List[str]:
     if isinstance(paths, (str, os.PathLike)):
         return [os.fspath(paths)]
     return [os.fspath(path) for path in paths]
 
 
-def _words(program: str, names: Sequence[str], every: Optional[int], explain: bool, expect: Optional[int], new: bool,
-           shards: Optional[int], shows: bool, asked: Asked) -> List[str]:
-    """The command line. A name that begins like an option is made to be none."""
-    words = [program, "check"]
+def words_of(names: Sequence[str], every: Optional[int], explain: bool, expect: Optional[int], new: bool, shards: Optional[int], shows: bool,
+             asked: Asked) -> List[str]:
+    """The words behind the program's name. A name that begins like an option is made to be none."""
+    words = ["check"]
     for option, value in (("--shards", shards), ("--every", every), ("--expect", expect)):
         if value is not None:
             words += [option, str(value)]
@@ -186,9 +189,9 @@ def _reports(names: List[str], lines: Optional[Iterable[Line]], until: Optional[
     stop = threading.Event()
     files, given, fed = _input_of(names, lines, until, pause, stop)
     shows = is_watched() if progress is None else progress
-    words = _words(program_path(program), given, every, explain, expect, new, shards, shows, asked)
-    is_unproved = _is_unproved(words[0])
-    if is_unproved and os.environ.get(PROVED):
+    words = [program_path(program), *words_of(given, every, explain, expect, new, shards, shows, asked)]
+    unproved = is_unproved(words[0])
+    if unproved and os.environ.get(PROVED):
         raise CheckFailed(f"{words[0]} isn't proved, and {PROVED} asks for the proved program")
     with Said(shows) as said, tempfile.NamedTemporaryFile() as told:
         try:
@@ -204,8 +207,8 @@ def _reports(names: List[str], lines: Optional[Iterable[Line]], until: Optional[
                 feeding.start()
             for report in _read(run, ReportReader(files, new), given, said):
                 # (it is told before the program runs, and so before any report)
-                is_unproved = is_unproved or os.fstat(told.fileno()).st_size > 0
-                yield report._replace(proved=False) if is_unproved else report
+                unproved = unproved or os.fstat(told.fileno()).st_size > 0
+                yield report._replace(proved=False) if unproved else report
         except CheckFailed:
             if feeding and feeding.fault is not None:
                 raise feeding.fault

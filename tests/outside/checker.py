@@ -347,35 +347,57 @@ def chances(present):
     return {kind: (sum(len(it[kind]) for it in on_keys), sum(1 for it in on_keys if it[kind])) for kind in CHANCES}
 
 
+# ---- parts
+
+
+def part_of(key, count):
+    """Which of so many parts has the key: the hash of its shard, spread over 32 bits, which are cut into ranges of one length (`partition_number`)."""
+    number = 0
+    for byte in key.encode():
+        number = (31 * number + byte) % 2**32
+    return number * 2654435769 % 2**32 * count // 2**32
+
+
 # ---- lines out
 
 
 class Run:
-    """A run over lines in the order in which they are taken, by the words of its command line: what it writes, and its status."""
+    """A run over lines in the order in which they are taken, by the words of its command line: what it writes, and its status. So many sources are
+    read."""
 
-    def __init__(self, words=()):
+    def __init__(self, words=(), sources=1):
         number = lambda name: int(words[words.index(name) + 1]) if name in words else None
         self.new, self.explain, self.chances, self.horizons = (f"--{it}" in words for it in ("new", "explain", "chances", "horizons"))
         self.every, self.expected = number("--every"), number("--expect")
         self.places = {kind: number(f"--expect-{kind}") for kind in CHANCES if f"--expect-{kind}" in words}
         self.present, self.decided, self.refused, self.text, self.verdict = Present(), 0, 0, [], None
         self.gone, self.final, self.reported = [], [], []
+        self.part = tuple(int(it) for it in words[words.index("--part") + 1].split("/")) if "--part" in words else None
+        self.lines = dict.fromkeys(range(sources), 0)
 
     def take(self, source, number, line):
         """Takes a line, by its number in its source; a blank one is left out."""
         if len(line) <= MOST_BYTES and not line.strip(b" \t\r"):
             return
         try:
-            edit, before = edit_of(line, self.horizons), self.present
+            edit, before = self.kept(edit_of(line, self.horizons)), self.present
             self.present = accept(before, edit)
             if edit["do"] == "forget":
+                self.lines[source] = number
                 self.tell_final(before)
         except Refused as it:
             self.refused += 1
             self.text.append(" ".join((f"refused source={source} line={number} code={CODES[it.args[0]]} reason={it.args[0]}", *it.args[1:])))
         self.decided += 1
+        self.lines[source] = number
         if self.every and self.decided % self.every == 0:
             self.report()
+
+    def kept(self, edit):
+        """What is kept of an edit: of an arrival, in a part, the operations on the part's keys."""
+        if self.part is None or edit["do"] != "txn":
+            return edit
+        return {**edit, "ops": [op for op in edit["ops"] if part_of(op[1], self.part[1]) == self.part[0]]}
 
     def tell(self, found, before=""):
         for _, line, shown in found:
@@ -393,6 +415,8 @@ class Run:
 
     def sum_up(self, found, ending=()):
         """The lines behind findings: what is forgotten, where a horizon was, what the last report has, and the summary of all."""
+        if self.part is not None:
+            self.text.append(f"part index={self.part[0]} of={self.part[1]} lines={','.join(map(str, self.lines.values()))}")
         if self.present.horizon is not None:
             self.text.append(f"forgot before={self.present.horizon} transactions={len(self.gone)} findings={len(self.final)}")
         self.text += ending
@@ -415,7 +439,8 @@ class Run:
     def end(self):
         """The last report: the whole text, and the exit status."""
         there = chances(self.present) if self.chances or self.places else {}
-        told = [f"chances kind={kind} places={there[kind][0]} keys={there[kind][1]}" for kind in CHANCES if self.chances]
+        tells = self.chances or self.places and self.part is not None
+        told = [f"chances kind={kind} places={there[kind][0]} keys={there[kind][1]}" for kind in CHANCES if tells]
         committed = len([it for it in self.gone + self.present.txns if it.status == "committed"])
         doubt = sorted(it.id for it in self.present.txns if it.status == "indoubt")
         short = []

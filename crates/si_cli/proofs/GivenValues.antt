@@ -416,63 +416,63 @@ other name least most r e is = absurd (true≢false (sym is ∙ e))
 shards_good : All (λ t. All (Good (codes "shards") 1 MOST_SHARDS) t.rules) (built sicheck_app).subs
 unfolding clap_on_literals
 shards_good = (
-  ((λ e. record { action = refl; ignore_case = refl; parser = refl; defaults = refl }), (other _ _ _ _ refl, (other _ _ _ _ refl, (other _ _ _ _ refl, (other _ _ _ _ refl, (other _ _ _ _ refl, (other _ _ _ _ refl, (other _ _ _ _ refl, (other _ _ _ _ refl, (other _ _ _ _ refl, (other _ _ _ _ refl, (other _ _ _ _ refl, (other _ _ _ _ refl, (other _ _ _ _ refl, (other _ _ _ _ refl, (other _ _ _ _ refl, tt)))))))))))))))),
+  ((λ e. record { action = refl; ignore_case = refl; parser = refl; defaults = refl }), (other _ _ _ _ refl, (other _ _ _ _ refl, (other _ _ _ _ refl, (other _ _ _ _ refl, (other _ _ _ _ refl, (other _ _ _ _ refl, (other _ _ _ _ refl, (other _ _ _ _ refl, (other _ _ _ _ refl, (other _ _ _ _ refl, (other _ _ _ _ refl, (other _ _ _ _ refl, (other _ _ _ _ refl, (other _ _ _ _ refl, (other _ _ _ _ refl, (other _ _ _ _ refl, tt))))))))))))))))),
   ((other _ _ _ _ refl, tt), tt),
 )
 
 every_good : All (λ t. All (Good (codes "every") 1 MOST_EVERY) t.rules) (built sicheck_app).subs
 unfolding clap_on_literals
 every_good = (
-  (other _ _ _ _ refl, ((λ e. record { action = refl; ignore_case = refl; parser = refl; defaults = refl }), (other _ _ _ _ refl, (other _ _ _ _ refl, (other _ _ _ _ refl, (other _ _ _ _ refl, (other _ _ _ _ refl, (other _ _ _ _ refl, (other _ _ _ _ refl, (other _ _ _ _ refl, (other _ _ _ _ refl, (other _ _ _ _ refl, (other _ _ _ _ refl, (other _ _ _ _ refl, (other _ _ _ _ refl, (other _ _ _ _ refl, tt)))))))))))))))),
+  (other _ _ _ _ refl, ((λ e. record { action = refl; ignore_case = refl; parser = refl; defaults = refl }), (other _ _ _ _ refl, (other _ _ _ _ refl, (other _ _ _ _ refl, (other _ _ _ _ refl, (other _ _ _ _ refl, (other _ _ _ _ refl, (other _ _ _ _ refl, (other _ _ _ _ refl, (other _ _ _ _ refl, (other _ _ _ _ refl, (other _ _ _ _ refl, (other _ _ _ _ refl, (other _ _ _ _ refl, (other _ _ _ _ refl, (other _ _ _ _ refl, tt))))))))))))))))),
   ((other _ _ _ _ refl, tt), tt),
 )
 
 expected_good : All (λ t. All (Good (codes "expect") 0 MOST_EDITS) t.rules) (built sicheck_app).subs
 unfolding clap_on_literals
 expected_good = (
-  (other _ _ _ _ refl, (other _ _ _ _ refl, (other _ _ _ _ refl, (other _ _ _ _ refl, ((λ e. record { action = refl; ignore_case = refl; parser = refl; defaults = refl }), (other _ _ _ _ refl, (other _ _ _ _ refl, (other _ _ _ _ refl, (other _ _ _ _ refl, (other _ _ _ _ refl, (other _ _ _ _ refl, (other _ _ _ _ refl, (other _ _ _ _ refl, (other _ _ _ _ refl, (other _ _ _ _ refl, (other _ _ _ _ refl, tt)))))))))))))))),
+  (other _ _ _ _ refl, (other _ _ _ _ refl, (other _ _ _ _ refl, (other _ _ _ _ refl, ((λ e. record { action = refl; ignore_case = refl; parser = refl; defaults = refl }), (other _ _ _ _ refl, (other _ _ _ _ refl, (other _ _ _ _ refl, (other _ _ _ _ refl, (other _ _ _ _ refl, (other _ _ _ _ refl, (other _ _ _ _ refl, (other _ _ _ _ refl, (other _ _ _ _ refl, (other _ _ _ _ refl, (other _ _ _ _ refl, (other _ _ _ _ refl, tt))))))))))))))))),
   ((other _ _ _ _ refl, tt), tt),
 )
 
 own_good : All (λ t. All (Good (codes "expect-own") 0 MOST_PLACES) t.rules) (built sicheck_app).subs
 unfolding clap_on_literals
 own_good = (
-  (other _ _ _ _ refl, (other _ _ _ _ refl, (other _ _ _ _ refl, (other _ _ _ _ refl, (other _ _ _ _ refl, (other _ _ _ _ refl, (other _ _ _ _ refl, (other _ _ _ _ refl, ((λ e. record { action = refl; ignore_case = refl; parser = refl; defaults = refl }), (other _ _ _ _ refl, (other _ _ _ _ refl, (other _ _ _ _ refl, (other _ _ _ _ refl, (other _ _ _ _ refl, (other _ _ _ _ refl, (other _ _ _ _ refl, tt)))))))))))))))),
+  (other _ _ _ _ refl, (other _ _ _ _ refl, (other _ _ _ _ refl, (other _ _ _ _ refl, (other _ _ _ _ refl, (other _ _ _ _ refl, (other _ _ _ _ refl, (other _ _ _ _ refl, (other _ _ _ _ refl, ((λ e. record { action = refl; ignore_case = refl; parser = refl; defaults = refl }), (other _ _ _ _ refl, (other _ _ _ _ refl, (other _ _ _ _ refl, (other _ _ _ _ refl, (other _ _ _ _ refl, (other _ _ _ _ refl, (other _ _ _ _ refl, tt))))))))))))))))),
   ((other _ _ _ _ refl, tt), tt),
 )
 
 aborted_good : All (λ t. All (Good (codes "expect-aborted") 0 MOST_PLACES) t.rules) (built sicheck_app).subs
 unfolding clap_on_literals
 aborted_good = (
-  (other _ _ _ _ refl, (other _ _ _ _ refl, (other _ _ _ _ refl, (other _ _ _ _ refl, (other _ _ _ _ refl, (other _ _ _ _ refl, (other _ _ _ _ refl, (other _ _ _ _ refl, (other _ _ _ _ refl, ((λ e. record { action = refl; ignore_case = refl; parser = refl; defaults = refl }), (other _ _ _ _ refl, (other _ _ _ _ refl, (other _ _ _ _ refl, (other _ _ _ _ refl, (other _ _ _ _ refl, (other _ _ _ _ refl, tt)))))))))))))))),
+  (other _ _ _ _ refl, (other _ _ _ _ refl, (other _ _ _ _ refl, (other _ _ _ _ refl, (other _ _ _ _ refl, (other _ _ _ _ refl, (other _ _ _ _ refl, (other _ _ _ _ refl, (other _ _ _ _ refl, (other _ _ _ _ refl, ((λ e. record { action = refl; ignore_case = refl; parser = refl; defaults = refl }), (other _ _ _ _ refl, (other _ _ _ _ refl, (other _ _ _ _ refl, (other _ _ _ _ refl, (other _ _ _ _ refl, (other _ _ _ _ refl, tt))))))))))))))))),
   ((other _ _ _ _ refl, tt), tt),
 )
 
 intermediate_good : All (λ t. All (Good (codes "expect-intermediate") 0 MOST_PLACES) t.rules) (built sicheck_app).subs
 unfolding clap_on_literals
 intermediate_good = (
-  (other _ _ _ _ refl, (other _ _ _ _ refl, (other _ _ _ _ refl, (other _ _ _ _ refl, (other _ _ _ _ refl, (other _ _ _ _ refl, (other _ _ _ _ refl, (other _ _ _ _ refl, (other _ _ _ _ refl, (other _ _ _ _ refl, ((λ e. record { action = refl; ignore_case = refl; parser = refl; defaults = refl }), (other _ _ _ _ refl, (other _ _ _ _ refl, (other _ _ _ _ refl, (other _ _ _ _ refl, (other _ _ _ _ refl, tt)))))))))))))))),
+  (other _ _ _ _ refl, (other _ _ _ _ refl, (other _ _ _ _ refl, (other _ _ _ _ refl, (other _ _ _ _ refl, (other _ _ _ _ refl, (other _ _ _ _ refl, (other _ _ _ _ refl, (other _ _ _ _ refl, (other _ _ _ _ refl, (other _ _ _ _ refl, ((λ e. record { action = refl; ignore_case = refl; parser = refl; defaults = refl }), (other _ _ _ _ refl, (other _ _ _ _ refl, (other _ _ _ _ refl, (other _ _ _ _ refl, (other _ _ _ _ refl, tt))))))))))))))))),
   ((other _ _ _ _ refl, tt), tt),
 )
 
 future_good : All (λ t. All (Good (codes "expect-future") 0 MOST_PLACES) t.rules) (built sicheck_app).subs
 unfolding clap_on_literals
 future_good = (
-  (other _ _ _ _ refl, (other _ _ _ _ refl, (other _ _ _ _ refl, (other _ _ _ _ refl, (other _ _ _ _ refl, (other _ _ _ _ refl, (other _ _ _ _ refl, (other _ _ _ _ refl, (other _ _ _ _ refl, (other _ _ _ _ refl, (other _ _ _ _ refl, ((λ e. record { action = refl; ignore_case = refl; parser = refl; defaults = refl }), (other _ _ _ _ refl, (other _ _ _ _ refl, (other _ _ _ _ refl, (other _ _ _ _ refl, tt)))))))))))))))),
+  (other _ _ _ _ refl, (other _ _ _ _ refl, (other _ _ _ _ refl, (other _ _ _ _ refl, (other _ _ _ _ refl, (other _ _ _ _ refl, (other _ _ _ _ refl, (other _ _ _ _ refl, (other _ _ _ _ refl, (other _ _ _ _ refl, (other _ _ _ _ refl, (other _ _ _ _ refl, ((λ e. record { action = refl; ignore_case = refl; parser = refl; defaults = refl }), (other _ _ _ _ refl, (other _ _ _ _ refl, (other _ _ _ _ refl, (other _ _ _ _ refl, tt))))))))))))))))),
   ((other _ _ _ _ refl, tt), tt),
 )
 
 stale_good : All (λ t. All (Good (codes "expect-stale") 0 MOST_PLACES) t.rules) (built sicheck_app).subs
 unfolding clap_on_literals
 stale_good = (
-  (other _ _ _ _ refl, (other _ _ _ _ refl, (other _ _ _ _ refl, (other _ _ _ _ refl, (other _ _ _ _ refl, (other _ _ _ _ refl, (other _ _ _ _ refl, (other _ _ _ _ refl, (other _ _ _ _ refl, (other _ _ _ _ refl, (other _ _ _ _ refl, (other _ _ _ _ refl, ((λ e. record { action = refl; ignore_case = refl; parser = refl; defaults = refl }), (other _ _ _ _ refl, (other _ _ _ _ refl, (other _ _ _ _ refl, tt)))))))))))))))),
+  (other _ _ _ _ refl, (other _ _ _ _ refl, (other _ _ _ _ refl, (other _ _ _ _ refl, (other _ _ _ _ refl, (other _ _ _ _ refl, (other _ _ _ _ refl, (other _ _ _ _ refl, (other _ _ _ _ refl, (other _ _ _ _ refl, (other _ _ _ _ refl, (other _ _ _ _ refl, (other _ _ _ _ refl, ((λ e. record { action = refl; ignore_case = refl; parser = refl; defaults = refl }), (other _ _ _ _ refl, (other _ _ _ _ refl, (other _ _ _ _ refl, tt))))))))))))))))),
   ((other _ _ _ _ refl, tt), tt),
 )
 
 overlap_good : All (λ t. All (Good (codes "expect-overlap") 0 MOST_PLACES) t.rules) (built sicheck_app).subs
 unfolding clap_on_literals
 overlap_good = (
-  (other _ _ _ _ refl, (other _ _ _ _ refl, (other _ _ _ _ refl, (other _ _ _ _ refl, (other _ _ _ _ refl, (other _ _ _ _ refl, (other _ _ _ _ refl, (other _ _ _ _ refl, (other _ _ _ _ refl, (other _ _ _ _ refl, (other _ _ _ _ refl, (other _ _ _ _ refl, (other _ _ _ _ refl, ((λ e. record { action = refl; ignore_case = refl; parser = refl; defaults = refl }), (other _ _ _ _ refl, (other _ _ _ _ refl, tt)))))))))))))))),
+  (other _ _ _ _ refl, (other _ _ _ _ refl, (other _ _ _ _ refl, (other _ _ _ _ refl, (other _ _ _ _ refl, (other _ _ _ _ refl, (other _ _ _ _ refl, (other _ _ _ _ refl, (other _ _ _ _ refl, (other _ _ _ _ refl, (other _ _ _ _ refl, (other _ _ _ _ refl, (other _ _ _ _ refl, (other _ _ _ _ refl, ((λ e. record { action = refl; ignore_case = refl; parser = refl; defaults = refl }), (other _ _ _ _ refl, (other _ _ _ _ refl, tt))))))))))))))))),
   ((other _ _ _ _ refl, tt), tt),
 )
 

@@ -3,3 +3,4 @@ pub mod Opened
 pub mod Parts
 pub mod Simple
 pub mod HeldLogs
+pub mod NamedParts

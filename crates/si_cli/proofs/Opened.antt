@@ -8,6 +8,7 @@ use Rattle.std.proofs.Math.Seq.{take-suc}
 use Rattle.std.proofs.lemmas.List.{length-map, map-append}
 use Rattle.std.proofs.lemmas.Option.{none-some}
 use Rattle.si_lists.proofs.Tests.{mapped_some}
+use Rattle.si_partitions.specs.declared.partitions.Partition.{Partition}
 use Rattle.si_text.specs.Devices.{Input, Lent, Output, each_failed, each_foretold, each_left, foretold, lent}
 use Rattle.si_run.specs.declared.options.Options.{Options}
 use Rattle.si_run.specs.declared.statuses.ExitStatus.{ExitStatus}
@@ -112,20 +113,20 @@ kept_at (f ∷ files) [] i k = absurd k
 kept_at (f ∷ files) (l ∷ lefts) zero k = k.0
 kept_at (f ∷ files) (l ∷ lefts) (suc i) k = kept_at files lefts i k.1
 
-kept_ends : (f l : Option (List ℕ)) (failed : Bool) (items : List Item) (last : What) → Keeps f l → EndsSo l failed items last → EndsSo f failed items last
-kept_ends f l failed items (Line item) k e = e
-kept_ends f l failed items ReadFault k e = (
-  of_one (λ o. AreFirst o items) tt f l k e.0,
+kept_ends : (part : Option Partition) (f l : Option (List ℕ)) (failed : Bool) (items : List Item) (last : What) → Keeps f l → EndsSo part l failed items last → EndsSo part f failed items last
+kept_ends part f l failed items (Line item) k e = e
+kept_ends part f l failed items ReadFault k e = (
+  of_one (λ o. AreFirst part o items) tt f l k e.0,
   elim e.1 [
     | inl has_failed ↦ inl has_failed
     | inr long ↦ inr (of_one MayBeTooLong tt f l k long)
   ],
 )
-kept_ends f l failed items NoMemory k e = (of_one (λ o. AreFirst o items) tt f l k e.0, e.1)
-kept_ends f l failed items End k e = (of_one (λ o. AreAll o items) tt f l k e.0, e.1)
+kept_ends part f l failed items NoMemory k e = (of_one (λ o. AreFirst part o items) tt f l k e.0, e.1)
+kept_ends part f l failed items End k e = (of_one (λ o. AreAll part o items) tt f l k e.0, e.1)
 
-kept_told : (files lefts : List (Option (List ℕ))) (failed : List Bool) (taken : List Told) → HoldFiles files lefts → AreTold lefts failed taken → AreTold files failed taken
-kept_told files lefts failed taken k t = record {
+kept_told : (part : Option Partition) (files lefts : List (Option (List ℕ))) (failed : List Bool) (taken : List Told) → HoldFiles files lefts → AreTold part lefts failed taken → AreTold part files failed taken
+kept_told part files lefts failed taken k t = record {
   each = λ i below.
       let many = as_many files lefts k in
       let one = t.each i (omega arith) in
@@ -133,14 +134,14 @@ kept_told files lefts failed taken k t = record {
         items = one.items;
         last = one.last;
         tells_all = one.tells_all;
-        ends = kept_ends (slice_index_or files i None) (slice_index_or lefts i None) (slice_index_or failed i false) one.items one.last (kept_at files lefts i k) one.ends;
+        ends = kept_ends part (slice_index_or files i None) (slice_index_or lefts i None) (slice_index_or failed i false) one.items one.last (kept_at files lefts i k) one.ends;
       };
 }
 
 pub kept_met : (terms : Terms) (files lefts : List (Option (List ℕ))) (failed : List Bool) (out : Lent Output) (f : RunFault) → HoldFiles files lefts → IsMet terms lefts failed out f → IsMet terms files failed out f
 kept_met terms files lefts failed out f k met = elim met [
   | inl none ↦ inl none
-  | inr m ↦ inr (m.0, m.1, kept_told files lefts failed m.0 k m.2, m.3)
+  | inr m ↦ inr (m.0, m.1, kept_told terms.part files lefts failed m.0 k m.2, m.3)
 ]
 
 pub kept_check : (terms : Terms) (names : List Text) (files lefts : List (Option (List ℕ))) (failed : List Bool) (out err : Lent Output) (result : ℕ) → HoldFiles files lefts
@@ -218,7 +219,7 @@ fails_opening true names place x y z result code told cause = (code, cause.0, ca
 -- a run whose end is told is a check that ends so
 pub run_told : (options : Options) (names : List Text) (inputs : Lent (List Input)) (out : Lent Output) (x y z : Output) (result : ℕ) (ended : Result ExitStatus RunFault)
     → IsRunnable options → Ends options inputs out ended → IsTold options.shows_progress ended (lent x y) → TellsCauses options.shows_progress names ended (lent y z) → result ≡ code_of ended
-    → EndsCheck (terms_by options) names (each_foretold inputs.before inputs.after) (each_failed inputs.after) out (lent x z) result
+    → EndsCheck (terms_by (length inputs.before) options) names (each_foretold inputs.before inputs.after) (each_failed inputs.after) out (lent x z) result
 run_told options names inputs out x y z result (Ok status) r ends told causes code =
     inl (status, code, ends.output, ends.works.0, ends.works.1, only_notes options.shows_progress names status x y z told causes)
 run_told options names inputs out x y z result (Err f) r ends told causes code =
@@ -236,7 +237,7 @@ run_told options names inputs out x y z result (Err f) r ends told causes code =
     failed : List Bool
     failed = each_failed inputs.after
 
-    met_of : (f : RunFault) → IsTrueFault options lefts failed out.after.failed f → IsMetOrOpen (terms_by options) lefts failed out f → IsMet (terms_by options) lefts failed out f
+    met_of : (f : RunFault) → IsTrueFault options lefts failed out.after.failed f → IsMetOrOpen (terms_by (length inputs.before) options) lefts failed out f → IsMet (terms_by (length inputs.before) options) lefts failed out f
     met_of (fault.Input source) t m = m
     met_of (fault.Open o) t m = absurd (device_fault options lefts failed out.after.failed (fault.Open o) r t)
     met_of fault.Output t m = m
@@ -285,13 +286,14 @@ kept_next folder names place lefts left below k one =
 -- ---- the program's end
 
 -- where files are named, the end is that of their check
-pub files_named : (names : List (Bor (List ℕ))) (terms : Terms) (input : Lent Input) (files : Files) (out err : Lent Output) (result : ℕ) → 1 ≤ length names
-    → EndsFiles terms files (map (λ (f : Bor (List ℕ)). f.now) names) out err result → EndsNamed terms input files (map (λ (f : Bor (List ℕ)). f.now) names) out err result
+pub files_named : (names : List (Bor (List ℕ))) (terms : ℕ → Terms) (input : Lent Input) (files : Files) (out err : Lent Output) (result : ℕ) → 1 ≤ length names
+    → EndsFiles (terms (length names)) files (map (λ (f : Bor (List ℕ)). f.now) names) out err result → EndsNamed terms input files (map (λ (f : Bor (List ℕ)). f.now) names) out err result
 files_named [] terms input files out err result some ends = absurd (omega arith)
-files_named (name ∷ names) terms input files out err result some ends = ends
+files_named (name ∷ names) terms input files out err result some ends =
+    subst (λ n. EndsFiles (terms n) files (map (λ (f : Bor (List ℕ)). f.now) (name ∷ names)) out err result) (sym (length-map (name ∷ names) (λ (f : Bor (List ℕ)). f.now))) ends
 
-pub none_named : (names : List (Bor (List ℕ))) (terms : Terms) (input : Lent Input) (files : Files) (out err : Lent Output) (result : ℕ) → length names ≡ 0
-    → EndsCheck terms (map (λ (f : Bor (List ℕ)). f.now) names) (foretold input.before.left input.after.left ∷ []) (input.after.failed ∷ []) out err result → EndsNamed terms input files (map (λ (f : Bor (List ℕ)). f.now) names) out err result
+pub none_named : (names : List (Bor (List ℕ))) (terms : ℕ → Terms) (input : Lent Input) (files : Files) (out err : Lent Output) (result : ℕ) → length names ≡ 0
+    → EndsCheck (terms 1) (map (λ (f : Bor (List ℕ)). f.now) names) (foretold input.before.left input.after.left ∷ []) (input.after.failed ∷ []) out err result → EndsNamed terms input files (map (λ (f : Bor (List ℕ)). f.now) names) out err result
 none_named [] terms input files out err result none ends = ends
 none_named (name ∷ names) terms input files out err result none ends = absurd (omega arith)
 

@@ -11,7 +11,7 @@ use Rattle.si_cli.specs.declared.settings.SettingsFault.TheVariants as unsettled
 use Rattle.si_run.specs.declared.statuses.ExitStatus.{ExitStatus}
 use Rattle.si_run.specs.declared.faults.RunFault.{RunFault}
 use Rattle.si_run.specs.declared.faults.RunFault.TheVariants as fault
-use Rattle.si_cli.specs.CommandLines.{AreTooManyFiles, files_given, is_new_alone, rows_given, sicheck_app, terms_of}
+use Rattle.si_cli.specs.CommandLines.{AreTooManyFiles, IsBadPart, files_given, is_bad_part, is_new_alone, rows_given, sicheck_app, terms_of}
 use Rattle.si_run.specs.Endings.{IsMet}
 use Rattle.si_run.specs.Outputs.{Terms, exit_code}
 use Rattle.si_run.specs.Runs.{AppendsBeginning, BeginsText, IsTrueDeviceFault, WritesText}
@@ -38,6 +38,9 @@ files_line = codes "sicheck: too many files\n"
 
 abbrev pub alone_line : List ℕ
 alone_line = codes "sicheck: --new without --every\n"
+
+abbrev pub part_line : List ℕ
+part_line = codes "sicheck: --part needs I/N\n"
 
 abbrev pub words_line : List ℕ
 words_line = codes "sicheck: a word of the command line isn't UTF-8\n"
@@ -127,10 +130,10 @@ EndsFiles terms files names out err result =
     ⊎ (IsUntouched out × Fails err memory_line result)
     ⊎ ((length files.sources ≡ length names) × EndsCheck terms names (each_held (contents files.folder names) files.sources) (each_failed files.sources) out err result)
 
--- the check of the input ends so where no file is named, and else that of the files
-abbrev pub EndsNamed : Terms → Lent Input → Files → List Text → Lent Output → Lent Output → ℕ → Type 0
-EndsNamed terms input files [] out err result = EndsCheck terms [] (foretold input.before.left input.after.left ∷ []) (input.after.failed ∷ []) out err result
-EndsNamed terms input files (name ∷ others) out err result = EndsFiles terms files (name ∷ others) out err result
+-- the check of the input ends so where no file is named, and else that of the files, by these terms of so many sources
+abbrev pub EndsNamed : (ℕ → Terms) → Lent Input → Files → List Text → Lent Output → Lent Output → ℕ → Type 0
+EndsNamed terms input files [] out err result = EndsCheck (terms 1) [] (foretold input.before.left input.after.left ∷ []) (input.after.failed ∷ []) out err result
+EndsNamed terms input files (name ∷ others) out err result = EndsFiles (terms (length (name ∷ others))) files (name ∷ others) out err result
 
 -- ---- how the program ends
 
@@ -155,24 +158,26 @@ EndsLine words error out err result =
 abbrev pub EndsUnsettled : List Text → SettingsFault → Lent Output → Lent Output → ℕ → Type 0
 EndsUnsettled words (unsettled.Line error) out err result = EndsLine words error out err result
 EndsUnsettled words unsettled.NewAlone out err result = IsUntouched out × Fails err alone_line result
+EndsUnsettled words unsettled.BadPart out err result = IsUntouched out × Fails err part_line result
 EndsUnsettled words unsettled.TooManyFiles out err result = IsUntouched out × Fails err files_line result
 
--- what the words say of the text
-abbrev pub terms_given : List Text → Terms
-terms_given words = terms_of (rows_given words)
+-- what the words say of the text of so many sources
+abbrev pub terms_given : List Text → ℕ → Terms
+terms_given words sources = terms_of sources (rows_given words)
 
--- `--new` comes with `--every`, and few enough files are named
+-- `--new` comes with `--every`, `--part` with a partition, and few enough files are named
 abbrev pub AreSettled : List Text → Type 0
-AreSettled words = (is_new_alone (rows_given words) ≡ false) × (length (files_given (rows_given words)) ≤ MOST_FILES)
+AreSettled words = (is_new_alone (rows_given words) ≡ false) × (is_bad_part (rows_given words) ≡ false) × (length (files_given (rows_given words)) ≤ MOST_FILES)
 
--- `--new` comes alone, or else the files are too many, which is told
+-- `--new` comes alone, or else `--part` names no partition, or else the files are too many, which is told
 abbrev pub EndsUnasked : List Text → Lent Output → Lent Output → ℕ → Type 0
 EndsUnasked words out err result =
     ((is_new_alone (rows_given words) ≡ true) × IsUntouched out × Fails err alone_line result)
+    ⊎ (IsBadPart (rows_given words) × IsUntouched out × Fails err part_line result)
     ⊎ (AreTooManyFiles (rows_given words) × IsUntouched out × Fails err files_line result)
 
--- clap tells something of the words, or that memory was refused; or it has no fault to tell, and `--new` comes alone, or they name too many files, or the check
--- of the input or of the files ends, by the terms of the words
+-- clap tells something of the words, or that memory was refused; or it has no fault to tell, and `--new` comes alone, or `--part` with no partition, or they
+-- name too many files, or the check of the input or of the files ends, by the terms of the words
 abbrev pub EndsChecker : List Text → Lent Input → Files → Lent Output → Lent Output → ℕ → Type 0
 EndsChecker words input files out err result =
     ((error : Error) × HasKind (fault_of sicheck_app words) error × EndsLine words error out err result)
@@ -180,8 +185,8 @@ EndsChecker words input files out err result =
     × (EndsUnasked words out err result
     ⊎ (AreSettled words × EndsNamed (terms_given words) input files (files_given (rows_given words)) out err result)))
 
--- with no secret key: clap tells something of the words, or that memory was refused; or it has no fault to tell, and `--new` comes alone, or they name too many files,
--- or ask for a check, which couldn't be made
+-- with no secret key: clap tells something of the words, or that memory was refused; or it has no fault to tell, and `--new` comes alone, or `--part` with no
+-- partition, or they name too many files, or ask for a check, which couldn't be made
 abbrev pub EndsCheckerWithoutKey : List Text → Lent Output → Lent Output → ℕ → Type 0
 EndsCheckerWithoutKey words out err result =
     ((error : Error) × HasKind (fault_of sicheck_app words) error × EndsLine words error out err result)

@@ -3,7 +3,7 @@
 ghost use Rattle.std.specs.Prelude.{◌≡◌, IfOk, map, false};
 ghost use Rattle.clap.specs.declared.builder.command.Command.{Command};
 ghost use Rattle.clap.specs.Words.{AddsSubcommand, FailsBy, app_of, fault_of, rule_of, subcommand_of, subcommand_rows_of, with_subcommand};
-ghost use Rattle.si_cli.specs.CommandLines.{chances_rule, check_app, every_rule, expect_rule, explain_rule, file_rule, horizons_rule, number_rule, only_new_rule, progress_rule, shards_rule, sicheck_app};
+ghost use Rattle.si_cli.specs.CommandLines.{chances_rule, check_app, every_rule, expect_rule, explain_rule, file_rule, horizons_rule, number_rule, only_new_rule, part_rule, progress_rule, shards_rule, sicheck_app};
 
 use crate::helps::MANUAL;
 use clap::builder::ValueParser;
@@ -33,6 +33,9 @@ pub const CHANCES: &str = "chances";
 
 /// The id of the flag that lets lines ask for a horizon.
 pub const HORIZONS: &str = "horizons";
+
+/// The id of the option that says which part of the log is judged.
+pub const PART: &str = "part";
 
 /// The greatest number of places that may be expected.
 pub const MOST_PLACES: u64 = 16_777_216;
@@ -72,7 +75,7 @@ const ABOUT: &str = "Checks a history of transactions against snapshot isolation
 const USAGE: &str = "\
 sicheck check [--shards K] [--every N [--new]] [--explain] [--expect N]
                      [--chances] [--expect-KIND N]... [--horizons]
-                     [--progress] [FILE]...";
+                     [--part I/N] [--progress] [FILE]...";
 
 /// Reads the words of a command line, of which the first is the program's name.
 ///
@@ -114,6 +117,7 @@ fn check<'a>(alloc: Global) -> Result<Command<'a>, AllocError>
         .arg(expect(alloc))?
         .arg(chances(alloc))?
         .arg(horizons(alloc))?
+        .arg(part(alloc))?
         .arg(progress(alloc))?
         .arg(places(alloc, EXPECT_OWN))?
         .arg(places(alloc, EXPECT_ABORTED))?
@@ -200,6 +204,18 @@ fn horizons<'a>(alloc: Global) -> Arg<'a>
         .long("horizons")
         .action(ArgAction::SetTrue)
         .help("Takes lines that let it forget what lies below a stamp")
+}
+
+/// The option that says which part of the log is judged. What isn't `I/N` is told beside what `clap` tells.
+fn part<'a>(alloc: Global) -> Arg<'a>
+    ensures rule { rule_of result ≡ part_rule }
+    ensures local { result.global ≡ false }
+{
+    Arg::new(alloc, PART)
+        .long("part")
+        .value_name("I/N")
+        .action(ArgAction::Set)
+        .help("Judges part I of N of the keys, 0 <= I < N <= 256")
 }
 
 /// An option of that name which says how many places of a kind are expected at least. The usage line of help shows them, and the manual.

@@ -32,7 +32,7 @@ Checks the history in FILEs, or on standard input if none is named
 
 Usage: sicheck check [--shards K] [--every N [--new]] [--explain] [--expect N]
                      [--chances] [--expect-KIND N]... [--horizons]
-                     [--progress] [FILE]...
+                     [--part I/N] [--progress] [FILE]...
 
 Options:
       --shards <K>  Uses K shards, 1 to 16 (else 4), with the same output
@@ -42,6 +42,7 @@ Options:
       --expect <N>  Expects N committed transactions, and none in doubt
       --chances     Tells at how many places a fault would have shown
       --horizons    Takes lines that let it forget what lies below a stamp
+      --part <I/N>  Judges part I of N of the keys, 0 <= I < N <= 256
       --progress    Shows on standard error how far it is, in one line
   -h, --help        Print help
 
@@ -99,6 +100,8 @@ before it had and that is there no more; the last report has all findings.
 With --chances it also tells, for each kind from own on, at how many places a
 likely fault of the database would have been found. With --expect-KIND N, as
 --expect-future 20, the status is 10 in place of 0 where these are fewer.
+With --part I/N each report has a line `part` before its summary: which part,
+and the number of the last line of each FILE that was decided.
 The status is the gate: 20 where snapshot isolation is violated; else 10 where
 the verdict is open or a line was refused, so also where it is clean beside
 refused lines; else 0; and 2 where the check couldn't be made. Status 0 says

@@ -10,6 +10,7 @@ pub mod endings;
 pub mod files;
 mod helps;
 mod judgements;
+mod part_words;
 pub mod programs;
 pub mod settings;
 

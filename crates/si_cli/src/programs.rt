@@ -169,6 +169,7 @@ fn tell_unsettled<S: AsStr, O: ByteSink, E: ByteSink>(
     match fault {
         SettingsFault::Line(error) => tell_line(alloc, words, out, err, error),
         SettingsFault::NewAlone => fail(err, b"sicheck: --new without --every\n"),
+        SettingsFault::BadPart => fail(err, b"sicheck: --part needs I/N\n"),
         SettingsFault::TooManyFiles => fail(err, b"sicheck: too many files\n"),
     }
 }
@@ -198,7 +199,7 @@ fn check_by<
     requires sources { sources.old.items ≡ [] }
     requires input { (I.seen input.old).failed ≡ false }
     requires out { (O.seen out.old).failed ≡ false }
-    ensures { EndsNamed (terms_by options)
+    ensures { EndsNamed (λ sources. terms_by sources options)
         (lent (I.seen input.old) (I.seen input.new))
         (files_of (F.seen files.now) (map F.Source.seen sources.new.items))
         (map (λ name. name.now) names.now)
@@ -248,7 +249,7 @@ fn check_files<R: Threads + Wait + Clock + Sync, F: NamedFiles, O: ByteSink, E: 
     requires some { (1 ≤ length names.now) × (length names.now ≤ MOST_FILES) }
     requires sources { sources.old.items ≡ [] }
     requires out { (O.seen out.old).failed ≡ false }
-    ensures { EndsFiles (terms_by options)
+    ensures { EndsFiles (terms_by (length names.now) options)
         (files_of (F.seen files.now) (map F.Source.seen sources.new.items))
         (map (λ name. name.now) names.now)
         (lent (O.seen out.old) (O.seen out.new))
@@ -306,7 +307,7 @@ fn check<R: Threads + Wait + Clock + Sync, I: ByteSource + Send, O: ByteSink, E:
     requires some { (1 ≤ length sources.old) × (length sources.old ≤ MOST_FILES) }
     requires sources { All (λ s. (I.seen s).failed ≡ false) sources.old }
     requires out { (O.seen out.old).failed ≡ false }
-    ensures { EndsCheck (terms_by options) (map (λ name. name.now) names.now) (each_foretold (map I.seen sources.old) (map I.seen sources.new))
+    ensures { EndsCheck (terms_by (length sources.old) options) (map (λ name. name.now) names.now) (each_foretold (map I.seen sources.old) (map I.seen sources.new))
         (each_failed (map I.seen sources.new))
         (lent (O.seen out.old) (O.seen out.new))
         (lent (E.seen err.old) (E.seen err.new)) result }

@@ -2,16 +2,18 @@
 
 ghost use Rattle.std.specs.Prelude.{◌≡◌, ◌≤◌, ◌&&◌, ℕ, map, false, is_none, IfOk};
 ghost use Rattle.clap.specs.Words.{found_of, rows_of};
-ghost use Rattle.si_cli.specs.CommandLines.{IsToldBy, IsReadOf, NumberFits, NumbersFit, chances_given, files_given, every_given, expected_given, flag_given, number_given, places_given, shards_given, terms_of};
+ghost use Rattle.si_cli.specs.CommandLines.{IsToldBy, IsReadOf, NumberFits, NumbersFit, asked_with, chances_given, files_given, every_given, expected_given, flag_given, is_bad_part, number_given, part_given, places_given, shards_given, terms_of};
 ghost use Rattle.si_run.specs.Runs.{every_by, terms_by};
 
 use crate::Options;
 use crate::command_lines::{
     CHANCES, EVERY, EXPECT, EXPECT_ABORTED, EXPECT_FUTURE, EXPECT_INTERMEDIATE, EXPECT_OVERLAP,
-    EXPECT_OWN, EXPECT_STALE, EXPLAIN, FILE, HORIZONS, NEW, PROGRESS, SHARDS, parse,
+    EXPECT_OWN, EXPECT_STALE, EXPLAIN, FILE, HORIZONS, NEW, PART, PROGRESS, SHARDS, parse,
 };
+use crate::part_words::partition_in;
 use clap::ArgMatches;
 use si_model::MOST_EDITS;
+use si_partitions::Partition;
 use si_run::options::USUAL_SHARDS;
 use si_shard::MOST_SHARDS;
 use si_text::{Asked, ExpectedPlaces};
@@ -32,6 +34,7 @@ const USUAL: Options = Options {
     expected: None,
     asked: NOTHING_ASKED,
     horizons: false,
+    part: None,
     shows_progress: false,
     limit: MOST_EDITS,
 };
@@ -63,6 +66,8 @@ pub enum SettingsFault {
     Line(clap::Error),
     /// The words ask that reports on the way tell only what changed, and for no reports on the way.
     NewAlone,
+    /// The words ask for a part that isn't one of those that there may be.
+    BadPart,
     /// The words name over `MOST_FILES` files.
     TooManyFiles,
 }
@@ -72,6 +77,7 @@ impl fmt::Display for SettingsFault {
         match self {
             SettingsFault::Line(error) => write!(f, "{error}"),
             SettingsFault::NewAlone => write!(f, "--new without --every"),
+            SettingsFault::BadPart => write!(f, "--part needs I/N"),
             SettingsFault::TooManyFiles => write!(f, "too many files"),
         }
     }
@@ -81,12 +87,12 @@ impl std::error::Error for SettingsFault {}
 
 /// What the words of a command line ask for, of which the first is the program's name.
 ///
-/// They are `sicheck check [--shards K] [--every N [--new]] [--explain] [--expect N] [--chances] [--expect-KIND N]... [--horizons] [--progress]
-/// [FILE]...`,
+/// They are `sicheck check [--shards K] [--every N [--new]] [--explain] [--expect N] [--chances] [--expect-KIND N]... [--horizons] [--part I/N]
+/// [--progress] [FILE]...`,
 /// with K from 1 to `MOST_SHARDS`, `USUAL_SHARDS` where it isn't given, N of `--every` from 1 to `MOST_EVERY`, N of `--expect` and of each
-/// `--expect-KIND` from 0 to `MOST_EDITS`, and KIND `own`, `aborted`, `intermediate`, `future`, `stale` or `overlap`. A fault is one that
-/// `clap`'s definition of the command tells of the words, or that memory was refused, or that `--new` comes without `--every`, or that they name
-/// too many files.
+/// `--expect-KIND` from 0 to `MOST_EDITS`, KIND `own`, `aborted`, `intermediate`, `future`, `stale` or `overlap`, and of `--part` I less than N and
+/// that at most `MOST_PARTITIONS`. A fault is one that `clap`'s definition of the command tells of the words, or that memory was refused, or that
+/// `--new` comes without `--every`, or else that `--part` has no such I and N, or else that they name too many files.
 pub fn settings_of<'a, S: AsStr>(
     alloc: Global,
     words: &'a [S],
@@ -118,6 +124,9 @@ fn read<'a>(alloc: Global, check: &ArgMatches<'a>) -> Result<Settings<'a>, Setti
     if is_new_alone(&options) {
         return Err(SettingsFault::NewAlone);
     }
+    if is_bad_part(check, options.part) {
+        return Err(SettingsFault::BadPart);
+    }
     if files.len() > MOST_FILES {
         return Err(SettingsFault::TooManyFiles);
     }
@@ -129,6 +138,14 @@ fn is_new_alone(options: &Options) -> bool
     ensures { result ≡ (options.now.only_new && is_none options.now.every) }
 {
     options.only_new && options.every.is_none()
+}
+
+/// Whether `--part` is there, and no partition was read of it.
+fn is_bad_part(check: &ArgMatches<'_>, part: Option<Partition>) -> bool
+    requires { part ≡ part_given (rows_of (found_of check.now)) }
+    ensures { result ≡ is_bad_part (rows_of (found_of check.now)) }
+{
+    check.get_str(PART).is_some() && part.is_none()
 }
 
 /// The files that are named.
@@ -198,6 +215,30 @@ fn asked_of(check: &ArgMatches<'_>) -> Asked
     }
 }
 
+/// The partition that the option `--part` names, if it is there and names one.
+fn part_of(check: &ArgMatches<'_>) -> Option<Partition>
+    ensures { result ≡ part_given (rows_of (found_of check.now)) }
+{
+    match check.get_str(PART) {
+        Some(text) => partition_in(text),
+        None => None,
+    }
+}
+
+/// What is asked where a partition may be judged: it tells its places wherever something is asked of them, so that those of all partitions
+/// can be added.
+fn asked_with(part: Option<Partition>, asked: Asked) -> Asked
+    ensures { result ≡ asked_with part asked }
+{
+    match part {
+        None => asked,
+        Some(_) => Asked {
+            tells: asked.is_some(),
+            expected: asked.expected,
+        },
+    }
+}
+
 /// Whether the flag of that name is there.
 fn has_flag(check: &ArgMatches<'_>, name: &str) -> bool
     ensures { result ≡ flag_given name.now (rows_of (found_of check.now)) }
@@ -211,18 +252,20 @@ fn has_flag(check: &ArgMatches<'_>, name: &str) -> bool
 /// The program's options.
 fn options_of(check: &ArgMatches<'_>) -> Options
     requires { NumbersFit (rows_of (found_of check.now)) }
-    ensures terms { terms_by result ≡ terms_of (rows_of (found_of check.now)) }
+    ensures terms { (sources : ℕ) → terms_by sources result ≡ terms_of sources (rows_of (found_of check.now)) }
     ensures spread { result.shards ≡ shards_given (rows_of (found_of check.now)) }
     ensures shards { (1 ≤ result.shards) × (result.shards ≤ MOST_SHARDS) }
 {
+    let part = part_of(check);
     Options {
         shards: shards_of(check),
         every: every_of(check),
         only_new: has_flag(check, NEW),
         explain: has_flag(check, EXPLAIN),
         expected: expected_of(check),
-        asked: asked_of(check),
+        asked: asked_with(part, asked_of(check)),
         horizons: has_flag(check, HORIZONS),
+        part,
         shows_progress: has_flag(check, PROGRESS),
         limit: MOST_EDITS,
     }

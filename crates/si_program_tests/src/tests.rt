@@ -1,7 +1,9 @@
 //! What lines say, what is written, what comes of several sources, and how runs and the whole program end.
 
-ghost use Rattle.std.specs.Prelude.{◌≡◌, [], false};
+ghost use Rattle.std.specs.Prelude.{◌≡◌, ◌≤◌, [], false};
 ghost use Rattle.std.specs.Mem.{FitsInMemory};
+ghost use Rattle.std.specs.Option.{IfSome};
+ghost use Rattle.si_partitions.specs.declared.partitions.TheConstants.{MOST_PARTITIONS};
 
 mod chances;
 mod evidence;
@@ -13,12 +15,14 @@ mod interruptions;
 mod long_runs;
 mod named_files;
 mod news;
+mod parts;
 mod programs;
 mod rows;
 mod runs;
 mod set_ups;
 
 use si_cli::{ExitStatus, NamedFiles, Options, RunFault, main_with, run};
+use si_partitions::{MOST_PARTITIONS, Partition};
 use si_text::memory::{MemorySink, MemorySource};
 use si_text::{Asked, ByteSink, ByteSource, ExpectedPlaces, Foreseen};
 use std::alloc::AllocGlobal;
@@ -41,6 +45,7 @@ const PLAIN: Options = Options {
     expected: None,
     asked: NOTHING_ASKED,
     horizons: false,
+    part: None,
     shows_progress: false,
     limit: 16_777_216,
 };
@@ -126,6 +131,15 @@ fn is_in_range(options: Options) -> bool {
     1 <= options.shards && options.shards <= 16 && 1 <= options.limit && options.limit <= 16_777_216
 }
 
+/// There are no more partitions than there may be.
+fn are_few(rt: &impl Abort, part: Option<Partition>)
+    ensures { IfSome part (λ p. p.count ≤ MOST_PARTITIONS) }
+{
+    if let Some(part) = part {
+        assert!(rt; part.count <= MOST_PARTITIONS);
+    }
+}
+
 /// A secret key for the hash maps.
 fn secret_key(rt: &impl Host) -> RandomState {
     RandomState::new(rt).expect(rt, "a secret key")
@@ -142,6 +156,7 @@ fn ended<H: Host, S: ByteSource + Send, W: ByteSink>(
     requires source { (S.seen source.old).failed ≡ false }
     requires sink { (W.seen sink.old).failed ≡ false }
 {
+    are_few(rt, options.part);
     let hash = secret_key(rt);
     run(rt, rt.alloc(), hash, slice::from_mut(source), sink, options)
 }

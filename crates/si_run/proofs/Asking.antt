@@ -1,6 +1,6 @@
 -- A line that asks for a horizon, where horizons are taken.
 use Rattle.std.proofs.Common.{◌≡◌, ◌≢◌, ◌∙◌, ℕ, ◌+◌, Bool, true, false, List, [], ◌++◌, Option, Some, None, refl, sym, ap}
-use Rattle.std.specs.Prelude.{Result, Ok, Err, if◌then◌else◌, is_some}
+use Rattle.std.specs.Prelude.{Result, Ok, Err, if◌then◌else◌, is_some, slice_set}
 use Rattle.std.proofs.lemmas.Option.{none-some}
 use Rattle.si_model.specs.declared.edits.Edit.{Edit}
 use Rattle.si_model.specs.declared.numbers.Stamp.{Stamp}
@@ -48,15 +48,15 @@ module _ (terms : Terms) (p : Progress) (s l : ℕ) (H : Stamp) (takes : terms.h
 
   -- it is refused
   module _ (r : Reason) (is : horizon_reason terms.limit p H ≡ Some r) where
-    pub refused_decided : decided_after terms p item ≡ one_more p (Some r)
+    pub refused_decided : decided_after terms p item ≡ one_more s l p (Some r)
     unfolding decided_after
-    refused_decided = ap (λ (o : Option Reason). record (taken_by o item.1.1 p) { decided = p.decided + 1; refused = counted p.refused o }) (reason_is (Some r) is)
+    refused_decided = ap (λ (o : Option Reason). record (taken_by o item.1.1 p) { decided = p.decided + 1; refused = counted p.refused o; lines = slice_set p.lines s l }) (reason_is (Some r) is)
 
-    pub refused_text : refusal_line s l (Some r) ++ report_due terms (one_more p (Some r)) ≡ item_text terms p item
+    pub refused_text : refusal_line s l (Some r) ++ report_due terms (one_more s l p (Some r)) ≡ item_text terms p item
     unfolding item_text
     refused_text = sym (λ i. told_text terms item p (refused_decided i) (reason_is (Some r) is i) ++ report_due terms (refused_decided i))
 
-    pub refused_progress : behind_report terms (one_more p (Some r)) ≡ progress_after terms p item
+    pub refused_progress : behind_report terms (one_more s l p (Some r)) ≡ progress_after terms p item
     unfolding progress_after
     refused_progress = sym (ap (behind_report terms) refused_decided)
 
@@ -65,14 +65,14 @@ module _ (terms : Terms) (p : Progress) (s l : ℕ) (H : Stamp) (takes : terms.h
 
   -- it is taken
   module _ (free : horizon_reason terms.limit p H ≡ None) where
-    over_decided : decided_after terms p item ≡ decided_over H p
+    over_decided : decided_after terms p item ≡ decided_over s l H p
     unfolding decided_after over
-    over_decided = ap (λ (o : Option Reason). record (taken_by o item.1.1 p) { decided = p.decided + 1; refused = counted p.refused o }) (reason_is None free)
+    over_decided = ap (λ (o : Option Reason). record (taken_by o item.1.1 p) { decided = p.decided + 1; refused = counted p.refused o; lines = slice_set p.lines s l }) (reason_is None free)
 
-    pub over_text_is : over_text terms H p ≡ item_text terms p item
+    pub over_text_is : over_text terms s l H p ≡ item_text terms p item
     unfolding item_text
     over_text_is = sym (λ i. told_text terms item p (over_decided i) (reason_is None free i) ++ report_due terms (over_decided i))
 
-    pub over_progress : behind_report terms (decided_over H p) ≡ progress_after terms p item
+    pub over_progress : behind_report terms (decided_over s l H p) ≡ progress_after terms p item
     unfolding progress_after
     over_progress = sym (ap (behind_report terms) over_decided)

@@ -21,8 +21,8 @@ use Rattle.si_model.proofs.InOrder.{sorted-in_order}
 use Rattle.si_text.specs.declared.faults.LineFault.{LineFault}
 use Rattle.si_text.specs.declared.faults.LineFault.TheVariants as fault
 use Rattle.si_text.specs.declared.reasons.Reason.{Reason}
-use Rattle.si_text.specs.Texts.{forgot_lines, is_violation, not_among}
-use Rattle.si_run.specs.Outputs.{Progress, SourcedItem, Terms, behind_report, changes_at, counted, decided_after, finals_at, forgot_in, forgotten_at, horizon_reason, is_due, over, progress_after, progress_through, reason_after, report_at, report_due, report_on_the_way, start, status_at, status_of, summary_at, taken_by, violations_at, whole_report_at}
+use Rattle.si_text.specs.Texts.{is_violation, not_among}
+use Rattle.si_run.specs.Outputs.{Progress, SourcedItem, Terms, behind_report, changes_at, counted, decided_after, finals_at, forgotten_at, horizon_reason, is_due, over, progress_after, progress_through, reason_after, report_at, report_due, report_end, report_on_the_way, start, status_at, status_of, summary_at, taken_by, violations_at, whole_report_at}
 use Rattle.si_run.specs.Laws.{Changes, ChangesAreText, ChangesEndAlike, ChangesTellAll, IsToldStill, changes_due, changes_lines, changes_through}
 use Rattle.si_run.proofs.Beginnings.{counts_on, progress_through-push}
 use Rattle.si_run.proofs.PlainRuns.{none_forgotten, told_plain}
@@ -222,7 +222,7 @@ unfolding changes_at
 are_text terms p only = by (is_due terms.every p.decided) refl
   where
     told : Changes → List ℕ
-    told c = changes_lines terms.explain c ++ (forgot_lines (forgot_in p) ++ summary_at p)
+    told c = changes_lines terms.explain c ++ report_end terms p
 
     by : (b : Bool) → is_due terms.every p.decided ≡ b → report_due terms p ≡ flat_map told (changes_due terms p)
     by b due =
@@ -239,27 +239,28 @@ record AreAlike (p r : Progress) : Type 0 where
   journal : p.journal ≡ r.journal
   decided : p.decided ≡ r.decided
   refused : p.refused ≡ r.refused
+  lines : p.lines ≡ r.lines
   forgotten : p.forgotten ≡ r.forgotten
 
 behind_alike : (terms : Terms) (p : Progress) → AreAlike (behind_report terms p) p
 unfolding behind_report
 behind_alike terms p = elim (is_due terms.every p.decided && terms.only_new) as (λ b. AreAlike (cond b (record p { told = violations_at p }) p) p) [
-  | true ↦ record { journal = refl; decided = refl; refused = refl; forgotten = refl }
-  | false ↦ record { journal = refl; decided = refl; refused = refl; forgotten = refl }
+  | true ↦ record { journal = refl; decided = refl; refused = refl; lines = refl; forgotten = refl }
+  | false ↦ record { journal = refl; decided = refl; refused = refl; lines = refl; forgotten = refl }
 ]
 
 then_alike : (p q r : Progress) → AreAlike p q → AreAlike q r → AreAlike p r
-then_alike p q r a b = record { journal = a.journal ∙ b.journal; decided = a.decided ∙ b.decided; refused = a.refused ∙ b.refused; forgotten = a.forgotten ∙ b.forgotten }
+then_alike p q r a b = record { journal = a.journal ∙ b.journal; decided = a.decided ∙ b.decided; refused = a.refused ∙ b.refused; lines = a.lines ∙ b.lines; forgotten = a.forgotten ∙ b.forgotten }
 
 turn_alike : (p r : Progress) → AreAlike p r → AreAlike r p
-turn_alike p r a = record { journal = sym a.journal; decided = sym a.decided; refused = sym a.refused; forgotten = sym a.forgotten }
+turn_alike p r a = record { journal = sym a.journal; decided = sym a.decided; refused = sym a.refused; lines = sym a.lines; forgotten = sym a.forgotten }
 
 -- the same but for what was told, which is r's
 abbrev with_told : Progress → Progress → Progress
 with_told p r = record p { told = r.told }
 
 given_told : (p r : Progress) → AreAlike p r → with_told p r ≡ r
-given_told p r a = λ i. record { journal = a.journal i; decided = a.decided i; refused = a.refused i; told = r.told; forgotten = a.forgotten i }
+given_told p r a = λ i. record { journal = a.journal i; decided = a.decided i; refused = a.refused i; lines = a.lines i; told = r.told; forgotten = a.forgotten i }
 
 -- what was told is no reason
 reason_alike : (terms : Terms) (p : Progress) (told : List Finding) (answer : Result Edit LineFault) → reason_after terms (record p { told = told }) answer ≡ reason_after terms p answer
@@ -279,19 +280,19 @@ reason_alike terms p told (Err fault.OutOfMemory) = refl
 
 taken_alike : (p : Progress) (told : List Finding) (o : Option Reason) (answer : Result Edit LineFault) → AreAlike (taken_by o answer (record p { told = told })) (taken_by o answer p)
 unfolding over forgotten_at finals_at
-taken_alike p told (Some reason) answer = record { journal = refl; decided = refl; refused = refl; forgotten = refl }
-taken_alike p told None (Ok e) = record { journal = refl; decided = refl; refused = refl; forgotten = refl }
-taken_alike p told None (Err (fault.Forget None)) = record { journal = refl; decided = refl; refused = refl; forgotten = refl }
-taken_alike p told None (Err (fault.Forget (Some H))) = record { journal = refl; decided = refl; refused = refl; forgotten = refl }
-taken_alike p told None (Err fault.TooLong) = record { journal = refl; decided = refl; refused = refl; forgotten = refl }
-taken_alike p told None (Err fault.NotJson) = record { journal = refl; decided = refl; refused = refl; forgotten = refl }
-taken_alike p told None (Err fault.NotObject) = record { journal = refl; decided = refl; refused = refl; forgotten = refl }
-taken_alike p told None (Err fault.BadKind) = record { journal = refl; decided = refl; refused = refl; forgotten = refl }
-taken_alike p told None (Err (fault.BadField field)) = record { journal = refl; decided = refl; refused = refl; forgotten = refl }
-taken_alike p told None (Err fault.BadStatus) = record { journal = refl; decided = refl; refused = refl; forgotten = refl }
-taken_alike p told None (Err fault.TooManyOps) = record { journal = refl; decided = refl; refused = refl; forgotten = refl }
-taken_alike p told None (Err (fault.BadOp index)) = record { journal = refl; decided = refl; refused = refl; forgotten = refl }
-taken_alike p told None (Err fault.OutOfMemory) = record { journal = refl; decided = refl; refused = refl; forgotten = refl }
+taken_alike p told (Some reason) answer = record { journal = refl; decided = refl; refused = refl; lines = refl; forgotten = refl }
+taken_alike p told None (Ok e) = record { journal = refl; decided = refl; refused = refl; lines = refl; forgotten = refl }
+taken_alike p told None (Err (fault.Forget None)) = record { journal = refl; decided = refl; refused = refl; lines = refl; forgotten = refl }
+taken_alike p told None (Err (fault.Forget (Some H))) = record { journal = refl; decided = refl; refused = refl; lines = refl; forgotten = refl }
+taken_alike p told None (Err fault.TooLong) = record { journal = refl; decided = refl; refused = refl; lines = refl; forgotten = refl }
+taken_alike p told None (Err fault.NotJson) = record { journal = refl; decided = refl; refused = refl; lines = refl; forgotten = refl }
+taken_alike p told None (Err fault.NotObject) = record { journal = refl; decided = refl; refused = refl; lines = refl; forgotten = refl }
+taken_alike p told None (Err fault.BadKind) = record { journal = refl; decided = refl; refused = refl; lines = refl; forgotten = refl }
+taken_alike p told None (Err (fault.BadField field)) = record { journal = refl; decided = refl; refused = refl; lines = refl; forgotten = refl }
+taken_alike p told None (Err fault.BadStatus) = record { journal = refl; decided = refl; refused = refl; lines = refl; forgotten = refl }
+taken_alike p told None (Err fault.TooManyOps) = record { journal = refl; decided = refl; refused = refl; lines = refl; forgotten = refl }
+taken_alike p told None (Err (fault.BadOp index)) = record { journal = refl; decided = refl; refused = refl; lines = refl; forgotten = refl }
+taken_alike p told None (Err fault.OutOfMemory) = record { journal = refl; decided = refl; refused = refl; lines = refl; forgotten = refl }
 
 module _ (terms : Terms) (only_new : Bool) where
   abbrev other : Terms
@@ -319,7 +320,7 @@ module _ (terms : Terms) (only_new : Bool) where
       let t = taken_alike p told (reason_after terms p answer) answer in
       let first : AreAlike (taken_by (reason_after other (record p { told = told }) answer) answer (record p { told = told })) (taken_by (reason_after terms p answer) answer p) =
       subst (λ (o : Option Reason). AreAlike (taken_by o answer (record p { told = told })) (taken_by (reason_after terms p answer) answer p)) (sym reason) t in
-      record { journal = first.journal; decided = refl; refused = ap (λ (o : Option Reason). counted p.refused o) reason; forgotten = first.forgotten }
+      record { journal = first.journal; decided = refl; refused = ap (λ (o : Option Reason). counted p.refused o) reason; lines = refl; forgotten = first.forgotten }
 
   one_alike : (p r : Progress) (item : SourcedItem) → AreAlike p r → AreAlike (progress_after other p item) (progress_after terms r item)
   unfolding progress_after
@@ -351,7 +352,7 @@ module _ (terms : Terms) (only_new : Bool) where
 pub end_alike : ChangesEndAlike
 unfolding status_of
 end_alike terms only_new items =
-    let a = all_alike terms only_new start start items (record { journal = refl; decided = refl; refused = refl; forgotten = refl }) in (
+    let a = all_alike terms only_new start start items (record { journal = refl; decided = refl; refused = refl; lines = refl; forgotten = refl }) in (
       report_alike terms only_new _ _ a,
       status_alike terms only_new _ _ a,
     )

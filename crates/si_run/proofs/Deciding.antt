@@ -1,6 +1,6 @@
 -- What becomes of an item that asks for no horizon.
 use Rattle.std.proofs.Common.{◌≡◌, ◌⊎◌, ◌≢◌, ◌∙◌, inl, inr, ℕ, ◌+◌, Bool, true, false, List, [], ◌∷◌, ◌++◌, Option, Some, None, refl, sym, ap, subst}
-use Rattle.std.specs.Prelude.{Result, Ok, Err, IsSome, if◌then◌else◌}
+use Rattle.std.specs.Prelude.{Result, Ok, Err, IsSome, if◌then◌else◌, slice_set}
 use Rattle.si_model.specs.declared.numbers.Stamp.{Stamp}
 use Rattle.si_model.specs.declared.edits.Edit.{Edit}
 use Rattle.si_text.specs.declared.faults.LineFault.{LineFault}
@@ -49,32 +49,33 @@ plain_text terms p item plain =
 record KeepsCounts (p q : Progress) : Type 0 where
   decided : q.decided ≡ p.decided
   refused : q.refused ≡ p.refused
+  lines : q.lines ≡ p.lines
 
 fault_keeps : (f : LineFault) (p : Progress) → KeepsCounts p (fault_taken f p)
 unfolding over
-fault_keeps (fault.Forget None) p = record { decided = refl; refused = refl }
-fault_keeps (fault.Forget (Some H)) p = record { decided = refl; refused = refl }
-fault_keeps fault.TooLong p = record { decided = refl; refused = refl }
-fault_keeps fault.NotJson p = record { decided = refl; refused = refl }
-fault_keeps fault.NotObject p = record { decided = refl; refused = refl }
-fault_keeps fault.BadKind p = record { decided = refl; refused = refl }
-fault_keeps (fault.BadField field) p = record { decided = refl; refused = refl }
-fault_keeps fault.BadStatus p = record { decided = refl; refused = refl }
-fault_keeps fault.TooManyOps p = record { decided = refl; refused = refl }
-fault_keeps (fault.BadOp index) p = record { decided = refl; refused = refl }
-fault_keeps fault.OutOfMemory p = record { decided = refl; refused = refl }
+fault_keeps (fault.Forget None) p = record { decided = refl; refused = refl; lines = refl }
+fault_keeps (fault.Forget (Some H)) p = record { decided = refl; refused = refl; lines = refl }
+fault_keeps fault.TooLong p = record { decided = refl; refused = refl; lines = refl }
+fault_keeps fault.NotJson p = record { decided = refl; refused = refl; lines = refl }
+fault_keeps fault.NotObject p = record { decided = refl; refused = refl; lines = refl }
+fault_keeps fault.BadKind p = record { decided = refl; refused = refl; lines = refl }
+fault_keeps (fault.BadField field) p = record { decided = refl; refused = refl; lines = refl }
+fault_keeps fault.BadStatus p = record { decided = refl; refused = refl; lines = refl }
+fault_keeps fault.TooManyOps p = record { decided = refl; refused = refl; lines = refl }
+fault_keeps (fault.BadOp index) p = record { decided = refl; refused = refl; lines = refl }
+fault_keeps fault.OutOfMemory p = record { decided = refl; refused = refl; lines = refl }
 
 keeps_counts : (o : Option Reason) (answer : Result Edit LineFault) (p : Progress) → KeepsCounts p (taken_by o answer p)
-keeps_counts (Some reason) answer p = record { decided = refl; refused = refl }
-keeps_counts None (Ok e) p = record { decided = refl; refused = refl }
+keeps_counts (Some reason) answer p = record { decided = refl; refused = refl; lines = refl }
+keeps_counts None (Ok e) p = record { decided = refl; refused = refl; lines = refl }
 keeps_counts None (Err f) p = fault_keeps f p
 
-pub plain_decided : (terms : Terms) (p : Progress) (item : SourcedItem) → one_more (taken_by (reason_after terms p item.1.1) item.1.1 p) (reason_after terms p item.1.1) ≡ decided_after terms p item
+pub plain_decided : (terms : Terms) (p : Progress) (item : SourcedItem) → one_more item.0 item.1.0 (taken_by (reason_after terms p item.1.1) item.1.1 p) (reason_after terms p item.1.1) ≡ decided_after terms p item
 unfolding decided_after
 plain_decided terms p item =
     let reason = reason_after terms p item.1.1 in
     let k = keeps_counts reason item.1.1 p in
-    λ i. record (taken_by reason item.1.1 p) { decided = k.decided i + 1; refused = counted (k.refused i) reason }
+    λ i. record (taken_by reason item.1.1 p) { decided = k.decided i + 1; refused = counted (k.refused i) reason; lines = slice_set (k.lines i) item.0 item.1.0 }
 
 -- an item that isn't done with has a text, where it is refused or a report is due
 pub left_at : (terms : Terms) (p : Progress) (item : SourcedItem) → IsSome (reason_after terms p item.1.1) ⊎ (is_due terms.every (p.decided + 1) ≡ true) → item_text terms p item ≢ []

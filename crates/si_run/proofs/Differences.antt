@@ -186,12 +186,12 @@ pub now_told : (J : List Edit) (before now : Told) (more less : List Finding) �
 now_told J before now more less was change after = after (found_then J before.at) (findings (present J)) change was
 
 -- the engine is as it was but for what was told
-pub told_state : (terms : Terms) (pass : PassView) (decided refused : ℕ) (before t : Told) (listed : Option (List Finding)) (forgotten : Option Forgotten) (s : EngineState)
-    → engine_state terms pass decided refused before listed forgotten ≡ s → t.at ≡ length s.progress.journal
-    → engine_state terms pass decided refused t None forgotten ≡ record s { progress = record s.progress { told = violations_at s.progress } }
-told_state terms pass decided refused before t listed forgotten s is end =
-    subst (λ (x : EngineState). t.at ≡ length x.progress.journal → engine_state terms pass decided refused t None forgotten ≡ record x { progress = record x.progress { told = violations_at x.progress } }) is
+pub told_state : (terms : Terms) (pass : PassView) (decided refused : ℕ) (lines : List ℕ) (before t : Told) (listed : Option (List Finding)) (forgotten : Option Forgotten) (s : EngineState)
+    → engine_state terms pass decided refused lines before listed forgotten ≡ s → t.at ≡ length s.progress.journal
+    → engine_state terms pass decided refused lines t None forgotten ≡ record s { progress = record s.progress { told = violations_at s.progress } }
+told_state terms pass decided refused lines before t listed forgotten s is end =
+    subst (λ (x : EngineState). t.at ≡ length x.progress.journal → engine_state terms pass decided refused lines t None forgotten ≡ record x { progress = record x.progress { told = violations_at x.progress } }) is
     (λ far.
     (let all : take t.at (edits_of pass.seen) ≡ edits_of pass.seen = all_told (edits_of pass.seen) t.at far in
-    λ i. record { terms = terms; progress = record { journal = edits_of pass.seen; decided = decided; refused = refused; told = violations_of (findings (present (all i))); forgotten = forgotten } }))
+    λ i. record { terms = terms; progress = record { journal = edits_of pass.seen; decided = decided; refused = refused; lines = lines; told = violations_of (findings (present (all i))); forgotten = forgotten } }))
     end

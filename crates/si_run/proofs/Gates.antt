@@ -1,5 +1,5 @@
 -- What the exit status says.
-use Rattle.std.proofs.Common.{◌≡◌, ◌⊎◌, ⊎_elim, inl, inr, ℕ, ◌+◌, ◌<◌, ◌≤◌, ◌==◌, ◌&&◌, ◌||◌, Bool, true, false, not, cond, nat_lt, length, List, [], ◌∷◌, ◌++◌, Option, Some, None, refl, sym, ap, ap₂, subst, ◌∙◌, append_assoc, arith}
+use Rattle.std.proofs.Common.{◌≡◌, ◌⊎◌, ⊎_elim, inl, inr, ℕ, ◌+◌, ◌<◌, ◌≤◌, ◌==◌, ◌&&◌, ◌||◌, Bool, true, false, not, cond, nat_lt, length, slice_set, List, [], ◌∷◌, ◌++◌, Option, Some, None, refl, sym, ap, ap₂, subst, ◌∙◌, append_assoc, arith}
 use Rattle.std.specs.Prelude.{◌↔◌, Result, Ok, Err, if◌then◌else◌, nat_le, ⊤}
 use Rattle.std.specs.List.{Contains, flat_map, list_any}
 use Rattle.std.specs.Option.{option_map, option_or}
@@ -31,7 +31,7 @@ use Rattle.si_text.specs.declared.verdicts.Verdict.TheVariants as verdict
 use Rattle.si_text.specs.declared.endings.ExpectedPlaces.{ExpectedPlaces}
 use Rattle.si_text.specs.Texts.{are_few, few_lines, finding_lines, forgot_lines, is_few, is_violation, told_chances, verdict_of, verdict_with, violations_of}
 use Rattle.si_run.specs.declared.statuses.ExitStatus.TheVariants as exit
-use Rattle.si_run.specs.Outputs.{Forgotten, Progress, SourcedItem, Terms, answer_told, behind_report, changes_at, committed_in, counted, decided_after, doubtful_in, falls_short, fault_taken, finals_at, forgot_in, forgotten_at, horizon_text, is_short_of, item_text, items_text, late_by, output_of, over, progress_after, progress_through, reason_after, report_at, report_due, short_line, start, status_at, status_by, status_of, sum_with, summary_at, taken_by, told_of, told_text, verdict_at, whole_report_at}
+use Rattle.si_run.specs.Outputs.{Forgotten, Progress, SourcedItem, Terms, answer_told, behind_report, changes_at, committed_in, counted, decided_after, doubtful_in, falls_short, fault_taken, finals_at, forgot_in, forgotten_at, horizon_text, is_short_of, item_text, items_text, late_by, output_of, over, part_line, progress_after, progress_through, reason_after, report_at, report_due, short_line, start, status_at, status_by, status_of, sum_with, summary_at, taken_by, told_of, told_text, verdict_at, whole_report_at}
 use Rattle.si_run.specs.Laws.{refused_among}
 use Rattle.si_run.specs.GateLaws.{AreEnough, ExpectAdds, GateIsExact, HasEnough, HasFinalViolation, HasNoFinals, IsEnough, ViolationIsExact, WithoutHorizons, unasked}
 use Rattle.si_run.proofs.PlainRuns.{behind_forgotten, behind_journal, counts, journals, never_forgotten}
@@ -387,7 +387,7 @@ module _ (terms : Terms) where
   unfolding decided_after
   decided_unasked p item = λ i.
       let reason = reason_unasked p item.1.1 i in
-      record (taken_by reason item.1.1 p) { decided = p.decided + 1; refused = counted p.refused reason }
+      record (taken_by reason item.1.1 p) { decided = p.decided + 1; refused = counted p.refused reason; lines = slice_set p.lines item.0 item.1.0 }
 
   one_unasked : (p : Progress) (item : SourcedItem) → progress_after (unasked terms) p item ≡ progress_after terms p item
   unfolding progress_after behind_report
@@ -444,12 +444,14 @@ short_status verdict.Clean n short = by (n == 0) short
     by false true = inl refl
     by false false = inl refl
 
-regroup : (before found below told short last : List ℕ) → before ++ (found ++ (below ++ ((told ++ short) ++ last))) ≡ (before ++ (found ++ (below ++ told))) ++ (short ++ last)
-regroup before found below told short last =
-    ap (λ l. before ++ (found ++ (below ++ l))) (append_assoc told short last)
-    ∙ ap (λ l. before ++ (found ++ l)) (sym (append_assoc below told (short ++ last)))
-    ∙ ap (λ l. before ++ l) (sym (append_assoc found (below ++ told) (short ++ last)))
-    ∙ sym (append_assoc before (found ++ (below ++ told)) (short ++ last))
+regroup : (before found part below told short last : List ℕ)
+    → before ++ (found ++ (part ++ (below ++ ((told ++ short) ++ last)))) ≡ (before ++ (found ++ (part ++ (below ++ told)))) ++ (short ++ last)
+regroup before found part below told short last =
+    ap (λ l. before ++ (found ++ (part ++ (below ++ l)))) (append_assoc told short last)
+    ∙ ap (λ l. before ++ (found ++ (part ++ l))) (sym (append_assoc below told (short ++ last)))
+    ∙ ap (λ l. before ++ (found ++ l)) (sym (append_assoc part (below ++ told) (short ++ last)))
+    ∙ ap (λ l. before ++ l) (sym (append_assoc found (part ++ (below ++ told)) (short ++ last)))
+    ∙ sym (append_assoc before (found ++ (part ++ (below ++ told))) (short ++ last))
 
 pub expect_adds : ExpectAdds
 unfolding status_of status_at output_of report_at
@@ -457,11 +459,11 @@ expect_adds terms items = (
   subst (λ (q : Progress). (status_at terms p ≡ status_at (unasked terms) q) ⊎ ((status_at (unasked terms) q ≡ exit.Clean) × (status_at terms p ≡ exit.Open))) (sym same)
       (short_status (verdict_at p) p.refused (falls_short terms p)),
   (
-    items_text terms start items ++ (found ++ (below ++ told)),
+    items_text terms start items ++ (found ++ (part ++ (below ++ told))),
     summary_at p,
     ap₂ (λ (l : List ℕ) (q : Progress). l ++ report_at (unasked terms) q) (texts terms start items) same
-        ∙ regroup (items_text terms start items) found below told [] (summary_at p),
-    regroup (items_text terms start items) found below told short (summary_at p),
+        ∙ regroup (items_text terms start items) found part below told [] (summary_at p),
+    regroup (items_text terms start items) found part below told short (summary_at p),
   ),
 )
   where
@@ -473,6 +475,9 @@ expect_adds terms items = (
 
     found : List ℕ
     found = flat_map (finding_lines terms.explain) (findings (present p.journal))
+
+    part : List ℕ
+    part = part_line terms p
 
     below : List ℕ
     below = forgot_lines (forgot_in p)

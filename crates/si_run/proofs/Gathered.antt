@@ -5,6 +5,7 @@ use Rattle.std.proofs.lemmas.List.{drop_all, take_all}
 use Rattle.std.proofs.lemmas.List.Elements.{All-append}
 use Rattle.std.specs.Prelude.{slice_get, slice_index_or}
 use Rattle.std.proofs.lemmas.Option.{same_Some, slice_get-get_or, slice_get_within}
+use Rattle.si_partitions.specs.declared.partitions.Partition.{Partition}
 use Rattle.si_text.specs.Devices.{Input, Lent, Output, each_failed, each_foretold, lent}
 use Rattle.si_intake.specs.Ends.{Accepting, AreAllEndsOf, Putting, all_put, new_end, new_ends}
 use Rattle.si_intake.specs.Interleavings.{IsInterleaving as IsIntakeOf}
@@ -20,9 +21,9 @@ use Rattle.si_run.specs.Takings.{IsNotBegun, IsRunThrough, IsStopped}
 use Rattle.si_run.proofs.Interleaved.{AreTaken, all_told, all_worked, finished, met, nothing_begun, stopped}
 
 -- the ends keep their places and numbers while their inputs are read, and so does the accepter
-pub still_all : (old new : Accepting) (lefts : List (Option (List ℕ))) (failed : List Bool) (olds news : List Putting)
-    → AreAllEndsOf old olds → new ≡ record old { taken = new.taken } → AreRead lefts failed olds news → AreAllEndsOf new news
-still_all old new lefts failed olds news all same read = (
+pub still_all : (part : Option Partition) (old new : Accepting) (lefts : List (Option (List ℕ))) (failed : List Bool) (olds news : List Putting)
+    → AreAllEndsOf old olds → new ≡ record old { taken = new.taken } → AreRead part lefts failed olds news → AreAllEndsOf new news
+still_all part old new lefts failed olds news all same read = (
   read.many ∙ all.0 ∙ sym (ap (λ (a : Accepting). a.sources) same),
   λ k d below.
       let below_old : k < length olds = (let m = read.many in omega arith) in
@@ -40,9 +41,9 @@ numbered accepter ends i e all at =
     let is : slice_index_or ends i e ≡ e = same_Some (slice_index_or ends i e) e (sym (slice_get-get_or ends i e below) ∙ at) in
     sym (ap (λ (p : Putting). p.source) is) ∙ (all.1 i e below).1
 
-pub are_taken : (old new : Accepting) (lefts : List (Option (List ℕ))) (failed : List Bool) (olds news : List Putting)
-    → AreAllEndsOf old olds → length olds ≡ length lefts → AreRead lefts failed olds news → IsIntakeOf new.taken (all_put news) → AreTaken lefts failed olds news new.taken
-are_taken old new lefts failed olds news all many read interleaved = record {
+pub are_taken : (part : Option Partition) (old new : Accepting) (lefts : List (Option (List ℕ))) (failed : List Bool) (olds news : List Putting)
+    → AreAllEndsOf old olds → length olds ≡ length lefts → AreRead part lefts failed olds news → IsIntakeOf new.taken (all_put news) → AreTaken part lefts failed olds news new.taken
+are_taken part old new lefts failed olds news all many read interleaved = record {
   read = read;
   many = many;
   numbered = λ i e at. numbered old olds i e all at;
@@ -90,11 +91,11 @@ from_start out q fault.Memory m = (m.0, refl)
 
 -- what the threads did together is what a run does
 pub ran : GateIsExact → (terms : Terms) (old new : Accepting) (inputs : Lent (List Input)) (out : Lent Output) (q : Progress) (result : Result ExitStatus RunFault) (olds news : List Putting)
-    → AreTaken (each_foretold inputs.before inputs.after) (each_failed inputs.after) olds news new.taken → IsRunThrough terms old new out q result
+    → AreTaken terms.part (each_foretold inputs.before inputs.after) (each_failed inputs.after) olds news new.taken → IsRunThrough terms old new out q result
     → length (each_failed inputs.after) ≡ length (each_foretold inputs.before inputs.after) → EndsOpened terms inputs out result
 ran gate terms old new inputs out q (Ok status) olds news t a many = record {
   output = finished gate terms (each_foretold inputs.before inputs.after) (each_failed inputs.after) olds news new.taken out.before.written out.after.written q status t a.ok;
-  works = (all_worked (each_foretold inputs.before inputs.after) (each_failed inputs.after) olds news new.taken t a.ok.faultless many, a.works);
+  works = (all_worked terms.part (each_foretold inputs.before inputs.after) (each_failed inputs.after) olds news new.taken t a.ok.faultless many, a.works);
   part = tt;
   fault = tt;
   met = tt;
@@ -111,7 +112,7 @@ ran gate terms old new inputs out q (Err f) olds news t a many = record {
       (λ (n : IsNotBegun out q f). unbegun_true out q f (each_foretold inputs.before inputs.after) (each_failed inputs.after) n)
       a.err;
   met = ⊎_elim
-      (λ (s : IsStopped terms new.taken out q f). inr (new.taken, q, all_told (each_foretold inputs.before inputs.after) (each_failed inputs.after) olds news new.taken t, s))
+      (λ (s : IsStopped terms new.taken out q f). inr (new.taken, q, all_told terms.part (each_foretold inputs.before inputs.after) (each_failed inputs.after) olds news new.taken t, s))
       (λ (n : IsNotBegun out q f). inl (from_start out q f n))
       a.err;
 }

@@ -1,6 +1,6 @@
 -- With what an engine goes on behind a horizon.
 use Rattle.std.proofs.Common.{◌≡◌, ◌∙◌, ℕ, ◌+◌, ◌<◌, ◌≤◌, ◌-◌, ◌^◌, Bool, true, false, List, [], ◌∷◌, ◌++◌, Option, Some, None, length, map, refl, sym, ap, ap₂, subst, arith, nat_le, length-append}
-use Rattle.std.specs.Prelude.{Ok, is_none, if◌then◌else◌}
+use Rattle.std.specs.Prelude.{Ok, is_none, if◌then◌else◌, slice_set}
 use Rattle.std.specs.List.{filter, flat_map}
 use Rattle.std.specs.List.Sorted.{IsStrictlySortedBy}
 use Rattle.std.specs.Ordering.{nat_cmp}
@@ -18,12 +18,12 @@ use Rattle.si_model.specs.Order.{finding_cmp, in_order}
 use Rattle.si_model.specs.Parts.{Present}
 use Rattle.si_model.proofs.Carrying.{carried_history}
 use Rattle.si_model.proofs.Making.{made}
-use Rattle.si_text.specs.Texts.{final_lines, forgot_lines, not_among, violations_of}
+use Rattle.si_text.specs.Texts.{final_lines, not_among, violations_of}
 use Rattle.si_run.specs.declared.overs.Counts.{Counts}
 use Rattle.si_run.specs.declared.overs.Over.{Over}
 use Rattle.si_run.specs.Engines.{decided_over, over_text}
 use Rattle.si_run.specs.Laws.{journal_after, journal_with}
-use Rattle.si_run.specs.Outputs.{Forgotten, Progress, Terms, behind_report, finals_at, forgot_in, forgotten_at, horizon_text, over, report_due, sum_with, summary_at}
+use Rattle.si_run.specs.Outputs.{Forgotten, Progress, Terms, behind_report, finals_at, forgotten_at, horizon_text, over, report_due, report_end, sum_with}
 use Rattle.si_run.specs.Overs.{IsForgotten, IsLeft, IsOver}
 use Rattle.si_run.proofs.Closings.{none_fits}
 use Rattle.si_run.proofs.Reports.{both}
@@ -67,16 +67,17 @@ module _ (limit : ℕ) (p : Progress) (o : Over) (is : IsOver limit p o) where
     })
 
     -- how far the decisions are
-    pub counted_on : (J : List Edit) (finals told : List Finding) (f : Forgotten) (d : ℕ) → J ≡ o.carried.edits.items → finals ≡ finals_at o.horizon p → told ≡ not_among finals o.told.items
+    pub counted_on : (s l : ℕ) (J : List Edit) (finals told : List Finding) (f : Forgotten) (d : ℕ) (ls : List ℕ) → J ≡ o.carried.edits.items → finals ≡ finals_at o.horizon p → told ≡ not_among finals o.told.items
         → IsForgotten c.forgotten o.horizon o.carried.settled.items o.carried.gone o.carried.gone_committed finals f → d ≡ c.decided + 1
-        → record { journal = J; decided = d; refused = c.refused; told = told; forgotten = Some f } ≡ decided_over o.horizon p
+        → ls ≡ slice_set c.lines.last s l → record { journal = J; decided = d; refused = c.refused; lines = ls; told = told; forgotten = Some f } ≡ decided_over s l o.horizon p
     unfolding over
-    counted_on J finals told f d journal final missing forgotten one =
+    counted_on s l J finals told f d ls journal final missing forgotten one lined =
         let journal_is = journal ∙ is.edits in
         let told_is = told_left finals told final missing in
         let below_is = below finals f final forgotten in
         let decided_is = one ∙ ap (λ n. n + 1) left.decided in
-        λ i. record { journal = journal_is i; decided = decided_is i; refused = left.refused i; told = told_is i; forgotten = Some (below_is i) }
+        let lines_is = lined ∙ ap (λ (x : List ℕ). slice_set x s l) left.lines in
+        λ i. record { journal = journal_is i; decided = decided_is i; refused = left.refused i; lines = lines_is i; told = told_is i; forgotten = Some (below_is i) }
 
 -- the next of edits that are accepted and have room is accepted
 not_refused : (limit : ℕ) (J : List Edit) (e : Edit) → length J < limit → IsAcceptable (present J) e → refusal_after limit J e ≡ None
@@ -94,10 +95,10 @@ next_accepted limit all before rest e accepted room is =
     ap (λ (r : Option Refusal). journal_with before e (is_none r)) (not_refused limit before e fits (accepted before e rest is))
 
 -- three texts, one behind the other, the last two of these decisions
-pub text_over : (terms : Terms) (p q r : Progress) (o : Over) (explain : List ℕ) (t0 t1 t2 t3 : List ℕ) (summary : List ℕ) → t1 ≡ t0 ++ explain → t2 ≡ t1 ++ summary → t3 ≡ t2 ++ report_due terms r
-    → explain ≡ flat_map (final_lines terms.explain) (finals_at o.horizon p) → summary ≡ forgot_lines (forgot_in q) ++ summary_at q → r ≡ q → q ≡ decided_over o.horizon p
-    → t3 ≡ t0 ++ over_text terms o.horizon p
+pub text_over : (terms : Terms) (p q r : Progress) (s l : ℕ) (o : Over) (explain : List ℕ) (t0 t1 t2 t3 : List ℕ) (summary : List ℕ) → t1 ≡ t0 ++ explain → t2 ≡ t1 ++ summary → t3 ≡ t2 ++ report_due terms r
+    → explain ≡ flat_map (final_lines terms.explain) (finals_at o.horizon p) → summary ≡ report_end terms q → r ≡ q → q ≡ decided_over s l o.horizon p
+    → t3 ≡ t0 ++ over_text terms s l o.horizon p
 unfolding horizon_text
-text_over terms p q r o explain t0 t1 t2 t3 summary first second third told sums same is =
-    let front = both t0 t1 t2 explain summary _ _ first second told (sums ∙ ap (λ (x : Progress). forgot_lines (forgot_in x) ++ summary_at x) is) in
+text_over terms p q r s l o explain t0 t1 t2 t3 summary first second third told sums same is =
+    let front = both t0 t1 t2 explain summary _ _ first second told (sums ∙ ap (report_end terms) is) in
     both t0 t2 t3 _ (report_due terms r) _ _ front third refl (ap (report_due terms) (same ∙ is))

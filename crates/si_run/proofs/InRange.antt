@@ -1,6 +1,8 @@
 -- Of options in range no fault of the options is told.
-use Rattle.std.proofs.Common.{inl, inr, ℕ, Bool, List, Option, arith}
-use Rattle.std.specs.Prelude.{Result, Ok, Err, IfErr}
+use Rattle.std.proofs.Common.{inl, inr, ℕ, Bool, List, length, Option, arith}
+use Rattle.std.specs.Prelude.{◌≤◌, Result, Ok, Err, IfErr}
+use Rattle.std.specs.Option.{IfSome}
+use Rattle.si_partitions.specs.declared.partitions.TheConstants.{MOST_PARTITIONS}
 use Rattle.si_text.specs.Devices.{Input, Lent, Output, each_failed, each_foretold}
 use Rattle.si_checker.specs.Openings.{CanOpen}
 use Rattle.si_checker.specs.declared.openings.OpenFault.{OpenFault}
@@ -37,18 +39,19 @@ device_fault options lefts failed w fault.Output r t = t
 device_fault options lefts failed w fault.Memory r t = t
 
 -- options by which a checker was opened are in range
-pub runnable : (options : Options) → CanOpen options.shards 1 options.limit → IsRunnable options
-runnable options can = record {
+pub runnable : (options : Options) → CanOpen options.shards 1 options.limit → IfSome options.part (λ p. p.count ≤ MOST_PARTITIONS) → IsRunnable options
+runnable options can few = record {
   some_shards = can.some_shards.0;
   most_shards = can.some_shards.1;
   some_edits = can.some_edits.0;
   most_edits = can.some_edits.1;
+  few_partitions = few;
 }
 
 -- and how a run of it ends is how a run with them ends
-pub opened_ends : (options : Options) (inputs : Lent (List Input)) (out : Lent Output) (result : Result ExitStatus RunFault) → CanOpen options.shards 1 options.limit
-    → EndsOpened (terms_by options) inputs out result → Ends options inputs out result
-opened_ends options inputs out result can ends = record {
+pub opened_ends : (options : Options) (inputs : Lent (List Input)) (out : Lent Output) (result : Result ExitStatus RunFault) → CanOpen options.shards 1 options.limit → IfSome options.part (λ p. p.count ≤ MOST_PARTITIONS)
+    → EndsOpened (terms_by (length inputs.before) options) inputs out result → Ends options inputs out result
+opened_ends options inputs out result can few ends = record {
   output = ends.output;
   works = ends.works;
   part = ends.part;
@@ -56,7 +59,7 @@ opened_ends options inputs out result can ends = record {
   met = met_so result ends.met;
   first = told_first result ends.fault;
   unread = unread result ends.fault;
-  range = λ o is. absurd (in_range options o (runnable options can) is);
+  range = λ o is. absurd (in_range options o (runnable options can few) is);
 }
   where
     of_device : (f : RunFault) → IsTrueDeviceFault (each_foretold inputs.before inputs.after) (each_failed inputs.after) out.after.failed f → IsTrueFault options (each_foretold inputs.before inputs.after) (each_failed inputs.after) out.after.failed f
@@ -89,12 +92,12 @@ opened_ends options inputs out result can ends = record {
     unread (Ok status) t = tt
     unread (Err f) t = unread_of f t
 
-    met_of : (f : RunFault) → IsMet (terms_by options) (each_foretold inputs.before inputs.after) (each_failed inputs.after) out f → IsMetOrOpen (terms_by options) (each_foretold inputs.before inputs.after) (each_failed inputs.after) out f
+    met_of : (f : RunFault) → IsMet (terms_by (length inputs.before) options) (each_foretold inputs.before inputs.after) (each_failed inputs.after) out f → IsMetOrOpen (terms_by (length inputs.before) options) (each_foretold inputs.before inputs.after) (each_failed inputs.after) out f
     met_of (fault.Input source) m = m
     met_of (fault.Open o) m = tt
     met_of fault.Output m = m
     met_of fault.Memory m = m
 
-    met_so : (r : Result ExitStatus RunFault) → IfErr r (IsMet (terms_by options) (each_foretold inputs.before inputs.after) (each_failed inputs.after) out) → IfErr r (IsMetOrOpen (terms_by options) (each_foretold inputs.before inputs.after) (each_failed inputs.after) out)
+    met_so : (r : Result ExitStatus RunFault) → IfErr r (IsMet (terms_by (length inputs.before) options) (each_foretold inputs.before inputs.after) (each_failed inputs.after) out) → IfErr r (IsMetOrOpen (terms_by (length inputs.before) options) (each_foretold inputs.before inputs.after) (each_failed inputs.after) out)
     met_so (Ok status) m = tt
     met_so (Err f) m = met_of f m

@@ -83,14 +83,14 @@ told_begun old new t begins is =
     })
 
 -- with these accepted edits the engine is as it was but for them
-pub state_after : (terms : Terms) (old new : PassView) (decided refused : ℕ) (told : Told) (listed : Option (List Finding)) (forgotten : Option Forgotten) (s : EngineState) (e : Edit)
-    → engine_state terms old decided refused told listed forgotten ≡ s
+pub state_after : (terms : Terms) (old new : PassView) (decided refused : ℕ) (lines : List ℕ) (told : Told) (listed : Option (List Finding)) (forgotten : Option Forgotten) (s : EngineState) (e : Edit)
+    → engine_state terms old decided refused lines told listed forgotten ≡ s
     → told.at ≤ length (edits_of old.seen) → edits_of new.seen ≡ journal_after terms.limit (edits_of old.seen) (Ok e)
-    → engine_state terms new decided refused told listed forgotten ≡ record s { progress = record s.progress { journal = journal_after s.terms.limit s.progress.journal (Ok e) } }
-state_after terms old new decided refused told listed forgotten s e is within journal =
+    → engine_state terms new decided refused lines told listed forgotten ≡ record s { progress = record s.progress { journal = journal_after s.terms.limit s.progress.journal (Ok e) } }
+state_after terms old new decided refused lines told listed forgotten s e is within journal =
     let before : found_then (edits_of new.seen) told.at ≡ found_then (edits_of old.seen) told.at = ap (λ l. findings (present l)) (told_same terms.limit (edits_of old.seen) (edits_of new.seen) e told.at within journal) in
-    subst (λ (x : EngineState). engine_state terms new decided refused told listed forgotten ≡ record x { progress = record x.progress { journal = journal_after x.terms.limit x.progress.journal (Ok e) } }) is
-    (λ i. record { terms = terms; progress = record { journal = journal i; decided = decided; refused = refused; told = told_alike listed before i; forgotten = forgotten } })
+    subst (λ (x : EngineState). engine_state terms new decided refused lines told listed forgotten ≡ record x { progress = record x.progress { journal = journal_after x.terms.limit x.progress.journal (Ok e) } }) is
+    (λ i. record { terms = terms; progress = record { journal = journal i; decided = decided; refused = refused; lines = lines; told = told_alike listed before i; forgotten = forgotten } })
   where
     told_alike : (l : Option (List Finding)) → found_then (edits_of new.seen) told.at ≡ found_then (edits_of old.seen) told.at → told_by l (edits_of new.seen) told ≡ told_by l (edits_of old.seen) told
     told_alike None before = ap violations_of before

@@ -1,6 +1,6 @@
 -- Where no horizons are taken, what is decided is what the accepted edits decide.
 use Rattle.std.proofs.Common.{◌≡◌, ℕ, ◌+◌, Bool, true, false, ◌&&◌, List, [], ◌∷◌, ◌++◌, Option, Some, None, refl, sym, ap, ap₂, ◌∙◌, arith}
-use Rattle.std.specs.Prelude.{Result, Ok, Err, if◌then◌else◌, is_none}
+use Rattle.std.specs.Prelude.{Result, Ok, Err, if◌then◌else◌, is_none, slice_set}
 use Rattle.std.specs.Option.{option_map, option_or}
 use Rattle.si_model.specs.declared.edits.Edit.{Edit}
 use Rattle.si_model.specs.declared.findings.Finding.{Finding}
@@ -11,7 +11,7 @@ use Rattle.si_text.specs.declared.faults.LineFault.TheVariants as fault
 use Rattle.si_text.specs.declared.reasons.Reason.{Reason}
 use Rattle.si_text.specs.declared.reasons.Reason.TheVariants.{Malformed, Refused, Horizon}
 use Rattle.si_run.specs.Outputs.{Forgotten, Progress, SourcedItem, Terms, behind_report, counted, decided_after, fault_reason, fault_taken, forget_reason, is_due, late_by, progress_after, progress_through, reason_after, taken, taken_by, violations_at}
-use Rattle.si_run.specs.Laws.{accepted_after, journal_after, journal_with, reason_plainly, refused_among}
+use Rattle.si_run.specs.Laws.{accepted_after, journal_after, journal_with, last_lines, reason_plainly, refused_among}
 
 -- ---- behind a report
 
@@ -37,6 +37,14 @@ module _ (terms : Terms) where
   behind_forgotten p = by (is_due terms.every p.decided && terms.only_new)
     where
       by : (b : Bool) → (if b then record p { told = violations_at p } else p).forgotten ≡ p.forgotten
+      by true = refl
+      by false = refl
+
+  pub behind_lines : (p : Progress) → (behind_report terms p).lines ≡ p.lines
+  unfolding behind_report
+  behind_lines p = by (is_due terms.every p.decided && terms.only_new)
+    where
+      by : (b : Bool) → (if b then record p { told = violations_at p } else p).lines ≡ p.lines
       by true = refl
       by false = refl
 
@@ -74,9 +82,9 @@ module _ (terms : Terms) (plain : terms.horizons ≡ false) where
   taken_plain p none (Err f) = ap (λ (o : Option Reason). taken_by o (Err f) p) (fault_plain p f)
 
   pub decided_plain : (p : Progress) → p.forgotten ≡ None → (item : SourcedItem) → decided_after terms p item
-      ≡ record p { journal = journal_after terms.limit p.journal item.1.1; decided = p.decided + 1; refused = counted p.refused (reason_plainly terms.limit p.journal item.1.1) }
+      ≡ record p { journal = journal_after terms.limit p.journal item.1.1; decided = p.decided + 1; refused = counted p.refused (reason_plainly terms.limit p.journal item.1.1); lines = slice_set p.lines item.0 item.1.0 }
   unfolding decided_after
-  decided_plain p none item = λ i. record (taken_plain p none item.1.1 i) { decided = p.decided + 1; refused = counted p.refused (reason_plain p none item.1.1 i) }
+  decided_plain p none item = λ i. record (taken_plain p none item.1.1 i) { decided = p.decided + 1; refused = counted p.refused (reason_plain p none item.1.1 i); lines = slice_set p.lines item.0 item.1.0 }
 
   pub none_forgotten : (p : Progress) → p.forgotten ≡ None → (item : SourcedItem) → (progress_after terms p item).forgotten ≡ None
   unfolding progress_after
@@ -89,6 +97,10 @@ module _ (terms : Terms) (plain : terms.horizons ≡ false) where
   refused_plain : (p : Progress) → p.forgotten ≡ None → (item : SourcedItem) → (progress_after terms p item).refused ≡ counted p.refused (reason_plainly terms.limit p.journal item.1.1)
   unfolding progress_after
   refused_plain p none item = behind_refused terms (decided_after terms p item) ∙ ap (λ (q : Progress). q.refused) (decided_plain p none item)
+
+  lines_plain : (p : Progress) → p.forgotten ≡ None → (item : SourcedItem) → (progress_after terms p item).lines ≡ slice_set p.lines item.0 item.1.0
+  unfolding progress_after
+  lines_plain p none item = behind_lines terms (decided_after terms p item) ∙ ap (λ (q : Progress). q.lines) (decided_plain p none item)
 
   pub told_plain : (p : Progress) → p.forgotten ≡ None → (item : SourcedItem) → (decided_after terms p item).told ≡ p.told
   told_plain p none item = ap (λ (q : Progress). q.told) (decided_plain p none item)
@@ -103,6 +115,11 @@ module _ (terms : Terms) (plain : terms.horizons ≡ false) where
   journals p none [] = refl
   journals p none (item ∷ items) =
       journals (progress_after terms p item) (none_forgotten p none item) items ∙ ap (λ J. accepted_after terms.limit J items) (journal_plain p none item)
+
+  pub lines_through : (p : Progress) → p.forgotten ≡ None → (items : List SourcedItem) → (progress_through terms p items).lines ≡ last_lines p.lines items
+  lines_through p none [] = refl
+  lines_through p none (item ∷ items) =
+      lines_through (progress_after terms p item) (none_forgotten p none item) items ∙ ap (λ l. last_lines l items) (lines_plain p none item)
 
   counted-plus : (n m : ℕ) (reason : Option Reason) → counted n reason + m ≡ n + counted m reason
   counted-plus n m None = refl

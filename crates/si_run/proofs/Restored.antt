@@ -60,10 +60,10 @@ told_in_order (Some list) J t listed = listed
 
 -- ---- a report of what changed
 
-module _ (terms : Terms) (pass : PassView) (decided refused : ℕ) (t : Told) (l out : Option (List Finding)) (forgotten : Option Forgotten) (s : EngineState) (is : engine_state terms pass decided refused t l forgotten ≡ s) where
+module _ (terms : Terms) (pass : PassView) (decided refused : ℕ) (lines : List ℕ) (t : Told) (l out : Option (List Finding)) (forgotten : Option Forgotten) (s : EngineState) (is : engine_state terms pass decided refused lines t l forgotten ≡ s) where
   -- the state while the list is taken out
   abbrev pub state_without : EngineState
-  state_without = engine_state terms pass decided refused t out forgotten
+  state_without = engine_state terms pass decided refused lines t out forgotten
 
   -- what it tells then beside what was told is the report
   pub changes_told : (told : List Finding) → told ≡ told_by l (edits_of pass.seen) t → changes_since state_without.terms state_without.progress told ≡ changes_at s.terms s.progress

@@ -1,6 +1,7 @@
 -- How far the reading of an input is, and what each of its steps adds.
 use Rattle.std.proofs.Common.{◌≡◌, inl, inr, ℕ, ◌+◌, ◌-◌, ◌^◌, ◌≤◌, Bool, true, false, cond, List, [], ◌∷◌, ◌++◌, map, length, Option, Some, None, refl, sym, ap, ◌∙◌, arith, append_assoc, append-nil, length-append}
-use Rattle.std.proofs.lemmas.List.{map_push}
+use Rattle.std.proofs.lemmas.List.{map-append, map_push}
+use Rattle.si_partitions.specs.declared.partitions.Partition.{Partition}
 use Rattle.si_text.specs.Inputs.{Item, with_first, lines_of, is_line_feed, is_blank, item_of, numbered, items_after, Yields}
 use Rattle.std.specs.Io.KnownBytes.{prepend_known}
 use Rattle.si_text.specs.Devices.{foretold}
@@ -10,6 +11,7 @@ use Rattle.si_text.specs.declared.read_lines.LineBuffer.{LineBuffer}
 use Rattle.si_intake.specs.declared.items.Item.{Item as Told}
 use Rattle.si_intake.specs.Ends.{Putting}
 use Rattle.si_intake.specs.Items.{has_last}
+use Rattle.si_run.specs.Keeping.{kept}
 use Rattle.si_run.specs.Readings.{AreFirst, HasPut, told_item}
 use Rattle.si_run.specs.Runs.{MayBeTooLong}
 
@@ -37,15 +39,15 @@ pub CountsBytes-none : (a : LineBuffer) (x : Option (List ℕ)) → CountsBytes 
 CountsBytes-none a None = tt
 CountsBytes-none a (Some xs) = (omega arith, omega arith)
 
--- these items were read, and put behind what had been put
-pub record IsReading (left : Option (List ℕ)) (ended : ℕ) (to_come : Option (List ℕ)) (old new : Putting) (count : ℕ) : Type 0 where
+-- these items were read, and what is kept of them put behind what had been put
+pub record IsReading (part : Option Partition) (left : Option (List ℕ)) (ended : ℕ) (to_come : Option (List ℕ)) (old new : Putting) (count : ℕ) : Type 0 where
   pub items : List Item
   pub read : Yields 0 left ended to_come items
-  pub puts : HasPut old new items
+  pub puts : HasPut old new (map (kept part) items)
   pub many : length items ≡ count
 
-pub begins : (buffer : LineBuffer) (left : Option (List ℕ)) (end : Putting) → IsFresh buffer → IsReading left buffer.lines (bytes_to_come buffer left) end end 0
-begins buffer left end fresh = record {
+pub begins : (part : Option Partition) (buffer : LineBuffer) (left : Option (List ℕ)) (end : Putting) → IsFresh buffer → IsReading part left buffer.lines (bytes_to_come buffer left) end end 0
+begins part buffer left end fresh = record {
   items = [];
   read = fresh_read left;
   puts = record { puts = ap (λ (l : List Told). record end { put = l }) (sym (append-nil end.put)) };
@@ -57,15 +59,16 @@ begins buffer left end fresh = record {
     fresh_read (Some bytes) = ap (λ n. items_after n bytes) (sym fresh.0) ∙ ap (λ held. items_after buffer.lines (held ++ bytes)) (sym fresh.1)
 
 -- one more item
-pub goes_on : (left : Option (List ℕ)) (n m : ℕ) (a b : Option (List ℕ)) (old mid new : Putting) (count : ℕ) (item : Item)
-    → IsReading left n a old mid count → Yields n a m b (item ∷ []) → new ≡ record mid { put = mid.put ++ told_item mid.source item ∷ [] } → IsReading left m b old new (count + 1)
-goes_on left n m a b old mid new count item way one puts = record {
+pub goes_on : (part : Option Partition) (left : Option (List ℕ)) (n m : ℕ) (a b : Option (List ℕ)) (old mid new : Putting) (count : ℕ) (item : Item)
+    → IsReading part left n a old mid count → Yields n a m b (item ∷ []) → new ≡ record mid { put = mid.put ++ told_item mid.source (kept part item) ∷ [] } → IsReading part left m b old new (count + 1)
+goes_on part left n m a b old mid new count item way one puts = record {
   items = way.items ++ item ∷ [];
   read = Yields-then 0 n m left a b way.items (item ∷ []) way.read one;
   puts = record {
-    puts = puts ∙ ap (λ (e : Putting). record e { put = e.put ++ told_item e.source item ∷ [] }) way.puts.puts
-        ∙ ap (λ (l : List Told). record old { put = l }) (append_assoc old.put (map (told_item old.source) way.items) (told_item old.source item ∷ [])
-        ∙ ap (λ (l : List Told). old.put ++ l) (sym (map_push (told_item old.source) way.items item)));
+    puts = puts ∙ ap (λ (e : Putting). record e { put = e.put ++ told_item e.source (kept part item) ∷ [] }) way.puts.puts
+        ∙ ap (λ (l : List Told). record old { put = l }) (append_assoc old.put (map (told_item old.source) (map (kept part) way.items)) (told_item old.source (kept part item) ∷ [])
+        ∙ ap (λ (l : List Told). old.put ++ l)
+        (sym (map_push (told_item old.source) (map (kept part) way.items) (kept part item)) ∙ ap (map (told_item old.source)) (sym (map_push (kept part) way.items item))));
   };
   many = length-append way.items (item ∷ []) ∙ ap (λ k. k + 1) way.many;
 }
@@ -75,9 +78,9 @@ no_last : (s : ℕ) (items : List Item) → has_last (map (told_item s) items) �
 no_last s [] = refl
 no_last s (item ∷ items) = no_last s items
 
-pub unended : (left : Option (List ℕ)) (n : ℕ) (a : Option (List ℕ)) (old mid : Putting) (count : ℕ) → old.put ≡ [] → IsReading left n a old mid count → has_last mid.put ≡ false
-unended left n a old mid count fresh way =
-    ap (λ (e : Putting). has_last e.put) way.puts.puts ∙ ap (λ (l : List Told). has_last (l ++ map (told_item old.source) way.items)) fresh ∙ no_last old.source way.items
+pub unended : (part : Option Partition) (left : Option (List ℕ)) (n : ℕ) (a : Option (List ℕ)) (old mid : Putting) (count : ℕ) → old.put ≡ [] → IsReading part left n a old mid count → has_last mid.put ≡ false
+unended part left n a old mid count fresh way =
+    ap (λ (e : Putting). has_last e.put) way.puts.puts ∙ ap (λ (l : List Told). has_last (l ++ map (told_item old.source) (map (kept part) way.items))) fresh ∙ no_last old.source (map (kept part) way.items)
 
 pub unended_after : (old new : Putting) (items : List Item) → old.put ≡ [] → HasPut old new items → has_last new.put ≡ false
 unended_after old new items fresh puts =
@@ -85,13 +88,14 @@ unended_after old new items fresh puts =
 
 -- ---- the end
 
--- before the end the first items were read
-pub first_read : (left mid new : Option (List ℕ)) (n m : ℕ) (h k : List ℕ) (old put : Putting) (count : ℕ) (way : IsReading left n (prepend_known h mid) old put count)
-    → Yields n (prepend_known h mid) m (prepend_known k new) [] → AreFirst (foretold left new) way.items
-first_read left mid None n m h k old put count way still = tt
-first_read left None (Some rest) n m h k old put count way still = absurd still
-first_read None (Some bytes) (Some rest) n m h k old put count way still = tt
-first_read (Some whole) (Some bytes) (Some rest) n m h k old put count way still = (items_after n (h ++ bytes), way.read)
+-- before the end the first items were read and put, whatever more was read
+pub first_read : (part : Option Partition) (left mid new : Option (List ℕ)) (n m : ℕ) (h k : List ℕ) (old put : Putting) (count : ℕ) (more : List Item) (way : IsReading part left n (prepend_known h mid) old put count)
+    → Yields n (prepend_known h mid) m (prepend_known k new) more → AreFirst part (foretold left new) (map (kept part) way.items)
+first_read part left mid None n m h k old put count more way still = tt
+first_read part left None (Some rest) n m h k old put count more way still = absurd still
+first_read part None (Some bytes) (Some rest) n m h k old put count more way still = tt
+first_read part (Some whole) (Some bytes) (Some rest) n m h k old put count more way still =
+    (map (kept part) (items_after n (h ++ bytes)), ap (map (kept part)) way.read ∙ map-append (kept part) way.items (items_after n (h ++ bytes)))
 
 pub Yields-none : (n : ℕ) (a : Option (List ℕ)) → Yields n a n a []
 Yields-none n None = tt
@@ -132,10 +136,10 @@ length-numbered number [] = omega arith
 length-numbered number (l ∷ ls) = omega (arith, length-append (item_of number l) (numbered (number + 1) ls), one_item number l, length-numbered (number + 1) ls)
 
 -- so many items have at least as many bytes
-pub many_items : (left new : Option (List ℕ)) (n : ℕ) (h : List ℕ) (old put : Putting) (count : ℕ) → IsReading left n (prepend_known h new) old put count → 2 ^ 64 - 1 ≤ count → MayBeTooLong (foretold left new)
-many_items left None n h old put count way most = tt
-many_items None (Some rest) n h old put count way most = tt
-many_items (Some bytes) (Some rest) n h old put count way most =
+pub many_items : (part : Option Partition) (left new : Option (List ℕ)) (n : ℕ) (h : List ℕ) (old put : Putting) (count : ℕ) → IsReading part left n (prepend_known h new) old put count → 2 ^ 64 - 1 ≤ count → MayBeTooLong (foretold left new)
+many_items part left None n h old put count way most = tt
+many_items part None (Some rest) n h old put count way most = tt
+many_items part (Some bytes) (Some rest) n h old put count way most =
     let read = way.read in
     let items : length (items_after 0 bytes) ≡ length way.items + length (items_after n (h ++ rest)) = ap length read ∙ length-append way.items (items_after n (h ++ rest)) in
     let few : length (items_after 0 bytes) ≤ length (lines_of bytes) = length-numbered 1 (lines_of bytes) in

@@ -7,7 +7,7 @@ use Rattle.si_model.specs.Journals.{present}
 use Rattle.si_text.specs.declared.reasons.Reason.{Reason}
 use Rattle.si_text.specs.declared.verdicts.Verdict.{Verdict}
 use Rattle.si_text.specs.Texts.{changes_text, code_text, finding_lines, findings_with, forgot_lines, line_end, reason_code, reason_text, summary_text, transactions_with, verdict_text}
-use Rattle.si_run.specs.Outputs.{SourcedItem, Terms, Progress, changes_at, decided_after, forgot_in, is_due, item_text, reason_after, refusal_line, report_due, report_on_the_way, summary_at, told_text, verdict_at, violations_at, whole_report_at}
+use Rattle.si_run.specs.Outputs.{SourcedItem, Terms, Progress, changes_at, decided_after, forgot_in, is_due, item_text, part_line, reason_after, refusal_line, report_due, report_end, report_on_the_way, summary_at, told_text, verdict_at, violations_at, whole_report_at}
 
 some_before : (xs ys : List ℕ) → xs ≢ [] → xs ++ ys ≢ []
 some_before [] ys some e = some refl
@@ -36,17 +36,18 @@ summarized p =
     let found = findings (present p.journal) in
     summed (transactions_with (forgot_in p) (length (present p.journal).txns)) (findings_with (forgot_in p) (length found)) p.refused (verdict_at p)
 
--- what is told of what lies below a horizon, and the summary
-ends_it : (p : Progress) → forgot_lines (forgot_in p) ++ summary_at p ≢ []
-ends_it p = some_behind (forgot_lines (forgot_in p)) (summary_at p) (summarized p)
+-- what stands behind the findings
+ends_it : (terms : Terms) (p : Progress) → report_end terms p ≢ []
+ends_it terms p =
+    some_behind (part_line terms p) (forgot_lines (forgot_in p) ++ summary_at p) (some_behind (forgot_lines (forgot_in p)) (summary_at p) (summarized p))
 
 told_all : (terms : Terms) (p : Progress) → whole_report_at terms p ≢ []
 unfolding whole_report_at
-told_all terms p = some_behind (flat_map (finding_lines terms.explain) (findings (present p.journal))) (forgot_lines (forgot_in p) ++ summary_at p) (ends_it p)
+told_all terms p = some_behind (flat_map (finding_lines terms.explain) (findings (present p.journal))) (report_end terms p) (ends_it terms p)
 
 told_changes : (terms : Terms) (p : Progress) → changes_at terms p ≢ []
 unfolding changes_at
-told_changes terms p = some_behind (changes_text terms.explain p.told (violations_at p)) (forgot_lines (forgot_in p) ++ summary_at p) (ends_it p)
+told_changes terms p = some_behind (changes_text terms.explain p.told (violations_at p)) (report_end terms p) (ends_it terms p)
 
 on_the_way : (terms : Terms) (p : Progress) → report_on_the_way terms p ≢ []
 on_the_way terms p = elim terms.only_new as (λ b. (if b then changes_at terms p else whole_report_at terms p) ≢ []) [

@@ -8,7 +8,9 @@ use Rattle.si_intake.specs.declared.items.Item.{Item as Told}
 use Rattle.si_intake.specs.declared.items.What.{What}
 use Rattle.si_intake.specs.declared.items.What.TheVariants.{Line, ReadFault, NoMemory, End}
 use Rattle.si_intake.specs.Ends.{Putting}
-use Rattle.si_text.specs.Inputs.{Item, items_of}
+use Rattle.si_partitions.specs.declared.partitions.Partition.{Partition}
+use Rattle.si_text.specs.Inputs.{Item}
+use Rattle.si_run.specs.Keeping.{kept_items}
 use Rattle.si_run.specs.Outputs.{SourcedItem, from_source, sourced}
 use Rattle.si_run.specs.Readings.{EndsSo, IsRead, told, told_item}
 use Rattle.si_run.specs.Runs.{MayBeTooLong}
@@ -25,10 +27,10 @@ faults_told s [] tail = refl
 faults_told s (item ∷ items) tail = faults_told s items tail
 
 -- of an input: the items that were put, and the others
-pub record IsSplit (bytes : List ℕ) (source : ℕ) (put : List Told) : Type 0 where
+pub record IsSplit (part : Option Partition) (bytes : List ℕ) (source : ℕ) (put : List Told) : Type 0 where
   pub done : List Item
   pub rest : List Item
-  pub items : items_of bytes ≡ done ++ rest
+  pub items : kept_items part bytes ≡ done ++ rest
   pub lines : lines_among put ≡ from_source source done
   pub whole : has_fault put ≡ false → rest ≡ []
 
@@ -36,8 +38,8 @@ pub record IsSplit (bytes : List ℕ) (source : ℕ) (put : List Told) : Type 0 
 abbrev told_then : ℕ → List Item → What → List Told
 told_then s items last = map (told_item s) items ++ told s last ∷ []
 
-put_is : (left : Option (List ℕ)) (failed : Bool) (old new : Putting) (r : IsRead left failed old new) → new.put ≡ told_then old.source r.items r.last
-put_is left failed old new r = ap (λ (e : Putting). e.put) r.puts
+put_is : (part : Option Partition) (left : Option (List ℕ)) (failed : Bool) (old new : Putting) (r : IsRead part left failed old new) → new.put ≡ told_then old.source r.items r.last
+put_is part left failed old new r = ap (λ (e : Putting). e.put) r.puts
 
 fault_is : (s : ℕ) (items : List Item) (last : What) (put : List Told) → put ≡ told_then s items last → has_fault put ≡ is_fault last
 fault_is s items last put puts = ap has_fault puts ∙ faults_told s items (told s last ∷ []) ∙ or_nothing (is_fault last)
@@ -47,13 +49,13 @@ lines_are s items last put puts none =
     ap lines_among puts ∙ lines_told s items (told s last ∷ [])
     ∙ ap (λ (o : Option SourcedItem). from_source s items ++ cons_option o []) none ∙ append-nil (from_source s items)
 
-pub split : (bytes : List ℕ) (failed : Bool) (old new : Putting) → IsRead (Some bytes) failed old new → IsSplit bytes old.source new.put
-split bytes failed old new r = by r.last (put_is (Some bytes) failed old new r) r.ends
+pub split : (part : Option Partition) (bytes : List ℕ) (failed : Bool) (old new : Putting) → IsRead part (Some bytes) failed old new → IsSplit part bytes old.source new.put
+split part bytes failed old new r = by r.last (put_is part (Some bytes) failed old new r) r.ends
   where
     s : ℕ
     s = old.source
 
-    by : (last : What) → new.put ≡ told_then s r.items last → EndsSo (Some bytes) failed r.items last → IsSplit bytes s new.put
+    by : (last : What) → new.put ≡ told_then s r.items last → EndsSo part (Some bytes) failed r.items last → IsSplit part bytes s new.put
     by (Line item) puts ends = absurd ends
     by ReadFault puts ends = record {
       done = r.items;
@@ -78,22 +80,22 @@ split bytes failed old new r = by r.last (put_is (Some bytes) failed old new r) 
     }
 
 -- where no fault was told, the device hasn't failed
-pub has_worked : (left : Option (List ℕ)) (failed : Bool) (old new : Putting) → IsRead left failed old new → has_fault new.put ≡ false → failed ≡ false
-has_worked left failed old new r none = by r.last (sym (fault_is old.source r.items r.last new.put (put_is left failed old new r)) ∙ none) r.ends
+pub has_worked : (part : Option Partition) (left : Option (List ℕ)) (failed : Bool) (old new : Putting) → IsRead part left failed old new → has_fault new.put ≡ false → failed ≡ false
+has_worked left failed old new r none = by r.last (sym (fault_is old.source r.items r.last new.put (put_is part left failed old new r)) ∙ none) r.ends
   where
-    by : (last : What) → is_fault last ≡ false → EndsSo left failed r.items last → failed ≡ false
+    by : (last : What) → is_fault last ≡ false → EndsSo part left failed r.items last → failed ≡ false
     by (Line item) fine ends = absurd ends
     by ReadFault fine ends = absurd (true≢false fine)
     by NoMemory fine ends = absurd (true≢false fine)
     by End fine ends = ends.1
 
 -- a fault that was told is true
-pub told_fault : (left : Option (List ℕ)) (failed : Bool) (old new : Putting) (s : ℕ) → IsRead left failed old new → Contains new.put (told s ReadFault) → (failed ≡ true) ⊎ MayBeTooLong left
-told_fault left failed old new s r c =
+pub told_fault : (part : Option Partition) (left : Option (List ℕ)) (failed : Bool) (old new : Putting) (s : ℕ) → IsRead part left failed old new → Contains new.put (told s ReadFault) → (failed ≡ true) ⊎ MayBeTooLong left
+told_fault part left failed old new s r c =
     ⊎_elim
     (λ among. let m = Contains-from_map (told_item old.source) r.items (told s ReadFault) among in absurd (true≢false (sym (ap (λ (t : Told). is_fault t.what) m.2))))
     (λ last. by r.last (ap (λ (t : Told). t.what) (Contains-one (told old.source r.last) (told s ReadFault) last)) r.ends)
-    (Contains-append_cases (map (told_item old.source) r.items) (told old.source r.last ∷ []) (told s ReadFault) (subst (λ (l : List Told). Contains l (told s ReadFault)) (put_is left failed old new r) c))
+    (Contains-append_cases (map (told_item old.source) r.items) (told old.source r.last ∷ []) (told s ReadFault) (subst (λ (l : List Told). Contains l (told s ReadFault)) (put_is part left failed old new r) c))
   where
     is_read_fault : What → Bool
     is_read_fault (Line item) = false
@@ -101,7 +103,7 @@ told_fault left failed old new s r c =
     is_read_fault NoMemory = false
     is_read_fault End = false
 
-    by : (last : What) → last ≡ ReadFault → EndsSo left failed r.items last → (failed ≡ true) ⊎ MayBeTooLong left
+    by : (last : What) → last ≡ ReadFault → EndsSo part left failed r.items last → (failed ≡ true) ⊎ MayBeTooLong left
     by (Line item) is ends = absurd ends
     by ReadFault is ends = ends.1
     by NoMemory is ends = absurd (true≢false (sym (ap is_read_fault is)))

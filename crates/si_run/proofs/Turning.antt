@@ -34,6 +34,7 @@ pub left_before : (p q : Progress) (c : Counts) → q ≡ record p { told = q.to
 left_before p q c same left = record {
   decided = left.decided ∙ ap (λ (x : Progress). x.decided) same;
   refused = left.refused ∙ ap (λ (x : Progress). x.refused) same;
+  lines = left.lines ∙ ap (λ (x : Progress). x.lines) same;
   forgotten = left.forgotten ∙ ap (λ (x : Progress). x.forgotten) same;
   counts = subst (λ (x : Progress). x.refused ≤ x.decided) same left.counts;
 }
@@ -49,7 +50,8 @@ module _ (terms : Terms) (l : Left) (now new : Output) where
   -- it was told, and written
   pub has_begun : (q : Progress)
       → ((p : Progress) → IsOver terms.limit p l.taken.over → IsLeft p l.counts
-      → Appends now.written new.written (over_text terms l.taken.over.horizon p) × (q ≡ behind_report terms (decided_over l.taken.over.horizon p)))
+      → Appends now.written new.written (over_text terms l.taken.source l.taken.line l.taken.over.horizon p)
+      × (q ≡ behind_report terms (decided_over l.taken.source l.taken.line l.taken.over.horizon p)))
       → HasBegun terms (Some l) (lent now new) q
   has_begun q goes = λ taken first ready.
       let pending = ready.1 in
@@ -58,7 +60,7 @@ module _ (terms : Terms) (l : Left) (now new : Output) where
       let H = t.over.horizon in
       let done = goes p pending.over (left_before p ready.0 l.counts pending.same ready.2) in
       subst (λ (ts : List Told). IsDecided terms ts first.written new.written q) (sym pending.order)
-      (line_decided terms pending.before first.written now.written new.written p q t.source (horizon_item t.line H) (over_text terms H p) pending.decided done.0
+      (line_decided terms pending.before first.written now.written new.written p q t.source (horizon_item t.line H) (over_text terms t.source t.line H p) pending.decided done.0
       (over_text_is terms p t.source t.line H pending.takes pending.over.free) (done.1 ∙ over_progress terms p t.source t.line H pending.takes pending.over.free))
 
   -- it wasn't told, or not written whole

@@ -1,5 +1,5 @@
 -- How a run ends. All of it is this project's choice.
-use Rattle.std.specs.Prelude.{◌≡◌, ◌⊎◌, ℕ, Bool, false, All, List, Option, Result, Err, IfOk, IfErr, OnOk, OnErr, ⊤}
+use Rattle.std.specs.Prelude.{◌≡◌, ◌⊎◌, ℕ, Bool, false, All, List, length, Option, Result, Err, IfOk, IfErr, OnOk, OnErr, ⊤}
 use Rattle.si_intake.specs.declared.items.Item.{Item as Told}
 use Rattle.si_text.specs.Devices.{Input as Seen, Lent, Output, each_failed, each_foretold}
 use Rattle.si_checker.specs.declared.openings.OpenFault.{OpenFault}
@@ -17,7 +17,7 @@ use Rattle.si_run.specs.Takings.{IsNotBegun, IsStopped}
 abbrev pub IsMet : Terms → List (Option (List ℕ)) → List Bool → Lent Output → RunFault → Type 0
 IsMet terms inputs failed out f =
     IsNotBegun out start f
-    ⊎ ((taken : List Told) × (q : Progress) × AreTold inputs failed taken × IsStopped terms taken out q f)
+    ⊎ ((taken : List Told) × (q : Progress) × AreTold terms.part inputs failed taken × IsStopped terms taken out q f)
 
 -- the same of a fault that isn't one of the opening, of which `range` tells all
 abbrev pub IsMetOrOpen : Terms → List (Option (List ℕ)) → List Bool → Lent Output → RunFault → Type 0
@@ -45,11 +45,11 @@ pub record EndsOpened (terms : Terms) (inputs : Lent (List Seen)) (out : Lent Ou
 
 -- how a run with these options ends, over such devices
 pub record Ends (options : Options) (inputs : Lent (List Seen)) (out : Lent Output) (result : Result ExitStatus RunFault) : Type 0 where
-  pub output : IfOk result (WritesText (terms_by options) (each_foretold inputs.before inputs.after) out.before.written out.after.written)
+  pub output : IfOk result (WritesText (terms_by (length inputs.before) options) (each_foretold inputs.before inputs.after) out.before.written out.after.written)
   pub works : OnOk result (All (λ has_failed. has_failed ≡ false) (each_failed inputs.after) × (out.after.failed ≡ false))
-  pub part : OnErr result (BeginsText (terms_by options) (each_foretold inputs.before inputs.after) out.before.written out.after.written)
+  pub part : OnErr result (BeginsText (terms_by (length inputs.before) options) (each_foretold inputs.before inputs.after) out.before.written out.after.written)
   pub fault : IfErr result (IsTrueFault options (each_foretold inputs.before inputs.after) (each_failed inputs.after) out.after.failed)
-  pub met : IfErr result (IsMetOrOpen (terms_by options) (each_foretold inputs.before inputs.after) (each_failed inputs.after) out)
+  pub met : IfErr result (IsMetOrOpen (terms_by (length inputs.before) options) (each_foretold inputs.before inputs.after) (each_failed inputs.after) out)
   -- options out of their range are told as that, before anything is written or read
   pub first : IfErr result (IsToldFirst out.before.written out.after.written)
   pub unread : IfErr result (IsUnread inputs)

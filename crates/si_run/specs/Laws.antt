@@ -1,5 +1,5 @@
 -- What the output is where no reports on the way are asked for, and what those tell that tell only what changed.
-use Rattle.std.specs.Prelude.{◌≡◌, ◌↔◌, ℕ, Bool, true, false, if◌then◌else◌, List, [], ◌∷◌, ◌++◌, length, Option, Some, None, is_none, Result, Ok, Err}
+use Rattle.std.specs.Prelude.{◌≡◌, ◌↔◌, ℕ, Bool, true, false, if◌then◌else◌, List, [], ◌∷◌, ◌++◌, length, slice_set, take, Option, Some, None, is_none, Result, Ok, Err}
 use Rattle.std.specs.List.{Contains, flat_map}
 use Rattle.std.specs.Option.{option_map}
 use Rattle.si_model.specs.declared.edits.Edit.{Edit}
@@ -9,12 +9,13 @@ use Rattle.si_model.specs.Findings.{findings}
 use Rattle.si_model.specs.Journals.{present, refusal_after}
 use Rattle.si_model.specs.Parts.{Present}
 use Rattle.si_accept.specs.Statuses.{committed_among, doubtful_among}
+use Rattle.si_partitions.specs.declared.partitions.Partition.{Partition}
 use Rattle.si_text.specs.declared.endings.Asked.{Asked}
 use Rattle.si_text.specs.declared.faults.LineFault.{LineFault}
 use Rattle.si_text.specs.declared.reasons.Reason.{Reason}
 use Rattle.si_text.specs.declared.reasons.Reason.TheVariants.{Malformed, Refused}
-use Rattle.si_text.specs.Texts.{few_lines, finding_lines, forgot_lines, gone_text, not_among, summary_text, told_chances, verdict_of}
-use Rattle.si_run.specs.Outputs.{Progress, SourcedItem, Terms, counted, decided_after, forgot_in, is_due, output_of, progress_after, progress_through, refusal_line, report_at, report_due, short_line_by, start, status_of, summary_at, violations_at}
+use Rattle.si_text.specs.Texts.{few_lines, finding_lines, gone_text, not_among, summary_text, told_chances, verdict_of}
+use Rattle.si_run.specs.Outputs.{Progress, SourcedItem, Terms, counted, decided_after, is_due, no_lines, output_of, part_line_by, progress_after, progress_through, refusal_line, report_at, report_due, report_end, short_line_by, start, status_of, violations_at}
 
 -- ---- runs without horizons
 
@@ -49,18 +50,24 @@ refused_among limit journal [] = 0
 refused_among limit journal (item ∷ items) =
     counted (refused_among limit (journal_after limit journal item.1.1) items) (reason_plainly limit journal item.1.1)
 
--- the report of what is present, with what could have been found, where that is told, and the lines of what it is short of, where numbers are expected
-abbrev pub whole_report : Bool → Option ℕ → Asked → Present → ℕ → List ℕ
-whole_report explain expected asked P refused =
+-- the numbers of the last lines of the sources that were decided, behind items that come after lines of these numbers
+abbrev pub last_lines : List ℕ → List SourcedItem → List ℕ
+last_lines lines [] = lines
+last_lines lines (item ∷ items) = last_lines (slice_set lines item.0 item.1.0) items
+
+-- the report of what is present, with the partition that is judged, if one is, and the last lines, what could have been found, where that is told, and the lines of what it is short of, where numbers are expected
+abbrev pub whole_report : Bool → Option ℕ → Asked → Option Partition → List ℕ → Present → ℕ → List ℕ
+whole_report explain expected asked part lines P refused =
     flat_map (finding_lines explain) (findings P)
+    ++ (part_line_by part lines
     ++ ((told_chances asked.tells (chances P) ++ (short_line_by expected (committed_among P.txns) (doubtful_among P.txns) ++ few_lines asked.expected (chances P)))
-    ++ summary_text (length P.txns) (length (findings P)) refused (verdict_of (findings P)))
+    ++ summary_text (length P.txns) (length (findings P)) refused (verdict_of (findings P))))
 
 -- without reports on the way and horizons the output is the lines of the refused items and then the report of what is present
 abbrev pub PlainOutputIsExact : Type 0
-PlainOutputIsExact = (limit : ℕ) (only_new explain : Bool) (expected : Option ℕ) (asked : Asked) (shows : Bool) (items : List SourcedItem)
-    → output_of (record { limit = limit; every = None; only_new = only_new; explain = explain; expected = expected; asked = asked; horizons = false; shows = shows }) items
-    ≡ refusal_lines limit [] items ++ whole_report explain expected asked (present (accepted_after limit [] items)) (refused_among limit [] items)
+PlainOutputIsExact = (limit : ℕ) (only_new explain : Bool) (expected : Option ℕ) (asked : Asked) (part : Option Partition) (sources : ℕ) (shows : Bool) (items : List SourcedItem)
+    → output_of (record { limit = limit; every = None; only_new = only_new; explain = explain; expected = expected; asked = asked; horizons = false; part = part; sources = sources; shows = shows }) items
+    ≡ refusal_lines limit [] items ++ whole_report explain expected asked part (take sources (last_lines no_lines items)) (present (accepted_after limit [] items)) (refused_among limit [] items)
 
 -- ---- reports that tell only what changed
 
@@ -77,10 +84,10 @@ changes_due terms p = if is_due terms.every p.decided then record { came = not_a
 abbrev pub changes_lines : Bool → Changes → List ℕ
 changes_lines explain c = flat_map (finding_lines explain) c.came ++ flat_map gone_text c.went
 
--- where reports on the way tell only what changed, what is written for one is these lines, what lies below a horizon, and the summary
+-- where reports on the way tell only what changed, what is written for one is these lines, and what stands behind the findings of each report
 abbrev pub ChangesAreText : Type 0
 ChangesAreText = (terms : Terms) (p : Progress) → terms.only_new ≡ true
-    → report_due terms p ≡ flat_map (λ c. changes_lines terms.explain c ++ (forgot_lines (forgot_in p) ++ summary_at p)) (changes_due terms p)
+    → report_due terms p ≡ flat_map (λ c. changes_lines terms.explain c ++ report_end terms p) (changes_due terms p)
 
 -- what the reports on the way behind these items tell, one after the other
 abbrev pub changes_through : Terms → Progress → List SourcedItem → List Changes

@@ -1,3 +1,4 @@
+pub mod Keeping
 pub mod Outputs
 pub mod Interleavings
 pub mod Runs

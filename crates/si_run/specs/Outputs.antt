@@ -1,5 +1,5 @@
 -- What the program writes for the items of its inputs, and its exit status.
-use Rattle.std.specs.Prelude.{ℕ, ◌+◌, ◌%◌, Bool, true, false, not, ◌&&◌, ◌||◌, ◌==◌, nat_eq, nat_lt, if◌then◌else◌, List, [], ◌∷◌, ◌++◌, length, map, Option, Some, None, is_none, Result, Ok, Err}
+use Rattle.std.specs.Prelude.{ℕ, ◌+◌, ◌%◌, Bool, true, false, not, ◌&&◌, ◌||◌, ◌==◌, nat_eq, nat_lt, if◌then◌else◌, List, [], ◌∷◌, ◌++◌, length, map, replicate, slice_set, take, Option, Some, None, is_none, Result, Ok, Err}
 use Rattle.std.specs.Option.{option_map, option_or}
 use Rattle.std.specs.List.{filter, flat_map, list_any}
 use Rattle.std.specs.declared.cmp.Ordering.{Ordering}
@@ -32,7 +32,9 @@ use Rattle.si_text.specs.declared.reasons.Reason.TheVariants.{Malformed, Refused
 use Rattle.si_text.specs.declared.verdicts.Verdict.{Verdict}
 use Rattle.si_text.specs.declared.verdicts.Verdict.TheVariants as verdict
 use Rattle.si_text.specs.Inputs.{Item}
-use Rattle.si_text.specs.Texts.{are_few, changes_text, few_lines, final_lines, finding_lines, findings_with, forgot_lines, not_among, refused_text, short_text, summary_text, told_chances, transactions_with, verdict_of, verdict_with, violations_of}
+use Rattle.si_partitions.specs.declared.partitions.Partition.{Partition}
+use Rattle.si_intake.specs.declared.openings.TheConstants.{MOST_SOURCES}
+use Rattle.si_text.specs.Texts.{are_few, changes_text, few_lines, final_lines, finding_lines, findings_with, forgot_lines, not_among, part_text, refused_text, short_text, summary_text, told_chances, transactions_with, verdict_of, verdict_with, violations_of}
 use Rattle.si_run.specs.declared.engines.Decision.{Decision}
 use Rattle.si_run.specs.declared.engines.Decision.TheVariants as decision
 use Rattle.si_run.specs.declared.statuses.ExitStatus.{ExitStatus}
@@ -52,8 +54,8 @@ from_source source items = map (sourced source) items
 
 -- the most edits that a journal may have, after how many decided items each report comes, if any do on the way, whether these tell
 -- only what changed, whether evidence follows the findings, how many committed transactions are expected at the end, if any number is, what is
--- asked of what could have been found, whether horizons are taken, and whether lines of progress are shown on the error device, which changes
--- nothing of the text
+-- asked of what could have been found, whether horizons are taken, which partition of the keys is judged, if one alone is, how many sources there are,
+-- and whether lines of progress are shown on the error device, which changes nothing of the text
 pub record Terms : Type 0 where
   pub limit : ℕ
   pub every : Option ℕ
@@ -62,6 +64,8 @@ pub record Terms : Type 0 where
   pub expected : Option ℕ
   pub asked : Asked
   pub horizons : Bool
+  pub part : Option Partition
+  pub sources : ℕ
   pub shows : Bool
 
 -- what lies below the last horizon: the numbers, in order, of the transactions that were carried over it and were settled, how many are gone over
@@ -75,18 +79,23 @@ pub record Forgotten : Type 0 where
   pub violations : ℕ
 
 -- how far the decisions are: the edits that make what is present, which are all accepted ones where no horizon was taken, how many items were decided
--- and how many of them refused, what lies below a horizon, if one was taken, and, where reports on the way tell only what changed, the
+-- and how many of them refused, the number of the last line of each source that was decided, what lies below a horizon, if one was taken, and, where reports on the way tell only what changed, the
 -- violations that there were at the one before and that haven't become final since
 pub record Progress : Type 0 where
   pub journal : List Edit
   pub decided : ℕ
   pub refused : ℕ
+  pub lines : List ℕ
   pub told : List Finding
   pub forgotten : Option Forgotten
 
+-- no line of any source is decided
+abbrev pub no_lines : List ℕ
+no_lines = replicate MOST_SOURCES 0
+
 -- nothing is decided
 abbrev pub start : Progress
-start = record { journal = []; decided = 0; refused = 0; told = []; forgotten = None }
+start = record { journal = []; decided = 0; refused = 0; lines = no_lines; told = []; forgotten = None }
 
 -- ids are in the order of their numbers
 abbrev pub id_cmp : TxnId → TxnId → Ordering
@@ -234,7 +243,7 @@ is_due (Some n) decided = decided % n == 0
 unfoldable pub decided_after : Terms → Progress → SourcedItem → Progress
 decided_after terms p item =
     let reason = reason_after terms p item.1.1 in
-    record (taken_by reason item.1.1 p) { decided = p.decided + 1; refused = counted p.refused reason }
+    record (taken_by reason item.1.1 p) { decided = p.decided + 1; refused = counted p.refused reason; lines = slice_set p.lines item.0 item.1.0 }
 
 -- the violations at this moment
 abbrev pub violations_at : Progress → List Finding
@@ -313,23 +322,36 @@ summary_at p =
     summary_text (transactions_with (forgot_in p) (length (present p.journal).txns)) (findings_with (forgot_in p) (length (findings (present p.journal))))
     p.refused (verdict_at p)
 
+-- the line of the partition that is judged, with the last lines of the sources that were decided
+abbrev pub part_line_by : Option Partition → List ℕ → List ℕ
+part_line_by None lines = []
+part_line_by (Some part) lines = part_text part.index part.count lines
+
+-- the same, if one is
+abbrev pub part_line : Terms → Progress → List ℕ
+part_line terms p = part_line_by terms.part (take terms.sources p.lines)
+
+-- what stands behind the findings of a report on the way: which partition is judged, what lies below a horizon, and the summary
+abbrev pub report_end : Terms → Progress → List ℕ
+report_end terms p = part_line terms p ++ (forgot_lines (forgot_in p) ++ summary_at p)
+
 -- the report of all that is found
 unfoldable pub whole_report_at : Terms → Progress → List ℕ
-whole_report_at terms p = flat_map (finding_lines terms.explain) (findings (present p.journal)) ++ (forgot_lines (forgot_in p) ++ summary_at p)
+whole_report_at terms p = flat_map (finding_lines terms.explain) (findings (present p.journal)) ++ report_end terms p
 
 -- the report of the violations that came or went since the one before
 unfoldable pub changes_at : Terms → Progress → List ℕ
-changes_at terms p = changes_text terms.explain p.told (violations_at p) ++ (forgot_lines (forgot_in p) ++ summary_at p)
+changes_at terms p = changes_text terms.explain p.told (violations_at p) ++ report_end terms p
 
 -- the report on the way
 abbrev pub report_on_the_way : Terms → Progress → List ℕ
 report_on_the_way terms p = if terms.only_new then changes_at terms p else whole_report_at terms p
 
--- the last report, which tells all that is found, what lies below a horizon, what could have been found, where that is told, and what the run is
--- short of
+-- the last report, which tells all that is found, which partition is judged, what lies below a horizon, what could have been found, where that is
+-- told, and what the run is short of
 unfoldable pub report_at : Terms → Progress → List ℕ
 report_at terms p =
-    flat_map (finding_lines terms.explain) (findings (present p.journal)) ++ (forgot_lines (forgot_in p) ++ (ending_lines terms p ++ summary_at p))
+    flat_map (finding_lines terms.explain) (findings (present p.journal)) ++ (part_line terms p ++ (forgot_lines (forgot_in p) ++ (ending_lines terms p ++ summary_at p)))
 
 -- the line of a refused item
 abbrev pub refusal_line : ℕ → ℕ → Option Reason → List ℕ
@@ -342,7 +364,7 @@ report_due terms p = if is_due terms.every p.decided then report_on_the_way term
 
 -- what is told at a horizon: each finding that has become final, and what lies below it; p is how far the decisions were before, and q behind it
 unfoldable pub horizon_text : Terms → Stamp → Progress → Progress → List ℕ
-horizon_text terms H p q = flat_map (final_lines terms.explain) (finals_at H p) ++ (forgot_lines (forgot_in q) ++ summary_at q)
+horizon_text terms H p q = flat_map (final_lines terms.explain) (finals_at H p) ++ report_end terms q
 
 -- the same, where a number was given
 abbrev pub horizon_text_by : Terms → Option Stamp → Progress → Progress → List ℕ

@@ -59,5 +59,6 @@ IsRefused (closing.Over o) = ⊥
 pub record IsLeft (p : Progress) (c : Counts) : Type 0 where
   pub decided : c.decided ≡ p.decided
   pub refused : c.refused ≡ p.refused
+  pub lines : c.lines.last ≡ p.lines
   pub forgotten : c.forgotten ≡ p.forgotten
   pub counts : p.refused ≤ p.decided

@@ -1,12 +1,12 @@
 -- What a run does to its devices.
 use Rattle.std.specs.Prelude.{◌≡◌, ◌≢◌, ◌⊎◌, ℕ, ◌-◌, ◌^◌, ◌<◌, ◌≤◌, ◌++◌, Bool, true, false, List, [], ◌∷◌, length, map, slice_index_or, Option, Some, None, ⊤}
-use Rattle.std.specs.Option.{option_map}
+use Rattle.std.specs.Option.{option_map, IfSome}
 use Rattle.std.specs.declared.num.NonZeroU64.{NonZeroU64}
 use Rattle.std.specs.Int.NonZero.{non_zero_u64_get}
 use Rattle.std.specs.Io.KnownBytes.{Appends}
 use Rattle.si_text.specs.Devices.{Lent, Output}
-use Rattle.si_text.specs.Inputs.{items_of}
 use Rattle.si_model.specs.declared.edits.TheConstants.{MOST_EDITS}
+use Rattle.si_partitions.specs.declared.partitions.TheConstants.{MOST_PARTITIONS}
 use Rattle.si_shard.specs.declared.shards.TheConstants.{MOST_SHARDS}
 use Rattle.si_checker.specs.Openings.{IsOpenFault}
 use Rattle.si_checker.specs.declared.openings.OpenFault.{OpenFault}
@@ -18,6 +18,7 @@ use Rattle.si_run.specs.declared.faults.RunFault.TheVariants as fault
 use Rattle.si_run.specs.Interleavings.{IsInterleaving}
 use Rattle.si_run.specs.Outputs.{SourcedItem, Terms, from_source, output_of, status_of}
 use Rattle.si_run.specs.GateLaws.{IsGate}
+use Rattle.si_run.specs.Keeping.{kept_items}
 
 -- the options are in range
 pub record IsRunnable (options : Options) : Type 0 where
@@ -25,14 +26,15 @@ pub record IsRunnable (options : Options) : Type 0 where
   pub most_shards : options.shards ≤ MOST_SHARDS
   pub some_edits : 1 ≤ options.limit
   pub most_edits : options.limit ≤ MOST_EDITS
+  pub few_partitions : IfSome options.part (λ p. p.count ≤ MOST_PARTITIONS)
 
 -- after how many decided items each report on the way comes, as a number
 abbrev pub every_by : Option NonZeroU64 → Option ℕ
 every_by every = option_map non_zero_u64_get every
 
--- what the options say of the texts: nothing of the shards, so their number changes none
-abbrev pub terms_by : Options → Terms
-terms_by options = record {
+-- what the options say of the texts of so many sources: nothing of the shards, so their number changes none
+abbrev pub terms_by : ℕ → Options → Terms
+terms_by sources options = record {
   limit = options.limit;
   every = every_by options.every;
   only_new = options.only_new;
@@ -40,6 +42,8 @@ terms_by options = record {
   expected = options.expected;
   asked = options.asked;
   horizons = options.horizons;
+  part = options.part;
+  sources = sources;
   shows = options.shows_progress;
 }
 
@@ -49,11 +53,11 @@ IsStatus terms items status = (status ≡ status_of terms items) × IsGate terms
 
 -- ---- one input
 
--- where the input's bytes are known, what was written is the text of its items, as far as the writer tells, and so is the status
+-- where the input's bytes are known, what was written is the text of its items, as far as these are kept and the writer tells, and so is the status
 abbrev pub WritesOutput : Terms → Option (List ℕ) → Option (List ℕ) → Option (List ℕ) → ExitStatus → Type 0
 WritesOutput terms None old new status = ⊤
 WritesOutput terms (Some bytes) old new status =
-    Appends old new (output_of terms (from_source 0 (items_of bytes))) × IsStatus terms (from_source 0 (items_of bytes)) status
+    Appends old new (output_of terms (from_source 0 (kept_items terms.part bytes))) × IsStatus terms (from_source 0 (kept_items terms.part bytes)) status
 
 -- as far as the writer tells, what was written is a beginning of that text
 abbrev pub AppendsBeginning : Option (List ℕ) → Option (List ℕ) → List ℕ → Type 0
@@ -66,7 +70,7 @@ AppendsPart old new text = (part : List ℕ) × (rest : List ℕ) × (text ≡ p
 -- where the input's bytes are known, what was written is a beginning of the text of its items, as far as the writer tells
 abbrev pub WritesBeginning : Terms → Option (List ℕ) → Option (List ℕ) → Option (List ℕ) → Type 0
 WritesBeginning terms None old new = ⊤
-WritesBeginning terms (Some bytes) old new = AppendsBeginning old new (output_of terms (from_source 0 (items_of bytes)))
+WritesBeginning terms (Some bytes) old new = AppendsBeginning old new (output_of terms (from_source 0 (kept_items terms.part bytes)))
 
 -- ---- several inputs
 
@@ -80,7 +84,7 @@ all_known (Some bytes ∷ inputs) = option_map (λ all. bytes ∷ all) (all_know
 abbrev pub WritesSome : Terms → Option (List (List ℕ)) → Option (List ℕ) → Option (List ℕ) → ExitStatus → Type 0
 WritesSome terms None old new status = ⊤
 WritesSome terms (Some all) old new status =
-    (items : List SourcedItem) × IsInterleaving items (map items_of all) × Appends old new (output_of terms items) × IsStatus terms items status
+    (items : List SourcedItem) × IsInterleaving items (map (kept_items terms.part) all) × Appends old new (output_of terms items) × IsStatus terms items status
 
 -- where the bytes of all inputs are known, what was written is the text of some interleaving of their items
 abbrev pub WritesInterleaved : Terms → List (Option (List ℕ)) → Option (List ℕ) → Option (List ℕ) → ExitStatus → Type 0
@@ -89,7 +93,7 @@ WritesInterleaved terms inputs old new status = WritesSome terms (all_known inpu
 -- what was written is a beginning of the text of an interleaving of these items, as far as the writer tells
 abbrev pub BeginsSome : Terms → Option (List (List ℕ)) → Option (List ℕ) → Option (List ℕ) → Type 0
 BeginsSome terms None old new = ⊤
-BeginsSome terms (Some all) old new = (items : List SourcedItem) × IsInterleaving items (map items_of all) × AppendsBeginning old new (output_of terms items)
+BeginsSome terms (Some all) old new = (items : List SourcedItem) × IsInterleaving items (map (kept_items terms.part) all) × AppendsBeginning old new (output_of terms items)
 
 -- where the bytes of all inputs are known, what was written is a beginning of the text of some interleaving of their items
 abbrev pub BeginsInterleaved : Terms → List (Option (List ℕ)) → Option (List ℕ) → Option (List ℕ) → Type 0

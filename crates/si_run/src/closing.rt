@@ -25,6 +25,7 @@ ghost use Rattle.si_run.specs.Outputs.{Progress, behind_report, changes_at, coun
 use crate::engines::Engine;
 use crate::finals::{copies_missing, missing};
 use crate::forgotten::{Forgotten, back};
+use crate::lines::Lines;
 use crate::overs::{Closing, Counts, Over, forgotten_over, sum};
 use crate::tolds::Told;
 use crate::{ExitStatus, Options};
@@ -141,13 +142,16 @@ impl<N: Name> Engine<N> {
         rt: &R,
         checker: &Checker<N>,
         text: &mut Vec<u8>,
+        source: usize,
+        line: u64,
         over: Over,
         counts: Counts,
     ) -> Result<(), OutOfMemory>
         requires fresh { self.old.progress ≡ start }
         requires over { (p : Progress) × IsOver self.old.terms.limit p over × IsLeft p counts × (p.decided < 2 ^ 64 - 1) }
         ensures ok { OnOk result ((p : Progress) → IsOver self.old.terms.limit p over → IsLeft p counts
-            → (text.new.items ≡ text.old.items ++ over_text self.old.terms over.horizon p) × (self.new.progress ≡ behind_report self.old.terms (decided_over over.horizon p))) }
+            → (text.new.items ≡ text.old.items ++ over_text self.old.terms source line over.horizon p)
+            × (self.new.progress ≡ behind_report self.old.terms (decided_over source line over.horizon p))) }
         ensures terms { self.new.terms ≡ self.old.terms }
     {
         let Over {
@@ -170,6 +174,7 @@ impl<N: Name> Engine<N> {
         let Counts {
             decided,
             refused,
+            mut lines,
             found,
             forgotten,
         } = counts;
@@ -183,20 +188,29 @@ impl<N: Name> Engine<N> {
             &mut finals,
         )?;
         self.found = found;
-        self.count_on(decided + 1, refused, told, forgotten);
+        lines.note(source, line);
+        self.count_on(decided + 1, refused, lines, told, forgotten);
         let (found, verdict) = (left.findings.len(), Verdict::of(&left.findings));
         self.put_summary(text, left.transactions, found, verdict)?;
         self.report_where_due(rt, checker, text)
     }
 
     /// Counts on from what the epochs before counted, where these violations stay of what they told.
-    fn count_on(&mut self, decided: u64, refused: u64, told: Vec<Finding>, forgotten: Forgotten)
+    fn count_on(
+        &mut self,
+        decided: u64,
+        refused: u64,
+        lines: Lines,
+        told: Vec<Finding>,
+        forgotten: Forgotten,
+    )
         requires counts { refused ≤ decided }
         requires told { IsStrictlySortedBy finding_cmp told.items }
-        ensures { self.new ≡ record self.old { progress = record self.old.progress { decided = decided; refused = refused; told = told.items; forgotten = Some forgotten } } }
+        ensures { self.new ≡ record self.old { progress = record self.old.progress { decided = decided; refused = refused; lines = lines.last; told = told.items; forgotten = Some forgotten } } }
     {
         self.decided = decided;
         self.refused = refused;
+        self.lines = lines;
         self.listed = Some(told);
         self.forgotten = Some(forgotten);
     }
@@ -227,6 +241,7 @@ impl<N: Name> Engine<N> {
         Counts {
             decided: self.decided,
             refused: self.refused,
+            lines: self.lines,
             found: self.found,
             forgotten: self.forgotten,
         }

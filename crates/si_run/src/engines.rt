@@ -27,6 +27,7 @@ ghost use Rattle.si_run.specs.Outputs.{Progress, behind_report, changes_at, coun
 
 use crate::finals::{copies_missing, missing};
 use crate::forgotten::{Forgotten, back};
+use crate::lines::Lines;
 use crate::overs::{Closing, Counts, Over, forgotten_over, sum};
 use crate::tolds::Told;
 use crate::{ExitStatus, Options};
@@ -39,6 +40,7 @@ use si_horizons::{carry_over, doubt_before};
 use si_model::laws::present_is_history;
 use si_model::sorting::put_in_order;
 use si_model::{Chances, Edit, Finding, OutOfMemory, Refusal, Stamp};
+use si_partitions::Partition;
 use si_text::{
     Asked, Ending, Field, Forgot, HorizonRefusal, LineFault, LineItem, Reason, Shortage, Verdict,
     findings_with, keep_violations, print_changes, print_finals, print_forgot, print_refusal,
@@ -74,9 +76,12 @@ pub struct Engine<N: Name> {
     pub(crate) expected: Option<u64>,
     pub(crate) asked: Asked,
     pub(crate) horizons: bool,
+    pub(crate) part: Option<Partition>,
+    pub(crate) sources: usize,
     pub(crate) shows: bool,
     pub(crate) decided: u64,
     pub(crate) refused: u64,
+    pub(crate) lines: Lines,
     // How many findings the last report had. It stands in lines of progress alone.
     pub(crate) found: Option<u64>,
     // What the last report on the way told, where these tell only what changed.
@@ -93,19 +98,25 @@ impl<N: Name> Model for Engine<N> {
 
     ghost Value = { EngineState };
 
-    ghost view = { λ e. engine_state (record { limit = N.limit; every = every_by e.every; only_new = e.only_new; explain = e.explain; expected = e.expected; asked = e.asked; horizons = e.horizons; shows = e.shows }) e.pass.view e.decided e.refused e.told (listed_in e.listed) e.forgotten };
+    ghost view = { λ e. engine_state (record { limit = N.limit; every = every_by e.every; only_new = e.only_new; explain = e.explain; expected = e.expected; asked = e.asked; horizons = e.horizons; part = e.part; sources = e.sources; shows = e.shows }) e.pass.view e.decided e.refused e.lines.last e.told (listed_in e.listed) e.forgotten };
 
     ghost invariant = { λ e. IsEngine N.board N.limit e.pass e.limit e.decided e.refused e.told (listed_in e.listed) };
 }
 
 impl<N: Name> Engine<N> {
-    /// An engine that has decided nothing, with the only pass of the checker.
-    pub fn new(alloc: Global, hash: RandomState, pass: Pass, options: Options) -> Self
+    /// An engine that has decided nothing of so many sources, with the only pass of the checker.
+    pub fn new(
+        alloc: Global,
+        hash: RandomState,
+        pass: Pass,
+        options: Options,
+        sources: usize,
+    ) -> Self
         requires alone { N.board.passes ≡ 1 }
         requires pass { pass ≡ seated N.board.table (new_pass N.board.shards 0) }
         requires limit { options.limit ≡ N.limit }
         ensures progress { result.progress ≡ start }
-        ensures terms { result.terms ≡ terms_by options }
+        ensures terms { result.terms ≡ terms_by sources options }
     {
         Engine {
             alloc,
@@ -118,9 +129,12 @@ impl<N: Name> Engine<N> {
             expected: options.expected,
             asked: options.asked,
             horizons: options.horizons,
+            part: options.part,
+            sources,
             shows: options.shows_progress,
             decided: 0,
             refused: 0,
+            lines: Lines::new(),
             found: None,
             told: Told::nothing(),
             listed: None,
@@ -197,25 +211,26 @@ impl<N: Name> Engine<N> {
         requires room { self.old.progress.decided < 2 ^ 64 - 1 }
         ensures decision { IfOk result (λ decision. decision ≡ decision_by reason) }
         ensures text { OnOk result (text.new.items
-            ≡ text.old.items ++ (refusal_line source line reason ++ report_due self.old.terms (one_more self.old.progress reason))) }
-        ensures progress { OnOk result (self.new.progress ≡ behind_report self.old.terms (one_more self.old.progress reason)) }
+            ≡ text.old.items ++ (refusal_line source line reason ++ report_due self.old.terms (one_more source line self.old.progress reason))) }
+        ensures progress { OnOk result (self.new.progress ≡ behind_report self.old.terms (one_more source line self.old.progress reason)) }
         ensures terms { self.new.terms ≡ self.old.terms }
-        ensures err { OnErr result ((self.new.progress ≡ one_more self.old.progress reason)
+        ensures err { OnErr result ((self.new.progress ≡ one_more source line self.old.progress reason)
             × (IsSome reason ⊎ (is_due self.old.terms.every (self.old.progress.decided + 1) ≡ true))) }
     {
-        let decision = self.count(&reason);
+        let decision = self.count(source, line, &reason);
         self.tell(text, source, line, reason)?;
         self.report_where_due(rt, checker, text)?;
         Ok(decision)
     }
 
     /// Counts an item that was decided, for this reason against it or for none, and answers what became of it.
-    fn count(&mut self, reason: &Option<Reason>) -> Decision
+    fn count(&mut self, source: usize, line: u64, reason: &Option<Reason>) -> Decision
         requires { self.old.progress.decided < 2 ^ 64 - 1 }
-        ensures counted { self.new ≡ record self.old { progress = one_more self.old.progress reason.now } }
+        ensures counted { self.new ≡ record self.old { progress = one_more source line self.old.progress reason.now } }
         ensures decision { result ≡ decision_by reason.now }
     {
         self.decided += 1;
+        self.lines.note(source, line);
         if reason.is_none() {
             return Decision::Accepted;
         }

@@ -82,7 +82,7 @@ pub(crate) fn run_epochs<
     requires limit { options.limit ≡ N.limit }
     requires untaken { accepter.old.taken ≡ [] }
     requires writer { (W.seen writer.old).failed ≡ false }
-    ensures accepted { (q : Progress) × IsAccepted (terms_by options) accepter.old accepter.new (lent (W.seen writer.old) (W.seen writer.new)) q result }
+    ensures accepted { (q : Progress) × IsAccepted (terms_by session.now.count options) accepter.old accepter.new (lent (W.seen writer.old) (W.seen writer.new)) q result }
     ensures told { IsTold options.shows_progress result (lent (E.seen err.old) (E.seen err.new)) }
 {
     let mut none = None;
@@ -110,9 +110,9 @@ fn next_epoch<R: Threads + Wait + Clock + Sync, W: ByteSink, E: ByteSink, G: Gat
     writer: &mut W,
     err: &mut E,
 ) -> Turn
-    requires left { IsUnderWay (terms_by options) (W.seen writer.old) (Some left) }
+    requires left { IsUnderWay (terms_by session.now.count options) (W.seen writer.old) (Some left) }
     requires writer { (W.seen writer.old).failed ≡ false }
-    ensures runs { RunsTurn (terms_by options) (Some left) accepter.old accepter.new (lent (W.seen writer.old) (W.seen writer.new)) result }
+    ensures runs { RunsTurn (terms_by session.now.count options) (Some left) accepter.old accepter.new (lent (W.seen writer.old) (W.seen writer.new)) result }
     ensures works { Works (W.seen writer.new) result }
     ensures told { TellsTurn options.shows_progress result (lent (E.seen err.old) (E.seen err.new)) }
 {
@@ -152,14 +152,14 @@ fn run_parts<
     writer: &mut W,
     err: &mut E,
 ) -> Turn
-    requires left { IsUnderWay (terms_by options) (W.seen writer.old) (Some left) }
+    requires left { IsUnderWay (terms_by session.now.count options) (W.seen writer.old) (Some left) }
     requires board { parts.board ≡ N.board }
     requires of_parts { parts.limit ≡ N.limit }
     requires alone { N.board.passes ≡ 1 }
     requires pass { pass ≡ seated N.board.table (new_pass N.board.shards 0) }
     requires limit { options.limit ≡ N.limit }
     requires writer { (W.seen writer.old).failed ≡ false }
-    ensures runs { RunsTurn (terms_by options) (Some left) accepter.old accepter.new (lent (W.seen writer.old) (W.seen writer.new)) result }
+    ensures runs { RunsTurn (terms_by session.now.count options) (Some left) accepter.old accepter.new (lent (W.seen writer.old) (W.seen writer.new)) result }
     ensures works { Works (W.seen writer.new) result }
     ensures told { TellsTurn options.shows_progress result (lent (E.seen err.old) (E.seen err.new)) }
 {
@@ -210,13 +210,13 @@ fn run_epoch<
     requires alone { N.board.passes ≡ 1 }
     requires pass { pass ≡ seated N.board.table (new_pass N.board.shards 0) }
     requires limit { options.limit ≡ N.limit }
-    requires left { IsUnderWay (terms_by options) (W.seen writer.old) left.old }
+    requires left { IsUnderWay (terms_by session.now.count options) (W.seen writer.old) left.old }
     requires writer { (W.seen writer.old).failed ≡ false }
-    ensures runs { RunsTurn (terms_by options) left.old accepter.old accepter.new (lent (W.seen writer.old) (W.seen writer.new)) result }
+    ensures runs { RunsTurn (terms_by session.now.count options) left.old accepter.old accepter.new (lent (W.seen writer.old) (W.seen writer.new)) result }
     ensures works { Works (W.seen writer.new) result }
     ensures told { TellsTurn options.shows_progress result (lent (E.seen err.old) (E.seen err.new)) }
 {
-    let mut engine = Engine::new(session.alloc, session.hash, pass, options);
+    let mut engine = Engine::new(session.alloc, session.hash, pass, options, session.count);
     let end = work_and_accept(
         rt,
         session,
@@ -361,7 +361,7 @@ fn begin<N: Name, R: Wait, W: ByteSink, G: Gate>(
         return Ok(());
     };
     let Taken { source, line, over } = taken;
-    engine.go_on(rt, checker, text, over, counts)?;
+    engine.go_on(rt, checker, text, source, line, over, counts)?;
     write_all(writer, text)?;
     session.gate.at(Place::Decided { source, line });
     Ok(())

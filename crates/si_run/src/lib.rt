@@ -14,6 +14,7 @@ pub mod faults;
 mod finals;
 mod forgotten;
 pub mod laws;
+mod lines;
 pub mod options;
 mod overs;
 mod reporting;

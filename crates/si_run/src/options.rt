@@ -1,5 +1,6 @@
 //! What a caller chooses of a run.
 
+use si_partitions::Partition;
 use si_text::Asked;
 use std::num::NonZeroU64;
 
@@ -23,6 +24,8 @@ pub struct Options {
     pub asked: Asked,
     /// Whether a line may ask for a horizon, below which all is forgotten. Where none may, it is refused as one of a kind that isn't known.
     pub horizons: bool,
+    /// The partition of the keys that is judged. The whole log is where it isn't given.
+    pub part: Option<Partition>,
     /// Whether the error device shows, in one line again and again, how far the run is. It changes no text.
     pub shows_progress: bool,
     /// The most edits that are accepted, 1 to `MOST_EDITS`.

@@ -6,6 +6,7 @@ ghost use Rattle.si_model.specs.Order.{in_order};
 ghost use Rattle.si_run.specs.Overs.{IsForgotten};
 
 use crate::forgotten::Forgotten;
+use crate::lines::Lines;
 use si_horizons::Carried;
 use si_model::sorting::put_in_order;
 use si_model::{Finding, OutOfMemory, Stamp, TxnId};
@@ -37,6 +38,7 @@ pub enum Closing {
 pub struct Counts {
     pub decided: u64,
     pub refused: u64,
+    pub lines: Lines,
     /// How many findings the last report had. It stands in lines of progress alone.
     pub found: Option<u64>,
     pub forgotten: Option<Forgotten>,

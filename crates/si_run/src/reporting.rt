@@ -10,7 +10,7 @@ ghost use Rattle.si_model.specs.Journals.{IsAccepted, present, refusal_after};
 ghost use Rattle.si_model.specs.Order.{finding_cmp};
 ghost use Rattle.si_accept.specs.Statuses.{committed_among, doubtful_among};
 ghost use Rattle.si_text.specs.declared.reasons.Reason.TheVariants.{Refused};
-ghost use Rattle.si_text.specs.Texts.{asks, findings_with, forgot_lines, is_short_ending, lines_asked, not_among, shortage_lines, summary_text, transactions_with, verdict_with, violations_of};
+ghost use Rattle.si_text.specs.Texts.{asks, findings_with, forgot_lines, is_short_ending, lines_asked, not_among, part_lines, shortage_lines, summary_text, transactions_with, verdict_with, violations_of};
 ghost use Rattle.si_run.specs.Tolds.{IsToldIn, IsToldNow, found_then};
 ghost use Rattle.si_words.specs.Seats.{seated};
 ghost use Rattle.si_words.specs.Views.{new_pass};
@@ -20,7 +20,7 @@ ghost use Rattle.si_run.specs.Laws.{journal_after};
 ghost use Rattle.si_run.specs.Overs.{IsClosing, IsLeft, IsOver, IsRefused};
 ghost use Rattle.si_run.specs.Runs.{every_by, terms_by};
 ghost use Rattle.si_run.specs.Takings.{IsLeftAt};
-ghost use Rattle.si_run.specs.Outputs.{Progress, behind_report, changes_at, committed_in, counted, decision_by, doubtful_in, ending_lines, falls_short, forgot_in, is_due, is_short_of, item_text, late_by, progress_after, reason_after, refusal_line, report_at, report_due, short_line, sourced, start, status_at, sum_with, taken_by, violations_at, whole_report_at};
+ghost use Rattle.si_run.specs.Outputs.{Progress, behind_report, changes_at, committed_in, counted, decision_by, doubtful_in, ending_lines, falls_short, forgot_in, is_due, is_short_of, item_text, late_by, part_line, progress_after, reason_after, refusal_line, report_at, report_due, short_line, sourced, start, status_at, sum_with, taken_by, violations_at, whole_report_at};
 
 use crate::engines::Engine;
 use crate::finals::{copies_missing, missing};
@@ -37,10 +37,11 @@ use si_horizons::{carry_over, doubt_before};
 use si_model::laws::present_is_history;
 use si_model::sorting::put_in_order;
 use si_model::{Chances, Edit, Finding, OutOfMemory, Refusal, Stamp};
+use si_partitions::Partition;
 use si_text::{
-    Asked, Ending, Field, Forgot, HorizonRefusal, LineFault, LineItem, Reason, Shortage, Verdict,
-    findings_with, keep_violations, print_changes, print_finals, print_forgot, print_refusal,
-    print_report_with, print_summary, transactions_with, verdict_with,
+    Asked, Ending, Field, Forgot, HorizonRefusal, LineFault, LineItem, PartLine, Reason, Shortage,
+    Verdict, findings_with, keep_violations, print_changes, print_finals, print_forgot, print_part,
+    print_refusal, print_report_with, print_summary, transactions_with, verdict_with,
 };
 use si_words::laws::{edits_append, edits_keep_length, lone_pass_issues_all};
 use std::alloc::{AllocError, Global};
@@ -50,7 +51,7 @@ use std::num::NonZeroU64;
 use std::sync::Wait;
 
 impl<N: Name> Engine<N> {
-    /// Appends what lies below a horizon and the summary of what is present, of which so much is found.
+    /// Appends which part is judged, if one is, what lies below a horizon, and the summary of what is present, of which so much is found.
     pub(crate) fn put_summary(
         &self,
         text: &mut Vec<u8>,
@@ -58,12 +59,13 @@ impl<N: Name> Engine<N> {
         found: usize,
         verdict: Verdict,
     ) -> Result<(), OutOfMemory>
-        ensures { OnOk result (text.new.items ≡ text.old.items ++ (forgot_lines (forgot_in self.now.progress)
+        ensures { OnOk result (text.new.items ≡ text.old.items ++ (part_line self.now.terms self.now.progress ++ (forgot_lines (forgot_in self.now.progress)
             ++ summary_text (transactions_with (forgot_in self.now.progress) transactions) (findings_with (forgot_in self.now.progress) found)
-            self.now.progress.refused (verdict_with (forgot_in self.now.progress) verdict))) }
+            self.now.progress.refused (verdict_with (forgot_in self.now.progress) verdict)))) }
     {
         let forgot = self.forgot();
         fits(&forgot, transactions, found)?;
+        print_part(self.alloc, text, &self.part_line())?;
         print_forgot(self.alloc, text, &forgot)?;
         let transactions = transactions_with(&forgot, transactions);
         let found = findings_with(&forgot, found);
@@ -77,6 +79,20 @@ impl<N: Name> Engine<N> {
     {
         match &self.forgotten {
             Some(forgotten) => Some(forgotten.told()),
+            None => None,
+        }
+    }
+
+    /// What a report tells of the part that is judged, if one is.
+    pub(crate) fn part_line(&self) -> Option<PartLine<'_>>
+        ensures { part_lines result ≡ part_line self.now.terms self.now.progress }
+    {
+        match self.part {
+            Some(Partition { index, count }) => Some(PartLine {
+                index,
+                count,
+                lines: self.lines.of(self.sources),
+            }),
             None => None,
         }
     }
@@ -122,6 +138,7 @@ impl<N: Name> Engine<N> {
         print_report_with(
             self.alloc,
             text,
+            &self.part_line(),
             &forgot,
             settled.transactions,
             &settled.findings,
@@ -266,6 +283,7 @@ impl<N: Name> Engine<N> {
         let verdict = print_report_with(
             self.alloc,
             text,
+            &self.part_line(),
             &forgot,
             end.transactions,
             &end.findings,

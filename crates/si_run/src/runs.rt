@@ -2,6 +2,8 @@
 //! and accepts on the caller's thread. What a source does stands in `sources.rt`, what the accepter does in `accepters.rt`.
 
 ghost use Rattle.std.specs.Prelude.{◌≡◌, ◌≤◌, All, [], false, length, map};
+ghost use Rattle.std.specs.Option.{IfSome};
+ghost use Rattle.si_partitions.specs.declared.partitions.TheConstants.{MOST_PARTITIONS};
 ghost use Rattle.std.specs.Thread.{IsSend, IsSync};
 ghost use Rattle.si_intake.specs.declared.openings.TheConstants.{MOST_SOURCES};
 ghost use Rattle.si_text.specs.Devices.{each_failed, each_foretold, lent};
@@ -52,6 +54,7 @@ pub fn run<R: Threads + Wait + Clock + Sync, S: ByteSource + Send, W: ByteSink>(
     writer: &mut W,
     options: Options,
 ) -> Result<ExitStatus, RunFault>
+    requires few { IfSome options.part (λ p. p.count ≤ MOST_PARTITIONS) }
     requires some { (1 ≤ length inputs.old) × (length inputs.old ≤ MOST_SOURCES) }
     requires inputs { All (λ s. (S.seen s).failed ≡ false) inputs.old }
     requires writer { (W.seen writer.old).failed ≡ false }
@@ -77,6 +80,7 @@ pub fn run_telling<
     err: &mut E,
     options: Options,
 ) -> Result<ExitStatus, RunFault>
+    requires few { IfSome options.part (λ p. p.count ≤ MOST_PARTITIONS) }
     requires some { (1 ≤ length inputs.old) × (length inputs.old ≤ MOST_SOURCES) }
     requires inputs { All (λ s. (S.seen s).failed ≡ false) inputs.old }
     requires writer { (W.seen writer.old).failed ≡ false }
@@ -101,6 +105,7 @@ pub fn run_gated<
     options: Options,
     gate: &G,
 ) -> Result<ExitStatus, RunFault>
+    requires few { IfSome options.part (λ p. p.count ≤ MOST_PARTITIONS) }
     requires some { (1 ≤ length inputs.old) × (length inputs.old ≤ MOST_SOURCES) }
     requires inputs { All (λ s. (S.seen s).failed ≡ false) inputs.old }
     requires writer { (W.seen writer.old).failed ≡ false }
@@ -128,6 +133,7 @@ pub fn run_gated_telling<
     options: Options,
     gate: &G,
 ) -> Result<ExitStatus, RunFault>
+    requires few { IfSome options.part (λ p. p.count ≤ MOST_PARTITIONS) }
     requires some { (1 ≤ length inputs.old) × (length inputs.old ≤ MOST_SOURCES) }
     requires inputs { All (λ s. (S.seen s).failed ≡ false) inputs.old }
     requires writer { (W.seen writer.old).failed ≡ false }
@@ -170,6 +176,7 @@ fn run_named<
     options: Options,
     gate: &G,
 ) -> Result<ExitStatus, RunFault>
+    requires few { IfSome options.part (λ p. p.count ≤ MOST_PARTITIONS) }
     requires some { (1 ≤ length inputs.old) × (length inputs.old ≤ MOST_SOURCES) }
     requires inputs { All (λ s. (S.seen s).failed ≡ false) inputs.old }
     requires writer { (W.seen writer.old).failed ≡ false }
@@ -178,7 +185,7 @@ fn run_named<
     requires options { options.limit ≡ N.limit }
     requires alone { N.board.passes ≡ 1 }
     requires pass { pass ≡ seated N.board.table (new_pass N.board.shards 0) }
-    ensures ends { EndsOpened (terms_by options) (lent (map S.seen inputs.old) (map S.seen inputs.new)) (lent (W.seen writer.old) (W.seen writer.new)) result }
+    ensures ends { EndsOpened (terms_by (length inputs.old) options) (lent (map S.seen inputs.old) (map S.seen inputs.new)) (lent (W.seen writer.old) (W.seen writer.new)) result }
     ensures told { IsTold options.shows_progress result (lent (E.seen err.old) (E.seen err.new)) }
 {
     if !can_start(rt) {
@@ -190,7 +197,7 @@ fn run_named<
     let Ok(checker) = Checker::<N>::new(alloc, parts) else {
         return refuse(err, options.shows_progress);
     };
-    let Ok(session) = Session::new(alloc, hash, gate, inputs.len()) else {
+    let Ok(session) = Session::new(alloc, hash, gate, inputs.len(), options.part) else {
         return refuse(err, options.shows_progress);
     };
     let ended = read_and_accept(
@@ -231,6 +238,7 @@ fn read_and_accept<
     inputs: &mut [S],
     ends: &mut [SourceEnd],
 ) -> Result<ExitStatus, RunFault>
+    requires few { IfSome session.now.part (λ p. p.count ≤ MOST_PARTITIONS) }
     requires many { length inputs.old ≡ length ends.old }
     requires inputs { All (λ s. (S.seen s).failed ≡ false) inputs.old }
     requires ends { All (λ e. e.put ≡ []) ends.old }
@@ -239,20 +247,20 @@ fn read_and_accept<
     requires limit { options.limit ≡ N.limit }
     requires accepter { accepter.old.taken ≡ [] }
     requires writer { (W.seen writer.old).failed ≡ false }
-    ensures sources { AreRead (each_foretold (map S.seen inputs.old) (map S.seen inputs.new)) (each_failed (map S.seen inputs.new)) ends.old ends.new }
-    ensures accepted { (q : Progress) × IsRunThrough (terms_by options) accepter.old accepter.new (lent (W.seen writer.old) (W.seen writer.new)) q result }
+    ensures sources { AreRead session.now.part (each_foretold (map S.seen inputs.old) (map S.seen inputs.new)) (each_failed (map S.seen inputs.new)) ends.old ends.new }
+    ensures accepted { (q : Progress) × IsRunThrough (terms_by session.now.count options) accepter.old accepter.new (lent (W.seen writer.old) (W.seen writer.new)) q result }
     ensures told { IsTold options.shows_progress result (lent (E.seen err.old) (E.seen err.new)) }
 {
     let mut first = Some((checker, pass));
     let mut sources = ||
         requires { IsSync R.row × IsSync G.row × IsSend S.row
-            × (length inputs.now ≡ length ends.now) × All (λ s. (S.seen s).failed ≡ false) inputs.now × All (λ e. e.put ≡ []) ends.now }
-        ensures { AreRead (each_foretold (map S.seen inputs.entry.now) (map S.seen inputs.exit.now)) (each_failed (map S.seen inputs.exit.now)) ends.entry.now ends.exit.now }
+            × IfSome session.now.part (λ p. p.count ≤ MOST_PARTITIONS) × (length inputs.now ≡ length ends.now) × All (λ s. (S.seen s).failed ≡ false) inputs.now × All (λ e. e.put ≡ []) ends.now }
+        ensures { AreRead session.entry.now.part (each_foretold (map S.seen inputs.entry.now) (map S.seen inputs.exit.now)) (each_failed (map S.seen inputs.exit.now)) ends.entry.now ends.exit.now }
     { read_all(rt, session, inputs, ends) };
     let mut others = || -> Option<Result<ExitStatus, RunFault>>
         requires { IsSync R.row × IsSync N.row × IsSend N.row × IsSync G.row
             × (accepter.now.taken ≡ []) × ((W.seen writer.now).failed ≡ false) × CanBegin N.board first × (N.board.passes ≡ 1) × (options.limit ≡ N.limit) }
-        ensures { (q : Progress) × IsTried (terms_by options) accepter.entry.now accepter.exit.now (lent (W.seen writer.entry.now) (W.seen writer.exit.now)) q result
+        ensures { (q : Progress) × IsTried (terms_by session.entry.now.count options) accepter.entry.now accepter.exit.now (lent (W.seen writer.entry.now) (W.seen writer.exit.now)) q result
             × IsToldIfTried options.shows_progress result (lent (E.seen err.entry.now) (E.seen err.exit.now)) }
     { try_epochs(rt, session, &mut first, options, accepter, writer, err) };
     let ((), tried) = join_mut(rt, &mut sources, &mut others);
@@ -287,7 +295,7 @@ fn try_epochs<
     requires limit { options.limit ≡ N.limit }
     requires accepter { accepter.old.taken ≡ [] }
     requires writer { (W.seen writer.old).failed ≡ false }
-    ensures tried { (q : Progress) × IsTried (terms_by options) accepter.old accepter.new (lent (W.seen writer.old) (W.seen writer.new)) q result }
+    ensures tried { (q : Progress) × IsTried (terms_by session.now.count options) accepter.old accepter.new (lent (W.seen writer.old) (W.seen writer.new)) q result }
     ensures told { IsToldIfTried options.shows_progress result (lent (E.seen err.old) (E.seen err.new)) }
 {
     if !session.have_sources_begun(rt) {

@@ -1,8 +1,9 @@
 //! What all threads of one run share.
-ghost use Rattle.std.specs.Prelude.{◌<◌};
+ghost use Rattle.std.specs.Prelude.{◌≡◌, ◌<◌, IfOk};
 
 use si_checker::{Checker, Gate, Name, Worked};
 use si_model::OutOfMemory;
+use si_partitions::Partition;
 use std::alloc::Global;
 use std::hash::RandomState;
 use std::sync::Wait;
@@ -32,6 +33,10 @@ pub struct Session<'a, G> {
     pub alloc: Global,
     pub hash: RandomState,
     pub gate: &'a G,
+    /// How many sources there are.
+    pub count: usize,
+    /// The partition that is judged, if one is.
+    pub part: Option<Partition>,
     sources: AtomicU64,
     accepted: Vec<AtomicU64>,
     pub stopped: AtomicBool,
@@ -44,7 +49,11 @@ impl<'a, G: Gate> Session<'a, G> {
         hash: RandomState,
         gate: &'a G,
         sources: usize,
-    ) -> Result<Self, OutOfMemory> {
+        part: Option<Partition>,
+    ) -> Result<Self, OutOfMemory>
+        ensures count { IfOk result (λ s. s.count ≡ sources) }
+        ensures part { IfOk result (λ s. s.part ≡ part) }
+    {
         let mut accepted = Vec::new(alloc);
         for _source in 0..sources {
             accepted.push(AtomicU64::new(0))?;
@@ -53,6 +62,8 @@ impl<'a, G: Gate> Session<'a, G> {
             alloc,
             hash,
             gate,
+            count: sources,
+            part,
             sources: AtomicU64::new(AWAITED),
             accepted,
             stopped: AtomicBool::new(false),

@@ -1,15 +1,20 @@
 //! The sources: each is read to its end by a thread of its own, which puts its items for the accepter.
-ghost use Rattle.std.specs.Prelude.{◌≡◌, ◌+◌, ◌-◌, ◌^◌, ◌<◌, ◌≤◌, ◌↔◌, [], false, All, IsTrue, List, length, map, min};
+ghost use Rattle.std.specs.Prelude.{◌≡◌, ◌+◌, ◌-◌, ◌^◌, ◌<◌, ◌≤◌, ◌↔◌, [], false, All, IfOk, IsTrue, List, length, map, min};
+ghost use Rattle.std.specs.Option.{IfSome};
+ghost use Rattle.si_partitions.specs.declared.partitions.TheConstants.{MOST_PARTITIONS};
 ghost use Rattle.std.specs.Thread.{IsSend, IsSync};
 ghost use Rattle.si_text.specs.Devices.{each_failed, each_foretold, foretold};
 ghost use Rattle.si_text.specs.Inputs.{Item as LineRead};
 ghost use Rattle.si_text.specs.LineBuffers.{IsFresh};
+ghost use Rattle.si_run.specs.Keeping.{kept};
 ghost use Rattle.si_run.specs.Readings.{AreRead, EndsSo, HasPut, IsRead};
 
 use crate::sessions::Session;
 use si_checker::{Gate, Place};
 use si_intake::{Item, SourceEnd, What};
-use si_text::{ByteSource, InputFault, KnownKeys, LineBuffer};
+use si_model::OutOfMemory;
+use si_partitions::{Partition, project_edit};
+use si_text::{ByteSource, InputFault, KnownKeys, LineBuffer, LineItem};
 use std::alloc::Global;
 use std::hash::RandomState;
 use std::sync::Wait;
@@ -66,10 +71,11 @@ pub fn read_all<R: Threads + Wait + Sync, S: ByteSource + Send, G: Gate + Sync>(
     inputs: &mut [S],
     ends: &mut [SourceEnd],
 )
+    requires few { IfSome session.now.part (λ p. p.count ≤ MOST_PARTITIONS) }
     requires many { length inputs.old ≡ length ends.old }
     requires works { All (λ s. (S.seen s).failed ≡ false) inputs.old }
     requires fresh { All (λ e. e.put ≡ []) ends.old }
-    ensures { AreRead (each_foretold (map S.seen inputs.old) (map S.seen inputs.new)) (each_failed (map S.seen inputs.new)) ends.old ends.new }
+    ensures { AreRead session.now.part (each_foretold (map S.seen inputs.old) (map S.seen inputs.new)) (each_failed (map S.seen inputs.new)) ends.old ends.new }
 {
     if inputs.is_empty() {
         return;
@@ -89,22 +95,23 @@ fn read_both<R: Threads + Wait + Sync, S: ByteSource + Send, G: Gate + Sync>(
     inputs: &mut [S],
     ends: &mut [SourceEnd],
 )
+    requires few { IfSome session.now.part (λ p. p.count ≤ MOST_PARTITIONS) }
     requires works { (S.seen input.old).failed ≡ false }
     requires fresh { end.old.put ≡ [] }
     requires many { length inputs.old ≡ length ends.old }
     requires others_work { All (λ s. (S.seen s).failed ≡ false) inputs.old }
     requires others_fresh { All (λ e. e.put ≡ []) ends.old }
-    ensures first { IsRead (foretold (S.seen input.old).left (S.seen input.new).left) (S.seen input.new).failed end.old end.new }
-    ensures others { AreRead (each_foretold (map S.seen inputs.old) (map S.seen inputs.new)) (each_failed (map S.seen inputs.new)) ends.old ends.new }
+    ensures first { IsRead session.now.part (foretold (S.seen input.old).left (S.seen input.new).left) (S.seen input.new).failed end.old end.new }
+    ensures others { AreRead session.now.part (each_foretold (map S.seen inputs.old) (map S.seen inputs.new)) (each_failed (map S.seen inputs.new)) ends.old ends.new }
 {
     let mut first = ||
-        requires { ((S.seen input.now).failed ≡ false) × (end.now.put ≡ []) }
-        ensures { IsRead (foretold (S.seen input.entry.now).left (S.seen input.exit.now).left) (S.seen input.exit.now).failed end.entry.now end.exit.now }
+        requires { IfSome session.now.part (λ p. p.count ≤ MOST_PARTITIONS) × ((S.seen input.now).failed ≡ false) × (end.now.put ≡ []) }
+        ensures { IsRead session.entry.now.part (foretold (S.seen input.entry.now).left (S.seen input.exit.now).left) (S.seen input.exit.now).failed end.entry.now end.exit.now }
     { read(rt, session, input, end) };
     let mut others = ||
         requires { IsSync R.row × IsSync G.row × IsSend S.row
-            × (length inputs.now ≡ length ends.now) × All (λ s. (S.seen s).failed ≡ false) inputs.now × All (λ e. e.put ≡ []) ends.now }
-        ensures { AreRead (each_foretold (map S.seen inputs.entry.now) (map S.seen inputs.exit.now)) (each_failed (map S.seen inputs.exit.now)) ends.entry.now ends.exit.now }
+            × IfSome session.now.part (λ p. p.count ≤ MOST_PARTITIONS) × (length inputs.now ≡ length ends.now) × All (λ s. (S.seen s).failed ≡ false) inputs.now × All (λ e. e.put ≡ []) ends.now }
+        ensures { AreRead session.entry.now.part (each_foretold (map S.seen inputs.entry.now) (map S.seen inputs.exit.now)) (each_failed (map S.seen inputs.exit.now)) ends.entry.now ends.exit.now }
     { read_all(rt, session, inputs, ends) };
     join_mut(rt, &mut first, &mut others);
 }
@@ -116,9 +123,10 @@ pub fn read<R: Wait, S: ByteSource, G: Gate>(
     input: &mut S,
     end: &mut SourceEnd,
 )
+    requires few { IfSome session.now.part (λ p. p.count ≤ MOST_PARTITIONS) }
     requires works { (S.seen input.old).failed ≡ false }
     requires fresh { end.old.put ≡ [] }
-    ensures { IsRead (foretold (S.seen input.old).left (S.seen input.new).left) (S.seen input.new).failed end.old end.new }
+    ensures { IsRead session.now.part (foretold (S.seen input.old).left (S.seen input.new).left) (S.seen input.new).failed end.old end.new }
 {
     let what = put_lines(rt, session, input, end);
     let source = end.source();
@@ -132,9 +140,10 @@ fn put_lines<R: Wait, S: ByteSource, G: Gate>(
     input: &mut S,
     end: &mut SourceEnd,
 ) -> What
+    requires few { IfSome session.now.part (λ p. p.count ≤ MOST_PARTITIONS) }
     requires works { (S.seen input.old).failed ≡ false }
     requires fresh { end.old.put ≡ [] }
-    ensures { (items : List LineRead) × HasPut end.old end.new items × EndsSo (foretold (S.seen input.old).left (S.seen input.new).left) (S.seen input.new).failed items result }
+    ensures { (items : List LineRead) × HasPut end.old end.new items × EndsSo session.now.part (foretold (S.seen input.old).left (S.seen input.new).left) (S.seen input.new).failed items result }
 {
     if !session.begin() {
         return What::NoMemory;
@@ -155,16 +164,20 @@ fn put_read<R: Wait, S: ByteSource, G: Gate>(
     lines: &mut LineBuffer,
     kept: &mut KeptKeys,
 ) -> What
+    requires few { IfSome session.now.part (λ p. p.count ≤ MOST_PARTITIONS) }
     requires works { (S.seen input.old).failed ≡ false }
     requires fresh { end.old.put ≡ [] }
     requires buffer { IsFresh lines.old }
-    ensures { (items : List LineRead) × HasPut end.old end.new items × EndsSo (foretold (S.seen input.old).left (S.seen input.new).left) (S.seen input.new).failed items result }
+    ensures { (items : List LineRead) × HasPut end.old end.new items × EndsSo session.now.part (foretold (S.seen input.old).left (S.seen input.new).left) (S.seen input.new).failed items result }
 {
     let source = end.source();
     'items: for _turn in 0..u64::MAX {
         match lines.next_item(input, &mut kept.keys, &session.stopped) {
             Ok(Some(item)) => {
                 let line = item.0;
+                let Ok(item) = kept_of(session.alloc, item, session.part) else {
+                    return What::NoMemory;
+                };
                 session.gate.at(Place::Put { source, line });
                 let what = What::Line(item);
                 end.put(rt, Item { source, what });
@@ -180,4 +193,19 @@ fn put_read<R: Wait, S: ByteSource, G: Gate>(
         }
     }
     What::ReadFault
+}
+
+/// What is kept of an item where a partition alone is judged, if one is.
+fn kept_of(alloc: Global, item: LineItem, part: Option<Partition>) -> Result<LineItem, OutOfMemory>
+    requires { IfSome part (λ p. p.count ≤ MOST_PARTITIONS) }
+    ensures { IfOk result (λ left. left ≡ kept part item) }
+{
+    let Some(partition) = part else {
+        return Ok(item);
+    };
+    let (line, answer) = item;
+    match answer {
+        Ok(edit) => Ok((line, Ok(project_edit(alloc, edit, partition)?))),
+        Err(fault) => Ok((line, Err(fault))),
+    }
 }

@@ -30,6 +30,7 @@ use Rattle.si_text.specs.declared.reasons.Reason.TheVariants.{Malformed, Refused
 use Rattle.si_text.specs.declared.horizon_refusals.HorizonRefusal.{HorizonRefusal}
 use Rattle.si_text.specs.declared.horizon_refusals.HorizonRefusal.TheVariants.{StartForgotten, Settled, SetUpLate, HorizonBack, DoubtBefore}
 use Rattle.si_text.specs.declared.forgetting.Forgot.{Forgot}
+use Rattle.si_text.specs.declared.part_lines.PartLine.{PartLine}
 use Rattle.si_text.specs.declared.endings.Asked.{Asked}
 use Rattle.si_text.specs.declared.endings.Ending.{Ending}
 use Rattle.si_text.specs.declared.endings.ExpectedPlaces.{ExpectedPlaces}
@@ -376,6 +377,22 @@ verdict_with (Some g) Violation = Violation
 verdict_with (Some g) Open = if nat_lt 0 g.violations then Violation else Open
 verdict_with (Some g) Clean = if nat_lt 0 g.violations then Violation else (if nat_lt 0 g.findings then Open else Clean)
 
+-- ---- a part of a log
+
+-- numbers with a comma between them
+abbrev pub numbers_text : List ℕ → List ℕ
+numbers_text [] = []
+numbers_text (first ∷ others) = decimal first ++ flat_map (λ n. codes "," ++ decimal n) others
+
+-- the line of the part of so many that is judged, with the number of the last line of each source that was decided
+abbrev pub part_text : ℕ → ℕ → List ℕ → List ℕ
+part_text index count lines = codes "part index=" ++ decimal index ++ codes " of=" ++ decimal count ++ codes " lines=" ++ numbers_text lines ++ line_end
+
+-- that line, if a part is judged
+abbrev pub part_lines : Option PartLine → List ℕ
+part_lines None = []
+part_lines (Some p) = part_text p.index p.count p.lines.now
+
 -- ---- the last report
 
 -- whether something is asked of what could have been found
@@ -408,10 +425,12 @@ last_report_text explain transactions findings e refused =
     flat_map (finding_lines explain) findings
     ++ (lines_asked e.asked (shortage_lines e.shortage) e.chances ++ summary_text transactions (length findings) refused (verdict_of findings))
 
--- the same over a history of which a part is forgotten: its line stands right behind the findings, and the summary counts it and judges it
-abbrev pub report_with_text : Bool → Option Forgot → ℕ → List Finding → Ending → ℕ → List ℕ
-report_with_text explain forgot transactions findings e refused =
+-- the same over a part of a log, or a history of which some is forgotten: their lines stand right behind the findings, and the summary counts and
+-- judges what is forgotten
+abbrev pub report_with_text : Bool → Option PartLine → Option Forgot → ℕ → List Finding → Ending → ℕ → List ℕ
+report_with_text explain part forgot transactions findings e refused =
     flat_map (finding_lines explain) findings
+    ++ (part_lines part
     ++ (forgot_lines forgot
     ++ (lines_asked e.asked (shortage_lines e.shortage) e.chances
-    ++ summary_text (transactions_with forgot transactions) (findings_with forgot (length findings)) refused (verdict_with forgot (verdict_of findings))))
+    ++ summary_text (transactions_with forgot transactions) (findings_with forgot (length findings)) refused (verdict_with forgot (verdict_of findings)))))

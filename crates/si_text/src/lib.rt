@@ -26,6 +26,7 @@ mod json_operations;
 pub mod known_keys;
 pub mod laws;
 pub mod memory;
+pub mod part_lines;
 pub mod printing;
 pub mod read_edits;
 pub mod read_items;
@@ -51,6 +52,7 @@ pub use forgetting::{
 };
 pub use horizon_refusals::HorizonRefusal;
 pub use known_keys::KnownKeys;
+pub use part_lines::{PartLine, print_part};
 pub use printing::{
     print_finding, print_last_report, print_refusal, print_report, print_report_with, print_summary,
 };

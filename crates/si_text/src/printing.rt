@@ -3,13 +3,14 @@
 ghost use Rattle.std.specs.Prelude.{◌≡◌, ◌<◌, ◌^◌, ◌++◌, decimal, codes, length, OnOk, OnErr, IfOk};
 ghost use Rattle.std.specs.List.{flat_map, list_all};
 ghost use Rattle.si_text.specs.Printing.{Appends, is_plain};
-ghost use Rattle.si_text.specs.Texts.{code_text, fault_text, finding_lines, finding_text, findings_with, forgot_lines, horizon_text, key_text, kind_text, lines_asked, own_text, read_text, reading_text, reason_text, refusal_text, refused_text, last_report_text, report_text, report_with_text, shortage_lines, summary_text, transactions_with, verdict_of, verdict_with};
+ghost use Rattle.si_text.specs.Texts.{code_text, fault_text, finding_lines, finding_text, findings_with, forgot_lines, horizon_text, key_text, kind_text, lines_asked, own_text, read_text, reading_text, reason_text, refusal_text, refused_text, last_report_text, part_lines, report_text, report_with_text, shortage_lines, summary_text, transactions_with, verdict_of, verdict_with};
 
 use crate::appending::{put, put_number, whole_or_none};
 use crate::endings::put_ending;
 use crate::explaining::put_explanation;
 use crate::forgetting::{findings_with, put_forgot, transactions_with, verdict_with};
-use crate::{Ending, Forgot, HorizonRefusal, LineFault, Reason, Verdict};
+use crate::part_lines::put_part;
+use crate::{Ending, Forgot, HorizonRefusal, LineFault, PartLine, Reason, Verdict};
 use serde_json::Value;
 use si_model::{Finding, Key, Kind, OutOfMemory, Refusal, TxnId};
 use std::alloc::Global;
@@ -83,10 +84,11 @@ pub fn print_last_report(
         (out.new.items ≡ out.old.items ++ last_report_text explain transactions found.now ending.now refused) }
     ensures err { OnErr result (out.new.items ≡ out.old.items) }
 {
-    let forgot = None;
+    let (part, forgot) = (None, None);
     print_report_with(
         alloc,
         out,
+        &part,
         &forgot,
         transactions,
         found,
@@ -96,11 +98,13 @@ pub fn print_last_report(
     )
 }
 
-/// Appends a report as [`print_last_report`] does, over a history of which a part is forgotten: what is forgotten stands right behind the
-/// findings, and the summary counts and judges what is present and what is forgotten. The answer is the verdict that it tells.
+/// Appends a report as [`print_last_report`] does, over a part of a log, or a history of which some is forgotten: right behind the findings
+/// stands which part is judged, if it is one, and then what is forgotten. The summary counts and judges what is present and what is
+/// forgotten. The answer is the verdict that it tells.
 pub fn print_report_with(
     alloc: Global,
     out: &mut Vec<u8>,
+    part: &Option<PartLine<'_>>,
     forgot: &Option<Forgot>,
     transactions: usize,
     found: &[Finding],
@@ -112,13 +116,14 @@ pub fn print_report_with(
     requires findings { findings_with forgot.now (length found.now) < 2 ^ 64 }
     ensures verdict { IfOk result (λ verdict. verdict ≡ verdict_with forgot.now (verdict_of found.now)) }
     ensures ok { OnOk result
-        (out.new.items ≡ out.old.items ++ report_with_text explain forgot.now transactions found.now ending.now refused) }
+        (out.new.items ≡ out.old.items ++ report_with_text explain part.now forgot.now transactions found.now ending.now refused) }
     ensures err { OnErr result (out.new.items ≡ out.old.items) }
 {
     let before = out.len();
     let appended = put_report(
         alloc,
         out,
+        part,
         forgot,
         transactions,
         found,
@@ -436,6 +441,7 @@ fn put_held(out: &mut Vec<u8>, label: &str, number: u64, holder: TxnId) -> Resul
 fn put_report(
     alloc: Global,
     out: &mut Vec<u8>,
+    part: &Option<PartLine<'_>>,
     forgot: &Option<Forgot>,
     transactions: usize,
     found: &[Finding],
@@ -447,10 +453,11 @@ fn put_report(
     requires findings { findings_with forgot.now (length found.now) < 2 ^ 64 }
     ensures verdict { IfOk result (λ verdict. verdict ≡ verdict_with forgot.now (verdict_of found.now)) }
     ensures text { Appends result out.old.items out.new.items
-        (report_with_text explain forgot.now transactions found.now ending.now refused) }
+        (report_with_text explain part.now forgot.now transactions found.now ending.now refused) }
 {
     let verdict = verdict_with(forgot, Verdict::of(found));
     put_findings(alloc, out, found, explain)?;
+    put_part(out, part)?;
     put_behind(
         out,
         forgot,

@@ -40,7 +40,7 @@ fn help_tells_how_to_log(rt: HostRuntime) {
         tells(&rt, &files, line, KINDS);
     }
     let usage =
-        "Usage: sicheck check [--shards K] [--every N [--new]] [--explain] [--expect N]\n                     [--chances] [--expect-KIND N]... [--horizons]\n                     [--progress] [FILE]...\n";
+        "Usage: sicheck check [--shards K] [--every N [--new]] [--explain] [--expect N]\n                     [--chances] [--expect-KIND N]... [--horizons]\n                     [--part I/N] [--progress] [FILE]...\n";
     tells(&rt, &files, "check --help", usage);
 }
 

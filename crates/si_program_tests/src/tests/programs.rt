@@ -10,6 +10,7 @@ use si_cli::{
     ExitStatus, NamedFiles, Options, RunFault, Settings, SettingsFault, StdFiles, main_without_key,
     settings_of,
 };
+use si_partitions::Partition;
 use si_text::memory::{FailingSink, FailingSource, MemorySink, MemorySource};
 use si_text::{Asked, ByteSource};
 use std::num::NonZeroU64;
@@ -112,8 +113,8 @@ fn every_told(rt: &impl Host, every: Option<NonZeroU64>) -> String {
 }
 
 /// `4 - plain`: how many shards, after how many lines a report comes, and whether its findings are `explained`; then `new`, if
-/// only what changed is told on the way, `expects 1`, if so many are expected, what is asked of what could have been found, and `shows`, if
-/// lines of progress are shown.
+/// only what changed is told on the way, `expects 1`, if so many are expected, what is asked of what could have been found, `part 0 of 2`, if
+/// that alone is judged, and `shows`, if lines of progress are shown.
 fn options_told(rt: &impl Host, options: Options) -> String {
     let every = every_told(rt, options.every);
     let explained = if options.explain {
@@ -124,8 +125,9 @@ fn options_told(rt: &impl Host, options: Options) -> String {
     let asked = asked_told(rt, options);
     let shows = if options.shows_progress { " shows" } else { "" };
     let chances = chances_told(rt, options.asked);
+    let part = part_told(rt, options.part);
     let text = format!(in rt.alloc();
-        "{} {every} {explained}{asked}{chances}{shows}",
+        "{} {every} {explained}{asked}{chances}{part}{shows}",
         options.shards
     );
     text.expect(rt, "memory")
@@ -137,6 +139,15 @@ fn asked_told(rt: &impl Host, options: Options) -> String {
     let told = match options.expected {
         None => String::from_str(rt.alloc(), new),
         Some(expected) => format!(in rt.alloc(); "{new} expects {expected}"),
+    };
+    told.expect(rt, "memory")
+}
+
+/// Which part is judged, if one alone is.
+fn part_told(rt: &impl Host, part: Option<Partition>) -> String {
+    let told = match part {
+        None => String::from_str(rt.alloc(), ""),
+        Some(part) => format!(in rt.alloc(); " part {} of {}", part.index, part.count),
     };
     told.expect(rt, "memory")
 }
@@ -256,6 +267,10 @@ const ASKED: &str = "
     check --expect-own 0 | 4 - plain own=0 |
     check --expect-aborted 1 --expect-intermediate=2 a | 4 - plain aborted=1 intermediate=2 | a
     check --expect 7 --expect-overlap 16777216 --chances --expect-stale 4 --expect-future 3 | 4 - plain expects 7 chances future=3 stale=4 overlap=16777216 |
+    check --part 0/1 | 4 - plain part 0 of 1 |
+    check --progress --part=255/256 a | 4 - plain part 255 of 256 shows | a
+    check --part 01/002 --expect-own 3 | 4 - plain chances own=3 part 1 of 2 |
+    check --part 1/2 --expect 3 | 4 - plain expects 3 part 1 of 2 |
     check -- --progress | 4 - plain | --progress
     check -- --new | 4 - plain | --new";
 
@@ -296,12 +311,58 @@ fn new_wants_reports_on_the_way(rt: HostRuntime) {
     );
 }
 
+/// These words ask for a part that there isn't.
+fn is_bad_part(rt: &impl Host, line: &str) {
+    let words = words_of(rt, line);
+    let bad = settings_of(rt.alloc(), words.as_slice());
+    let is_bad = matches!(bad, Err(SettingsFault::BadPart));
+    are_same_at(rt, is_bad, true, line);
+}
+
+const BAD_PARTS: &str = "
+    check --part 1/1
+    check --part 0/0
+    check --part 256/257
+    check --part 0/257
+    check --part 0
+    check --part 0/
+    check --part /2
+    check --part /
+    check --part=
+    check --part +0/2
+    check --part=-0/2
+    check --part 0/+2
+    check --part 0/2/
+    check --part a/2
+    check --part 0x0/2
+    check --part 18446744073709551616/18446744073709551617
+    check --part 2/2 a b c d e f g h a";
+
+#[test]
+fn part_is_one_of_so_many(rt: HostRuntime) {
+    for line in BAD_PARTS.trim().lines() {
+        is_bad_part(&rt, line);
+    }
+    is_new_alone(&rt, "check --part 2/2 --new");
+    let words = words_of(&rt, "check --part 2/2");
+    let complaint = ("", "sicheck: --part needs I/N\n", 2);
+    writes(
+        &rt,
+        &StdFiles::<_, Any>::new(&rt),
+        words.as_slice(),
+        LOST_UPDATE,
+        complaint,
+    );
+}
+
 #[test]
 fn a_fault_of_words_is_printed(rt: HostRuntime) {
     let text = format!(in rt.alloc(); "{}", SettingsFault::TooManyFiles).expect(&rt, "memory");
     are_same(&rt, text.as_str(), "too many files");
     let text = format!(in rt.alloc(); "{}", SettingsFault::NewAlone).expect(&rt, "memory");
     are_same(&rt, text.as_str(), "--new without --every");
+    let text = format!(in rt.alloc(); "{}", SettingsFault::BadPart).expect(&rt, "memory");
+    are_same(&rt, text.as_str(), "--part needs I/N");
 }
 
 #[test]

@@ -7,7 +7,7 @@ mod orders;
 mod sources;
 mod telling;
 
-use super::{Host, PLAIN, are_same, is_text, secret_key};
+use super::{Host, PLAIN, are_few, are_same, is_text, secret_key};
 use si_run::{ExitStatus, Gate, Options, RunFault, run, run_gated};
 use si_text::memory::{MemorySink, MemorySource};
 
@@ -60,6 +60,7 @@ fn ended(rt: &impl Host, texts: &[&str], piece: (usize, usize), options: Options
     assert!(rt; 1 <= inputs.len() && inputs.len() <= 8);
     let mut out = MemorySink::new(rt.alloc(), piece.1.max(1));
     let inputs = inputs.as_mut_slice();
+    are_few(rt, options.part);
     let status = run(rt, rt.alloc(), secret_key(rt), inputs, &mut out, options);
     RunEnd { status, out }
 }
@@ -76,6 +77,7 @@ fn ended_gated<R: Host, G: Gate + Sync>(
     assert!(rt; 1 <= inputs.len() && inputs.len() <= 8);
     let mut out = MemorySink::new(rt.alloc(), piece.1.max(1));
     let (hash, inputs) = (secret_key(rt), inputs.as_mut_slice());
+    are_few(rt, options.part);
     let status = run_gated(rt, rt.alloc(), hash, inputs, &mut out, options, gate);
     RunEnd { status, out }
 }

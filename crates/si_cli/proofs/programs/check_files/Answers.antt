@@ -1,6 +1,6 @@
 use Rattle.std.proofs.Common.{rules, ◌≡◌, ◌<◌, All, false, inl, inr, [], refl, sym, ap, subst, ◌∙◌, ◌++◌, map, length, take, drop, arith}
 use Rattle.std.proofs.lemmas.List.{get_or-map, length-map}
-use Rattle.si_text.specs.Devices.{each_failed, each_left, lent}
+use Rattle.si_text.specs.Devices.{each_failed, each_foretold, each_left, lent}
 use Rattle.si_run.specs.Runs.{terms_by}
 use Rattle.si_run.proofs.Gathered.{written_over}
 use Rattle.si_cli.specs.declared.programs.NotOpened.TheVariants as opened
@@ -52,7 +52,7 @@ returns-in-Ok g c =
     let folder = g.F.NamedFiles.seen c.args.files.now in
     let names = map (λ name. name.now) c.args.names.now in
     let files = contents folder names in
-    let terms = terms_by c.args.options in
+    let terms = terms_by (length c.args.names.now) c.args.options in
     let slice = c.as_mut_slice-sources.result.now in
     let sources = c.open_all.new.sources in
     let news = c.check.new.sources in
@@ -62,9 +62,12 @@ returns-in-Ok g c =
     let same : length news ≡ length slice = search rules in
     let many : length (map seen news) ≡ length names =
     length-map news seen ∙ same ∙ sym (length-each_left seen slice) ∙ as_many files (each_left (map seen slice)) kept ∙ length-contents 0 folder names in
+    let given : length slice ≡ length c.args.names.now =
+    sym (length-each_left seen slice) ∙ as_many files (each_left (map seen slice)) kept ∙ length-contents 0 folder names ∙ length-map c.args.names.now (λ name. name.now) in
+    let checked = subst (λ n. EndsCheck (terms_by n c.args.options) names (each_foretold (map seen slice) (map seen news)) (each_failed (map seen news)) out err c.check.result) given c.check.ensures in
     let over : take sources.len (news ++ drop (length news) sources.items) ≡ news =
     written_over sources.len news sources.items (sym c.as_mut_slice-sources.ensures.len ∙ sym same) (sym (ap (λ l. length l) c.as_mut_slice-sources.ensures.value) ∙ sym same) in
     inr (inr (subst (λ l. (length (map seen l) ≡ length names) × EndsCheck terms names (each_held files (map seen l)) (each_failed (map seen l)) out err c.check.result) (sym over) (
       many,
-      kept_check terms names (each_held files (map seen news)) _ (each_failed (map seen news)) out err c.check.result (held_foretold files (map seen slice) (map seen news) kept) c.check.ensures,
+      kept_check terms names (each_held files (map seen news)) _ (each_failed (map seen news)) out err c.check.result (held_foretold files (map seen slice) (map seen news) kept) checked,
     )))

@@ -1,7 +1,8 @@
 //! Two sources and one.
 
 use super::super::repeated;
-use super::{DOUBT, Host, PLAIN, RESOLUTION, RunEnd, are_same, ended, is_resolved_or_not};
+use super::{DOUBT, Host, PLAIN, RESOLUTION, RunEnd, are_same, ended, is_resolved_or_not, is_text};
+use si_partitions::Partition;
 use si_run::{ExitStatus, Options, RunFault};
 use std::num::NonZeroU64;
 
@@ -101,4 +102,25 @@ fn what_changed_in_two_sources(rt: HostRuntime) {
     let output = repeated(&rt, report, 2);
     let output = output.as_str();
     both_write(&rt, [ONE, READER], options, output, ExitStatus::Violation);
+}
+
+/// A source of which no line was decided is told with 0, and blank lines count.
+#[test]
+fn lines_of_each_source_of_a_part(rt: HostRuntime) {
+    let options = Options {
+        part: Some(Partition { index: 0, count: 2 }),
+        ..PLAIN
+    };
+    let mut behind = repeated(&rt, "\n", 2);
+    behind.push_str(ONE).expect(&rt, "memory");
+    let ended = ended(
+        &rt,
+        ["\n", behind.as_str(), ""].as_slice(),
+        (4096, 4096),
+        options,
+    );
+    are_same(&rt, ended.status, Ok(ExitStatus::Clean));
+    let output =
+        "part index=0 of=2 lines=0,3,0\ntransactions=1 findings=0 refused=0 verdict=clean\n";
+    is_text(&rt, ended.out.as_slice(), output);
 }

@@ -2,7 +2,7 @@
 
 ghost use Rattle.std.specs.Prelude.{◌≡◌, ◌≤◌, All, length, false};
 
-use super::{DOUBT, Host, PLAIN, are_same, is_text, secret_key, source_of};
+use super::{DOUBT, Host, PLAIN, are_few, are_same, is_text, secret_key, source_of};
 use si_run::{ExitStatus, Options, RunFault, run_telling};
 use si_text::memory::{FailingSink, FailingSource, MemorySink};
 use si_text::{ByteSink, ByteSource, DeviceFailed};
@@ -129,6 +129,7 @@ fn ended_telling<H: Host, S: ByteSource + Send, W: ByteSink>(
     requires inputs { All (λ s. (S.seen s).failed ≡ false) inputs.old }
     requires writer { (W.seen writer.old).failed ≡ false }
 {
+    are_few(rt, options.part);
     run_telling(rt, rt.alloc(), secret_key(rt), inputs, writer, err, options)
 }
 

@@ -22,7 +22,7 @@ returns-in_err-end_item-in-Refused-clause-err g c =
     rw f.1 (rw f.2 (
       (c.requires.writer, refl),
       inr (
-        left.0 ∙ ap (λ (s : EngineState). one_more s.progress (Some reason)) state ∙ sym (refused_decided terms p c.args.source c.args.line H c.requires.asked reason is),
+        left.0 ∙ ap (λ (s : EngineState). one_more c.args.source c.args.line s.progress (Some reason)) state ∙ sym (refused_decided terms p c.args.source c.args.line H c.requires.asked reason is),
         refused_some terms p c.args.source c.args.line H c.requires.asked reason is,
       ),
     ))
@@ -37,10 +37,10 @@ returns-in_err-write_all-in-Refused-clause-err g c =
     let is = subst (IsClosing terms.limit p H) c.in-Refused.is c.in_ok-over.ensures.closing in
     let state = c.in_ok-over.ensures.refused (subst IsRefused (sym c.in-Refused.is) tt) in
     let ended = c.in_ok-end_item-in-Refused.ensures in
-    let text = c.deref.ensures.value ∙ ended.text ∙ ap (λ (l : List ℕ). l ++ (refusal_line c.args.source c.args.line (Some reason) ++ report_due c.close_at.new.self.terms (one_more c.close_at.new.self.progress (Some reason)))) c.requires.empty
-    ∙ (λ i. refusal_line c.args.source c.args.line (Some reason) ++ report_due (state i).terms (one_more (state i).progress (Some reason)))
+    let text = c.deref.ensures.value ∙ ended.text ∙ ap (λ (l : List ℕ). l ++ (refusal_line c.args.source c.args.line (Some reason) ++ report_due c.close_at.new.self.terms (one_more c.args.source c.args.line c.close_at.new.self.progress (Some reason)))) c.requires.empty
+    ∙ (λ i. refusal_line c.args.source c.args.line (Some reason) ++ report_due (state i).terms (one_more c.args.source c.args.line (state i).progress (Some reason)))
     ∙ refused_text terms p c.args.source c.args.line H c.requires.asked reason is in
-    let progress = ended.progress ∙ (λ i. behind_report (state i).terms (one_more (state i).progress (Some reason))) ∙ refused_progress terms p c.args.source c.args.line H c.requires.asked reason is in
+    let progress = ended.progress ∙ (λ i. behind_report (state i).terms (one_more c.args.source c.args.line (state i).progress (Some reason))) ∙ refused_progress terms p c.args.source c.args.line H c.requires.asked reason is in
     let failed : (seen c.write_all.new.writer).failed ≡ true = search rules in
     let f = err_from_is_err_and c.from_residual-in_err-write_all-in-Refused.result c.from_residual-in_err-write_all-in-Refused.ensures.1 in
     rw f.1 (rw f.2 ((failed, subst (AppendsPart (seen c.args.writer.now).written (seen c.write_all.new.writer).written) text c.in_err-write_all-in-Refused.ensures.err), progress))
@@ -55,8 +55,8 @@ returns-in_ok-write_all-in-Refused-clause-ok g c =
     let is = subst (IsClosing terms.limit p H) c.in-Refused.is c.in_ok-over.ensures.closing in
     let state = c.in_ok-over.ensures.refused (subst IsRefused (sym c.in-Refused.is) tt) in
     let ended = c.in_ok-end_item-in-Refused.ensures in
-    let text = c.deref.ensures.value ∙ ended.text ∙ ap (λ (l : List ℕ). l ++ (refusal_line c.args.source c.args.line (Some reason) ++ report_due c.close_at.new.self.terms (one_more c.close_at.new.self.progress (Some reason)))) c.requires.empty
-    ∙ (λ i. refusal_line c.args.source c.args.line (Some reason) ++ report_due (state i).terms (one_more (state i).progress (Some reason)))
+    let text = c.deref.ensures.value ∙ ended.text ∙ ap (λ (l : List ℕ). l ++ (refusal_line c.args.source c.args.line (Some reason) ++ report_due c.close_at.new.self.terms (one_more c.args.source c.args.line c.close_at.new.self.progress (Some reason)))) c.requires.empty
+    ∙ (λ i. refusal_line c.args.source c.args.line (Some reason) ++ report_due (state i).terms (one_more c.args.source c.args.line (state i).progress (Some reason)))
     ∙ refused_text terms p c.args.source c.args.line H c.requires.asked reason is in
-    let progress = ended.progress ∙ (λ i. behind_report (state i).terms (one_more (state i).progress (Some reason))) ∙ refused_progress terms p c.args.source c.args.line H c.requires.asked reason is in
+    let progress = ended.progress ∙ (λ i. behind_report (state i).terms (one_more c.args.source c.args.line (state i).progress (Some reason))) ∙ refused_progress terms p c.args.source c.args.line H c.requires.asked reason is in
     (progress, subst (Appends (seen c.args.writer.now).written (seen c.write_all.new.writer).written) text c.in_ok-write_all-in-Refused.ensures.ok)

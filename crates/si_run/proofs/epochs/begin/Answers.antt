@@ -36,7 +36,7 @@ returns-in_err-write_all-clause-err g c =
     let f = err_from_is_err_and c.from_residual-in_err-write_all.result c.from_residual-in_err-write_all.ensures.1 in
     rw f.1 (rw f.2 (subst (λ (o : Option Left). HasFailed terms o (lent now new) Output) (sym left_is)
     (has_failed terms l now new Output (λ p is counts takes.
-    (let text = c.deref.ensures.value ∙ (c.in_ok-go_on.ensures.ok p is counts).0 ∙ ap (λ (s : List ℕ). s ++ over_text terms H p) c.requires.empty ∙ over_text_is terms p t.source t.line H takes is.free in
+    (let text = c.deref.ensures.value ∙ (c.in_ok-go_on.ensures.ok p is counts).0 ∙ ap (λ (s : List ℕ). s ++ over_text terms t.source t.line H p) c.requires.empty ∙ over_text_is terms p t.source t.line H takes is.free in
     (progress_after terms p (horizon_line t.source t.line H), ((failed, subst (AppendsPart now.written new.written) text c.in_err-write_all.ensures.err), refl)))))))
 
 pub returns-clause-ok : goal.returns-clause-ok
@@ -50,5 +50,5 @@ returns-clause-ok g c =
     subst (λ (o : Option Left). HasBegun terms o (lent now new) c.go_on.new.self.progress) (sym left_is)
     (has_begun terms l now new c.go_on.new.self.progress (λ p is counts.
     (let it = c.in_ok-go_on.ensures.ok p is counts in
-    let text = c.deref.ensures.value ∙ it.0 ∙ ap (λ (s : List ℕ). s ++ over_text terms H p) c.requires.empty in
+    let text = c.deref.ensures.value ∙ it.0 ∙ ap (λ (s : List ℕ). s ++ over_text terms l.taken.source l.taken.line H p) c.requires.empty in
     (subst (Appends now.written new.written) text c.in_ok-write_all.ensures.ok, it.1))))

@@ -14,7 +14,7 @@ returns-in-Horizon-clause-runs g c =
     let q = end_of.new.engine.progress in
     let runs = subst (λ (t : Terms). RunsEpoch t c.args.left.now c.args.accepter.now end_of.new.accepter (lent (seen c.args.writer.now) (seen end_of.new.writer)) q (end.Horizon c.in-Horizon.taken))
     c.new-engine.ensures.terms c.in-Horizon.ensures.runs in
-    turns_over (terms_by c.args.options) c.args.left.now c.args.accepter.now end_of.new.accepter (seen c.args.writer.now) (seen end_of.new.writer) q c.in-Horizon.taken c.leave-counts.result runs c.leave-counts.ensures
+    turns_over (terms_by c.args.session.now.count c.args.options) c.args.left.now c.args.accepter.now end_of.new.accepter (seen c.args.writer.now) (seen end_of.new.writer) q c.in-Horizon.taken c.leave-counts.result runs c.leave-counts.ensures
 
 pub returns-in-Run-clause-runs : goal.returns-in-Run-clause-runs
 returns-in-Run-clause-runs g c =
@@ -23,4 +23,4 @@ returns-in-Run-clause-runs g c =
     let q = end_of.new.engine.progress in
     let runs = subst (λ (t : Terms). RunsEpoch t c.args.left.now c.args.accepter.now end_of.new.accepter (lent (seen c.args.writer.now) (seen end_of.new.writer)) q (end.Run c.in-Run.ended))
     c.new-engine.ensures.terms c.in-Run.ensures.runs in
-    turns_ended (terms_by c.args.options) c.args.left.now c.args.accepter.now end_of.new.accepter (seen c.args.writer.now) (seen end_of.new.writer) q c.in-Run.ended runs
+    turns_ended (terms_by c.args.session.now.count c.args.options) c.args.left.now c.args.accepter.now end_of.new.accepter (seen c.args.writer.now) (seen end_of.new.writer) q c.in-Run.ended runs

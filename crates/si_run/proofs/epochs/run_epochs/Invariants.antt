@@ -12,7 +12,7 @@ invariant-loop g l =
     record {
       can_next : (goal.iterator-loop g).can_next l.iterator';
       is_finite : (goal.iterator-loop g).is_finite l.iterator';
-      comes : ComesToTurn (terms_by l.fn.options) l.fn.accepter l.accepter (seen l.fn.writer) (seen l.writer) l.turn;
+      comes : ComesToTurn (terms_by l.fn.session.now.count l.fn.options) l.fn.accepter l.accepter (seen l.fn.writer) (seen l.writer) l.turn;
       works : Works (seen l.writer) l.turn;
       told : TellsTurn l.fn.options.shows_progress l.turn (lent (heard l.fn.err) (heard l.err));
     }

@@ -6,4 +6,4 @@ use Rattle.si_run.proofs.epochs.run_parts.Goals as goal
 pub returns-in_default-clause-runs : goal.returns-in_default-clause-runs
 returns-in_default-clause-runs g c =
     let now = g.W.ByteSink.seen c.args.writer.now in
-    rw c.refused.ensures.fault (turns_refused (terms_by c.args.options) c.args.left c.args.accepter.now c.refused.new.accepter c.refused.ensures.taken.0 now now (c.requires.writer, refl) c.refused.ensures.taken.1 c.refused.ensures.ended)
+    rw c.refused.ensures.fault (turns_refused (terms_by c.args.session.now.count c.args.options) c.args.left c.args.accepter.now c.refused.new.accepter c.refused.ensures.taken.0 now now (c.requires.writer, refl) c.refused.ensures.taken.1 c.refused.ensures.ended)

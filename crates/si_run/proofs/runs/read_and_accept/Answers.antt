@@ -20,7 +20,7 @@ join_mut-tried-requires-after_bounds g c κs within =
     let b = c.type_bounds in
     let r = c.requires in (
       (
-        (param_sync _ _ (arg_sync _ no _ b.sync-R), param_sync _ _ (arg_sync _ no _ b.sync-G), param_send _ _ (arg_send _ no _ b.send-S), r.many, r.inputs, r.ends),
+        (param_sync _ _ (arg_sync _ no _ b.sync-R), param_sync _ _ (arg_sync _ no _ b.sync-G), param_send _ _ (arg_send _ no _ b.send-S), r.few, r.many, r.inputs, r.ends),
         (param_send _ _ (arg_send _ no _ b.send-S), param_sync _ _ (arg_sync _ no _ b.sync-R), param_sync _ _ (arg_sync _ no _ b.sync-G)),
       ),
       (
@@ -44,5 +44,5 @@ returns-in-Some-clause-accepted g c =
     let seen = g.W.ByteSink.seen in
     let left = c.join_mut-tried.new.g in
     let tried = c.join_mut-tried.ensures.1.met.1 in
-    let through = tried_through (terms_by c.args.options) c.args.accepter.now left.4.now (lent (seen c.args.writer.now) (seen left.5.now)) tried.0 _ c.in-Some.ended c.in-Some.is tried.1 in
-    (tried.0, moved (terms_by c.args.options) c.args.accepter.now left.4.now _ (seen c.args.writer.now) (seen left.5.now) _ tried.0 c.in-Some.ended through (search rules) (search rules))
+    let through = tried_through (terms_by c.args.session.now.count c.args.options) c.args.accepter.now left.4.now (lent (seen c.args.writer.now) (seen left.5.now)) tried.0 _ c.in-Some.ended c.in-Some.is tried.1 in
+    (tried.0, moved (terms_by c.args.session.now.count c.args.options) c.args.accepter.now left.4.now _ (seen c.args.writer.now) (seen left.5.now) _ tried.0 c.in-Some.ended through (search rules) (search rules))

@@ -1,4 +1,6 @@
-use Rattle.std.proofs.Common.{rules, map}
+use Rattle.std.proofs.Common.{rules, length, map, subst, sym}
+use Rattle.std.proofs.lemmas.List.{length-map}
+use Rattle.si_run.specs.Endings.{EndsOpened}
 use Rattle.si_run.specs.Runs.{terms_by}
 use Rattle.si_text.specs.Devices.{each_foretold, lent}
 use Rattle.si_run.proofs.InRange.{opened_ends}
@@ -10,7 +12,7 @@ returns-in-Err-clause-ends g c =
     rw c.from-fault.ensures (record {
       output = tt;
       works = tt;
-      part = nothing_begun (terms_by c.args.options) (each_foretold (map g.S.ByteSource.seen c.args.inputs.now) (map g.S.ByteSource.seen c.args.inputs.now)) (g.W.ByteSink.seen c.args.writer.now).written;
+      part = nothing_begun (terms_by (length (map g.S.ByteSource.seen c.args.inputs.now)) c.args.options) (each_foretold (map g.S.ByteSource.seen c.args.inputs.now) (map g.S.ByteSource.seen c.args.inputs.now)) (g.W.ByteSink.seen c.args.writer.now).written;
       fault = search rules;
       met = search rules;
       first = search rules;
@@ -20,5 +22,8 @@ returns-in-Err-clause-ends g c =
 
 pub returns-clause-ends : goal.returns-clause-ends
 returns-clause-ends g c =
-    opened_ends c.args.options (lent (map g.S.ByteSource.seen c.args.inputs.now) (map g.S.ByteSource.seen c.run_named.new.inputs))
-    (lent (g.W.ByteSink.seen c.args.writer.now) (g.W.ByteSink.seen c.run_named.new.writer)) c.run_named.result c.in-Ok.ensures.can c.run_named.ensures.ends
+    let seen = g.S.ByteSource.seen in
+    let inputs = lent (map seen c.args.inputs.now) (map seen c.run_named.new.inputs) in
+    let out = lent (g.W.ByteSink.seen c.args.writer.now) (g.W.ByteSink.seen c.run_named.new.writer) in
+    opened_ends c.args.options inputs out c.run_named.result c.in-Ok.ensures.can c.requires.few
+    (subst (λ n. EndsOpened (terms_by n c.args.options) inputs out c.run_named.result) (sym (length-map c.args.inputs.now seen)) c.run_named.ensures.ends)

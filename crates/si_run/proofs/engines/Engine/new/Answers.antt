@@ -23,4 +23,4 @@ pub returns-clause-progress : goal.returns-clause-progress
 returns-clause-progress g c =
     let empty : edits_of c.args.pass.view.seen ≡ [] = ap (λ (s : Seated PassView). edits_of s.view.seen) c.requires.pass in
     let none = none_violating (edits_of c.args.pass.view.seen) c.nothing.result.at empty c.nothing.ensures.at in
-    λ i. record { journal = empty i; decided = 0; refused = 0; told = none i; forgotten = None }
+    λ i. record { journal = empty i; decided = 0; refused = 0; lines = c.new.ensures i; told = none i; forgotten = None }

@@ -40,11 +40,11 @@ returns-clause-ok g c =
     let law = c.lone_pass_issues_all.ensures in
     let own = c.self.invariant in
     elim c.match-submit.branch [
-      | in-Ok w ↦ rw w.result-is (state_after _ old.view new.view _ _ c.self.inside.told (listed_in c.self.inside.listed) c.self.inside.forgotten c.args.self.now c.args.edit c.self.view_is own.told.within
+      | in-Ok w ↦ rw w.result-is (state_after _ old.view new.view _ _ _ c.self.inside.told (listed_in c.self.inside.listed) c.self.inside.forgotten c.args.self.now c.args.edit c.self.view_is own.told.within
           (journal_grown g.N.Name.limit board c.args.edit old new c.edits_append.ensures law own.alone own.number own.own w.in-Ok.ensures.ok w.in-Ok.ensures.submitted))
       | in-Err-Refused w ↦ (
           let fault : refusal_after g.N.Name.limit (edits_of new.view.seen) c.args.edit ≡ Some w.in-Err-Refused.refusal = search rules in
-          rw w.result-is (state_after _ old.view new.view _ _ c.self.inside.told (listed_in c.self.inside.listed) c.self.inside.forgotten c.args.self.now c.args.edit c.self.view_is own.told.within
+          rw w.result-is (state_after _ old.view new.view _ _ _ c.self.inside.told (listed_in c.self.inside.listed) c.self.inside.forgotten c.args.self.now c.args.edit c.self.view_is own.told.within
           (journal_still g.N.Name.limit board c.args.edit w.in-Err-Refused.refusal old new law own.alone own.number own.own w.in-Err-Refused.ensures.err fault))
           )
       | in-Err-OutOfMemory w ↦ rw w.result-is tt

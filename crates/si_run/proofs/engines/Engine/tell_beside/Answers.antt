@@ -24,5 +24,5 @@ returns-clause-text g c =
     let changes : changes_text c.self.inside.explain c.args.listed.now c.deref-2.result.now ≡ changes_text c.args.self.now.terms.explain c.args.listed.now (violations_at p) =
     ap₂ (λ b l. changes_text b c.args.listed.now l) (ap (λ (s : EngineState). s.terms.explain) state) left in
     let same = ap (λ (s : EngineState). s.progress) c.settled.ensures.state in
-    let summary = summary_is _ p _ _ _ same c.in_ok-at.ensures.count (c.len-found.ensures ∙ c.in_ok-at.field-0.findings.ok.0 ∙ ap length c.in_ok-at.ensures.findings) (c.of-verdict.ensures ∙ ap verdict_of (c.deref.ensures.value ∙ c.in_ok-at.ensures.findings)) in
+    let summary = summary_is _ _ _ p _ _ _ (ap (λ (s : EngineState). s.terms) c.settled.ensures.state) same c.in_ok-at.ensures.count (c.len-found.ensures ∙ c.in_ok-at.field-0.findings.ok.0 ∙ ap length c.in_ok-at.ensures.findings) (c.of-verdict.ensures ∙ ap verdict_of (c.deref.ensures.value ∙ c.in_ok-at.ensures.findings)) in
     both c.args.text.now.items c.print_changes.new.out.items c.put_summary.new.text.items _ _ _ _ c.in_ok-print_changes.ensures.ok c.in_ok-put_summary.ensures changes summary

@@ -19,7 +19,7 @@ pub returns-in-Ok-clause-text : goal.returns-in-Ok-clause-text
 returns-in-Ok-clause-text g c =
     let J = edits_of c.self.inside.pass.view.seen in
     let before = c.args.text.now.items in
-    let report = changes_told _ c.self.inside.pass.view _ _ c.self.inside.told (listed_in c.self.inside.listed) (listed_in c.take-listed.new.self) c.self.inside.forgotten c.args.self.now c.self.view_is in
+    let report = changes_told _ c.self.inside.pass.view _ _ _ c.self.inside.told (listed_in c.self.inside.listed) (listed_in c.take-listed.new.self) c.self.inside.forgotten c.args.self.now c.self.view_is in
     elim c.match-listed.branch [
       | in-None w ↦ (
           let none = sym c.take-listed.ensures.value ∙ w.in-None.is in
@@ -36,7 +36,7 @@ returns-in-Ok-clause-text g c =
 pub returns-in-Ok-clause-ok : goal.returns-in-Ok-clause-ok
 returns-in-Ok-clause-ok g c =
     let now = c.in-Ok.now in
-    let without = state_without _ c.self.inside.pass.view _ _ c.self.inside.told (listed_in c.self.inside.listed) (listed_in c.take-listed.new.self) c.self.inside.forgotten c.args.self.now c.self.view_is in
+    let without = state_without _ c.self.inside.pass.view _ _ _ c.self.inside.told (listed_in c.self.inside.listed) (listed_in c.take-listed.new.self) c.self.inside.forgotten c.args.self.now c.self.view_is in
     let still : c.match-listed.self ≡ without = elim c.match-listed.branch [
       | in-None w ↦ w.self-is ∙ w.tell_since-now.ensures.state
       | in-Some w ↦ w.self-is ∙ w.tell_beside-now.ensures.state
@@ -45,8 +45,8 @@ returns-in-Ok-clause-ok g c =
       | in-None w ↦ now_is w.tell_since-now.result _ now (sym w.now-is ∙ c.in-Ok.is) w.tell_since-now.ensures.told
       | in-Some w ↦ now_is w.tell_beside-now.result _ now (sym w.now-is ∙ c.in-Ok.is) w.tell_beside-now.ensures.told
     ] in
-    let told = told_state _ c.self-2.inside.pass.view _ _ c.self-2.inside.told now (listed_in c.self-2.inside.listed) c.self-2.inside.forgotten without (c.self-2.view_is ∙ still) at in
+    let told = told_state _ c.self-2.inside.pass.view _ _ _ c.self-2.inside.told now (listed_in c.self-2.inside.listed) c.self-2.inside.forgotten without (c.self-2.view_is ∙ still) at in
     elim c.match-listed-2.branch [
-      | in-Some-3 w ↦ told_over _ c.self.inside.pass.view _ _ c.self.inside.told (listed_in c.self.inside.listed) (listed_in c.take-listed.new.self) c.self.inside.forgotten c.args.self.now c.self.view_is _ (w.self-is ∙ told)
-      | in-None-3 w ↦ told_over _ c.self.inside.pass.view _ _ c.self.inside.told (listed_in c.self.inside.listed) (listed_in c.take-listed.new.self) c.self.inside.forgotten c.args.self.now c.self.view_is _ (w.self-is ∙ told)
+      | in-Some-3 w ↦ told_over _ c.self.inside.pass.view _ _ _ c.self.inside.told (listed_in c.self.inside.listed) (listed_in c.take-listed.new.self) c.self.inside.forgotten c.args.self.now c.self.view_is _ (w.self-is ∙ told)
+      | in-None-3 w ↦ told_over _ c.self.inside.pass.view _ _ _ c.self.inside.told (listed_in c.self.inside.listed) (listed_in c.take-listed.new.self) c.self.inside.forgotten c.args.self.now c.self.view_is _ (w.self-is ∙ told)
     ]

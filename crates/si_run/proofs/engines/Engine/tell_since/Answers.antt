@@ -60,5 +60,5 @@ returns-clause-text g c =
     ∙ changes_alike c.self.inside.explain (violations_of (found_then J before.at)) (violations_of found) _ _ left
     ∙ ap (λ b. changes_text b (violations_of (found_then J before.at)) (violations_of found)) explain in
     let same = ap (λ (s : EngineState). s.progress) c.changed.ensures.state in
-    let summary = summary_is _ p _ _ _ same c.in_ok-number.ensures.count told.found (c.verdict.ensures found told) in
+    let summary = summary_is _ _ _ p _ _ _ (ap (λ (s : EngineState). s.terms) c.changed.ensures.state) same c.in_ok-number.ensures.count told.found (c.verdict.ensures found told) in
     both c.args.text.now.items c.print_changes.new.out.items c.put_summary.new.text.items _ _ _ _ c.in_ok-print_changes.ensures.ok c.in_ok-put_summary.ensures changes summary
